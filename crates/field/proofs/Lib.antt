@@ -1,0 +1,8 @@
+pub mod Halves
+pub mod Barrett
+pub mod Modular
+pub mod Power
+pub mod Divisors
+pub mod Pigeon
+pub mod Generator
+pub mod Fermat

@@ -1,0 +1,3 @@
+pub mod Tab
+pub mod First
+pub mod Sum
