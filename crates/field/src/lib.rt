@@ -38,7 +38,11 @@ impl Fp {
         ensures { λ r. ⌜ (r .0 ≡ add (self .0) (other .0)) × Canonical (r .0) ⌝ }
     {
         let sum = self.0 + other.0;
-        if sum < Fp::P { Fp(sum) } else { Fp(sum - Fp::P) }
+        if sum < Fp::P {
+            Fp(sum)
+        } else {
+            Fp(sum - Fp::P)
+        }
     }
 
     pub fn sub(self, other: Fp) -> Fp

@@ -1,47 +1,66 @@
+-- `field::product` meets its contract: the estimated quotient is right or one too small, and one test sets that right.
+-- Assumes nothing.
+use mathlib.Core.Path.{_≡_, sym, ap, _∙_}
+use Prim.Native.Nat.{ℕ, _+_, _*_, _%_, _^_, _<_, _≤_}
+use native.Mathlib.Omega.{arith}
 use borrow.Author.Needs.{needs}
+use Rattle.field.specs.Field.{P}
+use Rattle.field.proofs.Barrett.{quotient-in, quotient-out, unwrapped, rest-right, rest-over}
 use Rattle.field.proofs.product.Statement.{statement}
 use Rattle.field.proofs.product.Tie as tie
-use Rattle.field.proofs.product.Reads as reads
-use Rattle.field.proofs.product.Lts as lts
-use Rattle.field.proofs.wide.high.Reads as high-reads
-use Rattle.field.proofs.wide.low.Reads as low-reads
-use Rattle.std.proofs.num.wrapping_sub_u64.Reads as wrapping-sub-u64-reads
 
--- src/lib.rt:110:28
 mul-high : tie.Need-mul-high
 mul-high c = search needs
 
--- src/lib.rt:110:35
 mul-high-2 : tie.Need-mul-high-2
 mul-high-2 c = search needs
 
--- src/lib.rt:110:9
 high-requires : tie.Need-high-requires
 high-requires c κs = search needs
 
--- src/lib.rt:111:9
 high-requires-2 : tie.Need-high-requires-2
 high-requires-2 c κs = search needs
 
--- src/lib.rt:112:43
 low-requires : tie.Need-low-requires
 low-requires c κs = search needs
 
--- src/lib.rt:112:60
 low-requires-2 : tie.Need-low-requires-2
 low-requires-2 c κs = search needs
 
--- src/lib.rt:112:9
 wrapping-sub-u64-requires : tie.Need-wrapping-sub-u64-requires
 wrapping-sub-u64-requires c κs = search needs
 
--- src/lib.rt:106:1
-returns : tie.Need-returns
-returns c = ?
+-- what the subtraction leaves, without its wrap
+module _ (c : tie.After-wrapping-sub-u64) where
+  abbrev a : ℕ
+  a = c .before .before .before .before .before .args .a
 
--- src/lib.rt:106:1
+  abbrev b : ℕ
+  b = c .before .before .before .before .before .args .b
+
+  abbrev q : ℕ
+  q = c .before .before .before .high2 .result
+
+  abbrev rest : ℕ
+  rest = c .wrapping-sub-u64 .result
+
+  within : q * P ≤ a * b
+  within = quotient-in a b (c .before .before .before .before .before .pre .0) (c .before .before .before .before .before .pre .1) _ q (c .before .before .before .before .high .ensures) (c .before .before .before .high2 .ensures)
+
+  beyond : a * b < q * P + 2 * P
+  beyond = quotient-out a b (c .before .before .before .before .before .pre .0) (c .before .before .before .before .before .pre .1) _ q (c .before .before .before .before .high .ensures) (c .before .before .before .high2 .ensures)
+
+  exact : rest + q * P ≡ a * b
+  exact = unwrapped rest (q * P) (a * b) (omega arith) within (omega (arith, beyond)) (ap (λ m. (rest + m) % 2 ^ 64) (sym (c .before .low2 .ensures)) ∙ c .wrapping-sub-u64 .ensures ∙ c .before .before .low .ensures)
+
+  low : rest < 2 * P
+  low = omega (arith, exact, beyond)
+
+returns : tie.Need-returns
+returns c = (rest-right P _ (q (c .before)) (rest (c .before)) (exact (c .before)) (c .if1 .taken), c .if1 .taken)
+
 returns-2 : tie.Need-returns-2
-returns-2 c = ?
+returns-2 c = (rest-over P _ (q (c .before)) (rest (c .before)) (exact (c .before)) (c .if1 .left) (low (c .before)), omega (arith, low (c .before)))
 
 pub product-spec : {M : Type 1} → statement M
 product-spec =

@@ -1,43 +1,50 @@
+-- `field::wide::high` meets its contract: the products of the halves, added column by column, give the upper word.
+-- Assumes nothing.
+use mathlib.Core.Path.{sym, ap, _∙_}
+use Prim.Native.Nat.{ℕ, _+_, _*_, _/_, _%_, _^_, _<_}
+use native.Mathlib.Omega.{arith}
+use Rattle.field.proofs.Halves.{half-half, whole, upper}
 use Rattle.field.proofs.wide.high.Statement.{statement}
 use Rattle.field.proofs.wide.high.Tie as tie
-use Rattle.field.proofs.wide.high.Reads as reads
-use Rattle.field.proofs.wide.high.Lts as lts
 
--- src/wide.rt:16:18
 mul-middle : tie.Need-mul-middle
-mul-middle c = ?
+mul-middle c = omega (arith, half-half (c .args .a / 4294967296) (c .args .b % 4294967296) (omega arith) (omega arith))
 
--- src/wide.rt:16:28
 mul-middle-2 : tie.Need-mul-middle-2
-mul-middle-2 c = ?
+mul-middle-2 c = omega (arith, half-half (c .args .a % 4294967296) (c .args .b % 4294967296) (omega arith) (omega arith))
 
--- src/wide.rt:16:18
 add-middle : tie.Need-add-middle
-add-middle c = ?
+add-middle c = omega (arith, half-half (c .args .a / 4294967296) (c .args .b % 4294967296) (omega arith) (omega arith), half-half (c .args .a % 4294967296) (c .args .b % 4294967296) (omega arith) (omega arith))
 
--- src/wide.rt:17:32
 mul-next : tie.Need-mul-next
-mul-next c = ?
+mul-next c = omega (arith, half-half (c .args .a % 4294967296) (c .args .b / 4294967296) (omega arith) (omega arith))
 
--- src/wide.rt:17:16
 add-next : tie.Need-add-next
-add-next c = ?
+add-next c = omega (arith, half-half (c .args .a % 4294967296) (c .args .b / 4294967296) (omega arith) (omega arith))
 
--- src/wide.rt:18:5
 mul-result : tie.Need-mul-result
-mul-result c = ?
+mul-result c = omega (arith, half-half (c .args .a / 4294967296) (c .args .b / 4294967296) (omega arith) (omega arith))
 
--- src/wide.rt:18:5
+-- the four products, for the sums of the result
+sums : (w x y z : ℕ) → w < 4294967295 * 4294967295 + 1 → x < 4294967295 * 4294967295 + 1 → y < 4294967295 * 4294967295 + 1 → z < 4294967295 * 4294967295 + 1
+    → w + (x + z / 4294967296) / 4294967296 + ((x + z / 4294967296) % 4294967296 + y) / 4294967296 < 2 ^ 64
+sums w x y z hw hx hy hz = omega arith
+
 add-result : tie.Need-add-result
-add-result c = ?
+add-result c =
+    omega (arith, half-half (c .args .a / 4294967296) (c .args .b / 4294967296) (omega arith) (omega arith), half-half (c .args .a / 4294967296) (c .args .b % 4294967296) (omega arith) (omega arith), half-half (c .args .a % 4294967296) (c .args .b % 4294967296) (omega arith) (omega arith))
 
--- src/wide.rt:18:5
 add-result-2 : tie.Need-add-result-2
-add-result-2 c = ?
+add-result-2 c = record {
+  fits = sums _ _ _ _
+      (omega (arith, half-half (c .args .a / 4294967296) (c .args .b / 4294967296) (omega arith) (omega arith)))
+      (omega (arith, half-half (c .args .a / 4294967296) (c .args .b % 4294967296) (omega arith) (omega arith)))
+      (omega (arith, half-half (c .args .a % 4294967296) (c .args .b / 4294967296) (omega arith) (omega arith)))
+      (omega (arith, half-half (c .args .a % 4294967296) (c .args .b % 4294967296) (omega arith) (omega arith)));
+}
 
--- src/wide.rt:9:1
 returns : tie.Need-returns
-returns c = ?
+returns c = sym (ap (λ n. n / 2 ^ 64) (whole (c .args .a) (c .args .b)) ∙ upper _ _ _ _)
 
 pub high-spec : {M : Type 1} → statement M
 high-spec =

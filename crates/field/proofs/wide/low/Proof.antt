@@ -1,37 +1,33 @@
+-- `field::wide::low` meets its contract.
+-- Assumes nothing.
+use mathlib.Core.Path.{sym, ap, _∙_}
+use Prim.Native.Nat.{_*_, _/_, _%_, _^_}
+use native.Mathlib.Omega.{arith}
 use borrow.Author.Needs.{needs}
+use Rattle.field.proofs.Halves.{half-half, whole, lower}
 use Rattle.field.proofs.wide.low.Statement.{statement}
 use Rattle.field.proofs.wide.low.Tie as tie
-use Rattle.field.proofs.wide.low.Reads as reads
-use Rattle.field.proofs.wide.low.Lts as lts
-use Rattle.std.proofs.num.wrapping_add_u64.Reads as wrapping-add-u64-reads
 
--- src/wide.rt:29:19
 mul-middle : tie.Need-mul-middle
-mul-middle c = ?
+mul-middle c = omega (arith, half-half (c .args .a / 4294967296) (c .args .b % 4294967296) (omega arith) (omega arith))
 
--- src/wide.rt:29:36
 mul-middle-2 : tie.Need-mul-middle-2
-mul-middle-2 c = ?
+mul-middle-2 c = omega (arith, half-half (c .args .a % 4294967296) (c .args .b / 4294967296) (omega arith) (omega arith))
 
--- src/wide.rt:29:19
 add-middle : tie.Need-add-middle
 add-middle c = search needs
 
--- src/wide.rt:30:32
 mul-wrapping-add-u64 : tie.Need-mul-wrapping-add-u64
 mul-wrapping-add-u64 c = search needs
 
--- src/wide.rt:30:47
 mul-wrapping-add-u64-2 : tie.Need-mul-wrapping-add-u64-2
-mul-wrapping-add-u64-2 c = ?
+mul-wrapping-add-u64-2 c = omega (arith, half-half (c .args .a % 4294967296) (c .args .b % 4294967296) (omega arith) (omega arith))
 
--- src/wide.rt:30:5
 wrapping-add-u64-requires : tie.Need-wrapping-add-u64-requires
 wrapping-add-u64-requires c κs = search needs
 
--- src/wide.rt:22:1
 returns : tie.Need-returns
-returns c = ?
+returns c = c .wrapping-add-u64 .ensures ∙ sym (ap (λ n. n % 2 ^ 64) (whole (c .before .args .a) (c .before .args .b)) ∙ lower _ _ _ _)
 
 pub low-spec : {M : Type 1} → statement M
 low-spec =
