@@ -1,0 +1,40 @@
+-- The first word that is not canonical: the scan for it, and that there is none exactly where all are canonical.
+-- Assumes nothing.
+use mathlib.Core.Path.{_≡_, sym, _∙_}
+use mathlib.Core.Bool.{true, false}
+use mathlib.Core.List.{List}
+use Prim.Native.Nat.{ℕ, _+_, _≤_, _<_}
+use native.Mathlib.Omega.{arith}
+use borrow.Author.Tests.{le-leb, lt-leb, leb-false, leb-true}
+use lib.Dec.{leb}
+use lib.ListN.{length}
+use Rattle.lists.specs.Lists.{cell, first}
+use Rattle.lists.proofs.First.{is-first, first-none, none-first, found-at}
+use Rattle.field.specs.Field.{P, Canonical}
+use Rattle.words.specs.Words.{AllCanonical, firstBad}
+
+pub within : (s : List ℕ) → firstBad s ≤ length s
+unfolding firstBad
+within s = is-first (length s) (λ i. leb P (cell s i)) .within
+
+-- the word at the index that is found is not canonical
+pub bad-at : (s : List ℕ) → firstBad s < length s → P ≤ cell s (firstBad s)
+unfolding firstBad
+bad-at s h = leb-true P _ (is-first (length s) (λ i. leb P (cell s i)) .found h)
+
+pub good-before : (s : List ℕ) (i : ℕ) → i < firstBad s → Canonical (cell s i)
+unfolding firstBad
+good-before s i h = leb-false P _ (is-first (length s) (λ j. leb P (cell s j)) .before i h)
+
+-- a scan that stops at i, and one that comes to the end
+pub stops : (s : List ℕ) (i : ℕ) → i < length s → ((j : ℕ) → j < i → Canonical (cell s j)) → P ≤ cell s i → i ≡ firstBad s
+unfolding firstBad
+stops s i h b p = found-at (length s) (λ j. leb P (cell s j)) i h (λ j l. lt-leb P (cell s j) (b j l)) (le-leb P (cell s i) p)
+
+-- none is found exactly where every word is canonical
+pub all-good : (s : List ℕ) → AllCanonical s → firstBad s ≡ length s
+unfolding firstBad
+all-good s h = sym (first-none (length s) (λ j. leb P (cell s j)) (λ j l. lt-leb P (cell s j) (h j l)))
+
+pub good-all : (s : List ℕ) → firstBad s ≡ length s → AllCanonical s
+good-all s e i h = good-before s i (omega arith)

@@ -1,0 +1,18 @@
+// The test that every lent word is canonical.
+ghost use mathlib.Core.Path.{_≡_};
+ghost use Rattle.words.specs.Words.{firstBad};
+use field::Fp;
+
+// The lowest index of a word that is not canonical, or the length where all are.
+pub fn first_bad(s: &[u64]) -> usize
+    ensures { λ r. ⌜ r ≡ firstBad (now (s .entry)) ⌝ }
+{
+    let mut i: usize = 0;
+    while i < s.len() {
+        if Fp::P <= s[i] {
+            return i;
+        }
+        i += 1;
+    }
+    i
+}
