@@ -41,7 +41,6 @@ halving (suc n) x e = double x (e % 2) (halving n x (e / 2))
 
 -- x^e for an exponent of 64 bits, which 64 halvings bring to 0
 unfoldable pub power : ℕ → ℕ → ℕ
-unfolding halving
 power x e = halving 64 x e
 
 -- (2p − 1) / 3
@@ -49,10 +48,8 @@ abbrev pub third : ℕ
 third = 1537228730075359915
 
 unfoldable pub root : ℕ → ℕ
-unfolding power
 root x = power x third
 
 -- the inverse of a non-zero element (proofs/Laws.antt, `inverse-law`)
 unfoldable pub inverse : ℕ → ℕ
-unfolding power
 inverse x = power x (P - 2)

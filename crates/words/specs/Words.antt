@@ -14,5 +14,4 @@ AllCanonical s = (i : ℕ) → i < length s → Canonical (cell s i)
 
 -- the lowest index of a word that is not canonical, or the length where all are
 unfoldable pub firstBad : List ℕ → ℕ
-unfolding first
 firstBad s = first (length s) (λ i. leb P (cell s i))

@@ -1,0 +1,67 @@
+-- The Rescue hash and the chain (document 01, "Hash and chain"; Rescue STARK documentation 1.0, Algorithm 1).
+-- A state is a list of twelve cells, T is a prepared table.
+-- Assumes nothing.
+use mathlib.Core.List.{List, _++_}
+use Prim.Native.Nat.{ℕ, zero, suc, _+_, _*_}
+use lib.ListN.{take, drop, replicate}
+use Rattle.lists.specs.Lists.{cell, tab}
+use Rattle.field.specs.Field.{add, cube, root}
+use Rattle.matrix.specs.Matrix.{times}
+use Rattle.table.specs.Table.{matrixOf, constant}
+
+-- every cell rooted, every cell cubed, and two states added cell by cell
+unfoldable pub roots : List ℕ → List ℕ
+roots s = tab 12 (λ j. root (cell s j))
+
+unfoldable pub cubes : List ℕ → List ℕ
+cubes s = tab 12 (λ j. cube (cell s j))
+
+unfoldable pub plus : List ℕ → List ℕ → List ℕ
+plus s k = tab 12 (λ j. add (cell s j) (cell k j))
+
+-- multiplied by M
+unfoldable pub mix : List ℕ → List ℕ → List ℕ
+mix T s = times (matrixOf T) s
+
+-- the first step of round r, from the state before it to the middle state: root every cell, multiply by M, add K_(2r+1)
+unfoldable pub firstStep : List ℕ → ℕ → List ℕ → List ℕ
+firstStep T r s = plus (mix T (roots s)) (constant T (2 * r + 1))
+
+-- the second step, from the middle state on: cube every cell, multiply by M, add K_(2r+2)
+unfoldable pub secondStep : List ℕ → ℕ → List ℕ → List ℕ
+secondStep T r s = plus (mix T (cubes s)) (constant T (2 * r + 2))
+
+-- the state before round r, from the input: K_0 is added before round 0
+unfoldable pub stateAt : List ℕ → List ℕ → ℕ → List ℕ
+stateAt T s zero = plus s (constant T 0)
+stateAt T s (suc r) = secondStep T r (firstStep T r (stateAt T s r))
+
+-- the middle state of round r
+unfoldable pub middleState : List ℕ → List ℕ → ℕ → List ℕ
+middleState T s r = firstStep T r (stateAt T s r)
+
+unfoldable pub finalState : List ℕ → List ℕ → List ℕ
+finalState T s = stateAt T s 10
+
+-- the input of a hash: two taps and four zeros
+unfoldable pub input : List ℕ → List ℕ → List ℕ
+input a b = a ++ b ++ replicate 4 0
+
+-- Hash(a, b): cells 0 to 3 of the final state
+unfoldable pub hash : List ℕ → List ℕ → List ℕ → List ℕ
+hash T a b = take 4 (finalState T (input a b))
+
+-- ---- the chain. w is a list of taps, four words each
+
+-- w_i
+unfoldable pub tap : List ℕ → ℕ → List ℕ
+tap w i = take 4 (drop (4 * i) w)
+
+-- the last output before hash h: w_0, then Hash(.. Hash(w_0, w_1) .., w_h)
+unfoldable pub outputAt : List ℕ → List ℕ → ℕ → List ℕ
+outputAt T w zero = tap w 0
+outputAt T w (suc h) = hash T (outputAt T w h) (tap w (suc h))
+
+-- a list of 3k + 1 taps chains to the output of its 3k hashes
+unfoldable pub chain : List ℕ → List ℕ → ℕ → List ℕ
+chain T w k = outputAt T w (3 * k)

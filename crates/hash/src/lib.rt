@@ -1,0 +1,1 @@
+// The Rescue hash and the chain.

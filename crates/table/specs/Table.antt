@@ -1,0 +1,76 @@
+-- The table, its test, and what Prepare writes (document 01, "The table").
+-- Assumes nothing.
+use mathlib.Core.Path.{_≡_}
+use mathlib.Core.Bool.{Bool, not}
+use mathlib.Core.List.{List, _++_}
+use Prim.Native.Nat.{ℕ, _+_, _*_, _/_, _%_, _<_}
+use lib.Dec.{eqb}
+use lib.ListN.{length, take, drop}
+use Rattle.lists.specs.Lists.{choose, first}
+use Rattle.words.specs.Words.{AllCanonical, firstBad}
+use Rattle.matrix.specs.Matrix.{entry, product, identity, Inverse, Kernel}
+use Rattle.refusals.specs.declared.Refusal.{Refusal}
+use Rattle.refusals.specs.declared.Refusal.the-variants.{TableLength, TableWord, NoInverse, WrongInverse, DestinationLength}
+use Rattle.refusals.specs.declared.Answer.{Answer}
+use Rattle.refusals.specs.declared.Answer.the-variants.{Accepted, Refused}
+
+-- ---- the prepared table: 540 words, M, its inverse, then K_0 to K_20, twelve each
+unfoldable pub matrixOf : List ℕ → List ℕ
+matrixOf t = take 144 t
+
+unfoldable pub inverseOf : List ℕ → List ℕ
+inverseOf t = take 144 (drop 144 t)
+
+-- K_n
+unfoldable pub constant : List ℕ → ℕ → List ℕ
+constant t n = take 12 (drop (288 + 12 * n) t)
+
+-- whether cell 12 × row + column of M times the stored inverse is unlike the identity
+unfoldable pub unlike : List ℕ → ℕ → Bool
+unlike t c = not (eqb (product 12 (entry (matrixOf t)) (entry (inverseOf t)) (c / 12) (c % 12)) (identity (c / 12) (c % 12)))
+
+-- the first such cell, or 144
+unfoldable pub firstUnlike : List ℕ → ℕ
+firstUnlike t = first 144 (unlike t)
+
+-- the table test of every operation but Prepare: 1, 2, 4
+unfoldable pub tableTest : List ℕ → Answer
+tableTest t =
+    choose (eqb (length t) 540)
+    (choose (eqb (firstBad t) 540)
+    (choose (eqb (firstUnlike t) 144) Accepted (Refused (WrongInverse (firstUnlike t))))
+    (Refused (TableWord (firstBad t))))
+    (Refused TableLength)
+
+-- an accepted table: all words canonical, and M times the stored inverse the identity
+pub record IsTable (t : List ℕ) : Type 0 where
+  pub size : length t ≡ 540
+  pub canonical : AllCanonical t
+  pub inverse : Inverse 12 (entry (matrixOf t)) (entry (inverseOf t))
+
+-- ---- the raw table: 396 words, M, then K_0 to K_20. Prepare: 1, 8, 2, 3
+
+-- the inverse of the raw table's M, which it determines
+pub record RawInverse (raw n : List ℕ) : Type 0 where
+  pub size : length n ≡ 144
+  pub canonical : AllCanonical n
+  pub inverse : Inverse 12 (entry (take 144 raw)) (entry n)
+
+-- M, its inverse, then K
+abbrev pub prepared : List ℕ → List ℕ → List ℕ
+prepared raw n = take 144 raw ++ n ++ drop 144 raw
+
+-- what Prepare refuses before it looks for an inverse
+unfoldable pub rawTest : List ℕ → ℕ → Answer
+rawTest raw size =
+    choose (eqb (length raw) 396)
+    (choose (eqb size 540)
+    (choose (eqb (firstBad raw) 396) Accepted (Refused (TableWord (firstBad raw))))
+    (Refused DestinationLength))
+    (Refused TableLength)
+
+-- what Prepare answers and leaves in the destination: the prepared table, 3 where M takes some non-zero column to all zeros, or the refusal of its tests
+pub data Prepares (raw old : List ℕ) : Answer → List ℕ → Type 0 where
+  accepts : (n : List ℕ) → rawTest raw (length old) ≡ Accepted → RawInverse raw n → Prepares raw old Accepted (prepared raw n)
+  no-inverse : rawTest raw (length old) ≡ Accepted → Kernel 12 (entry (take 144 raw)) → Prepares raw old (Refused NoInverse) old
+  refuses : (r : Refusal) → rawTest raw (length old) ≡ Refused r → Prepares raw old (Refused r) old

@@ -1,0 +1,1 @@
+// The table: its test and Prepare.
