@@ -1,4 +1,3 @@
-pub mod Halves
 pub mod Barrett
 pub mod Modular
 pub mod Power

@@ -4,8 +4,6 @@ ghost use Prim.Native.Nat.{_<_};
 ghost use lib.Dec.{ltb};
 ghost use Rattle.field.specs.Field.{P, Canonical, add, sub, neg, mul, square, cube, power, root, inverse};
 
-pub mod wide;
-
 // An element, by its canonical word.
 pub struct Fp(pub u64);
 

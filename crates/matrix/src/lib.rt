@@ -6,7 +6,7 @@ ghost use Rattle.lists.specs.Lists.{cell};
 ghost use Rattle.field.specs.Field.{Canonical};
 ghost use Rattle.words.specs.Words.{AllCanonical, CanonicalTo};
 ghost use Rattle.matrix.specs.Matrix.{entry, timesColumn, times};
-use field::wide::Wide;
+use sums::Wide;
 
 // Cell `row` of m times s. The products are added up before the sum is reduced, once.
 fn dot(m: &[u64], row: usize, s: [u64; 12]) -> u64

@@ -12,7 +12,7 @@ use lib.ListN.{length}
 use Rattle.lists.specs.Lists.{cell, sum as total}
 use Rattle.lists.proofs.Sum.{sum-zero, sum-suc, sum-le}
 use Rattle.field.specs.Field.{P, Canonical}
-use Rattle.field.specs.Wide.{valueOf}
+use Rattle.sums.specs.Sums.{valueOf}
 use Rattle.words.specs.Words.{AllCanonical, CanonicalTo}
 use Rattle.matrix.specs.Matrix.{entry, timesColumn}
 use Rattle.matrix.proofs.dot.Statement.{statement}

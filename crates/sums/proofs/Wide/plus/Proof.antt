@@ -1,11 +1,11 @@
--- `field::wide::Wide::plus` meets its contract: a lower word that came out below a summand tells of a carry.
+-- `sums::Wide::plus` meets its contract: a lower word that came out below a summand tells of a carry.
 -- Assumes nothing.
 use Prim.Native.Nat.{_*_}
 use native.Mathlib.Omega.{arith}
 use borrow.Author.Needs.{needs}
-use Rattle.field.proofs.Barrett.{carries, carries-none, upper-small}
-use Rattle.field.proofs.wide.Wide.plus.Statement.{statement}
-use Rattle.field.proofs.wide.Wide.plus.Tie as tie
+use Rattle.sums.proofs.Reduction.{carries, carries-none, upper-small}
+use Rattle.sums.proofs.Wide.plus.Statement.{statement}
+use Rattle.sums.proofs.Wide.plus.Tie as tie
 
 low-requires : tie.Need-low-requires
 low-requires c κs = search needs

@@ -1,4 +1,4 @@
--- `field::wide::Wide::rest` meets its contract: the upper word is reduced first, and what the estimated quotient leaves is below 6p.
+-- `sums::Wide::rest` meets its contract: the upper word is reduced first, and what the estimated quotient leaves is below 6p.
 -- Assumes nothing.
 use mathlib.Core.Path.{_≡_, refl, sym, ap, _∙_, subst₂}
 use Prim.Native.Nat.{ℕ, _+_, _*_, _%_, _^_, _<_, _≤_}
@@ -7,10 +7,11 @@ use lib.Arith.{add-lt-cancel-left}
 use lib.Dec.{lit≤}
 use native.Mathlib.Omega.{arith}
 use borrow.Author.Needs.{needs}
 use Rattle.field.specs.Field.{P}
-use Rattle.field.proofs.Barrett.{less-lt, less-same, wide-in, wide-out, wide-fits, unwrapped, upper-same, folded}
-use Rattle.field.proofs.wide.Wide.rest.Statement.{statement}
-use Rattle.field.proofs.wide.Wide.rest.Tie as tie
+use Rattle.field.proofs.Barrett.{unwrapped}
+use Rattle.sums.proofs.Reduction.{less-lt, less-same, wide-in, wide-out, wide-fits, upper-same, folded}
+use Rattle.sums.proofs.Wide.rest.Statement.{statement}
+use Rattle.sums.proofs.Wide.rest.Tie as tie
 
 less-once-requires : tie.Need-less-once-requires
 less-once-requires c κs = search needs

@@ -3,7 +3,7 @@
 use Prim.Native.Nat.{ℕ, _+_, _*_, _-_, _^_}
 use lib.Dec.{ltb}
 use Rattle.lists.specs.Lists.{choose}
-use Rattle.field.specs.declared.wide.Wide.{Wide}
+use Rattle.sums.specs.declared.Wide.{Wide}
 
 abbrev pub valueOf : Wide → ℕ
 valueOf w = w .0 * 2 ^ 64 + w .1

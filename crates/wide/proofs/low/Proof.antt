@@ -1,12 +1,12 @@
--- `field::wide::low` meets its contract.
+-- `wide::low` meets its contract.
 -- Assumes nothing.
 use mathlib.Core.Path.{sym, ap, _∙_}
 use Prim.Native.Nat.{_*_, _/_, _%_, _^_}
 use native.Mathlib.Omega.{arith}
 use borrow.Author.Needs.{needs}
-use Rattle.field.proofs.Halves.{half-half, whole, lower}
-use Rattle.field.proofs.wide.low.Statement.{statement}
-use Rattle.field.proofs.wide.low.Tie as tie
+use Rattle.wide.proofs.Halves.{half-half, whole, lower}
+use Rattle.wide.proofs.low.Statement.{statement}
+use Rattle.wide.proofs.low.Tie as tie
 
 mul-middle : tie.Need-mul-middle
 mul-middle c = omega (arith, half-half (c .args .a / 4294967296) (c .args .b % 4294967296) (omega arith) (omega arith))

@@ -1,11 +1,11 @@
--- `field::wide::high` meets its contract: the products of the halves, added column by column, give the upper word.
+-- `wide::high` meets its contract: the products of the halves, added column by column, give the upper word.
 -- Assumes nothing.
 use mathlib.Core.Path.{sym, ap, _∙_}
 use Prim.Native.Nat.{ℕ, _+_, _*_, _/_, _%_, _^_, _<_}
 use native.Mathlib.Omega.{arith}
-use Rattle.field.proofs.Halves.{half-half, whole, upper}
-use Rattle.field.proofs.wide.high.Statement.{statement}
-use Rattle.field.proofs.wide.high.Tie as tie
+use Rattle.wide.proofs.Halves.{half-half, whole, upper}
+use Rattle.wide.proofs.high.Statement.{statement}
+use Rattle.wide.proofs.high.Tie as tie
 
 mul-middle : tie.Need-mul-middle
 mul-middle c = omega (arith, half-half (c .args .a / 4294967296) (c .args .b % 4294967296) (omega arith) (omega arith))

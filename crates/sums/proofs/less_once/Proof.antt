@@ -1,8 +1,8 @@
--- `field::wide::less_once` meets its contract.
+-- `sums::less_once` meets its contract.
 -- Assumes nothing.
 use borrow.Author.Tests.{lt-ltb, le-ltb}
-use Rattle.field.proofs.wide.less_once.Statement.{statement}
-use Rattle.field.proofs.wide.less_once.Tie as tie
+use Rattle.sums.proofs.less_once.Statement.{statement}
+use Rattle.sums.proofs.less_once.Tie as tie
 
 returns : tie.Need-returns
 returns c = rw (lt-ltb _ _ (c .if1 .taken))
