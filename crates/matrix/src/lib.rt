@@ -13,11 +13,10 @@ fn dot(m: &[u64], row: usize, s: [u64; 12]) -> u64
     requires { ⌜ (row < 12) × (length (now m) ≡ 144) × AllCanonical (now m) × CanonicalTo 12 s ⌝ }
     ensures { λ r. ⌜ (r ≡ timesColumn 12 (entry (now (m .entry))) (cell s) row) × Canonical r ⌝ }
 {
-    let start = 12 * row;
     let mut sum = Wide::ZERO;
     let mut j: usize = 0;
     while j < 12 {
-        let next = sum.plus(m[start + j], s[j]);
+        let next = sum.plus(m[12 * row + j], s[j]);
         sum = next;
         j += 1;
     }

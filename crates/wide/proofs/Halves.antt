@@ -5,23 +5,25 @@ use mathlib.Core.Path.{_≡_, sym, ap, _∙_}
 use native.Mathlib.Nat.{mul-le-mul}
 use native.Mathlib.Omega.{arith}
 
--- the product of two halves
-pub half-half : (x y : ℕ) → x < 4294967296 → y < 4294967296 → x * y ≤ 4294967295 * 4294967295
+half-half : (x y : ℕ) → x < 4294967296 → y < 4294967296 → x * y ≤ 4294967295 * 4294967295
 half-half x y hx hy = mul-le-mul {n₂ = 4294967295} {m₂ = 4294967295} (omega arith) (omega arith)
 
+-- the four products of two halves
+pub record Bounds (a b : ℕ) : Type 0 where
+  pub upper-upper : a / 4294967296 * (b / 4294967296) ≤ 4294967295 * 4294967295
+  pub upper-lower : a / 4294967296 * (b % 4294967296) ≤ 4294967295 * 4294967295
+  pub lower-upper : a % 4294967296 * (b / 4294967296) ≤ 4294967295 * 4294967295
+  pub lower-lower : a % 4294967296 * (b % 4294967296) ≤ 4294967295 * 4294967295
+
+pub bounds : (a b : ℕ) → a < 2 ^ 64 → b < 2 ^ 64 → Bounds a b
+bounds a b ha hb = record {
+  upper-upper = half-half (a / 4294967296) (b / 4294967296) (omega arith) (omega arith);
+  upper-lower = half-half (a / 4294967296) (b % 4294967296) (omega arith) (omega arith);
+  lower-upper = half-half (a % 4294967296) (b / 4294967296) (omega arith) (omega arith);
+  lower-lower = half-half (a % 4294967296) (b % 4294967296) (omega arith) (omega arith);
+}
+
 module _ (a b : ℕ) where
-  a₁ : ℕ
-  a₁ = a / 4294967296
-
-  a₀ : ℕ
-  a₀ = a % 4294967296
-
-  b₁ : ℕ
-  b₁ = b / 4294967296
-
-  b₀ : ℕ
-  b₀ = b % 4294967296
-
   -- the whole product, by the products of the halves
   pub whole : a * b ≡ a / 4294967296 * (b / 4294967296) * 2 ^ 64 + (a / 4294967296 * (b % 4294967296) + a % 4294967296 * (b / 4294967296)) * 4294967296 + a % 4294967296 * (b % 4294967296)
   whole = go (a / 4294967296) (a % 4294967296) (b / 4294967296) (b % 4294967296) (omega arith) (omega arith)

@@ -32,28 +32,28 @@ term-small : (a x : ℕ) → Canonical a → Canonical x → a * x ≤ 230584309
 term-small a x ha hx = mul-le-mul {n₂ = 2305843095113039872} {m₂ = 2305843095113039872} (omega arith) (omega arith)
 
 abbrev Inv-loop : tie.InvT-loop
-Inv-loop m row s start sum₀ j₀ sum j = (j ≤ 12) × (valueOf sum ≡ total j (terms row (cell s) (entry m)))
+Inv-loop m row s sum₀ j₀ sum j = (j ≤ 12) × (valueOf sum ≡ total j (terms row (cell s) (entry m)))
 
 abbrev μ-loop : tie.MeasureT-loop
-μ-loop m row s start sum₀ j₀ sum j = 12 - j
-
-mul-start : tie.Need-mul-start Inv-loop μ-loop
-mul-start c = search needs
+μ-loop m row s sum₀ j₀ sum j = 12 - j
 
 loop-holds : tie.Need-loop-holds Inv-loop μ-loop
 loop-holds c = (omega arith, sym (sum-zero _))
 
+mul-plus : tie.Need-mul-plus Inv-loop μ-loop
+mul-plus c = omega arith
+
 add-plus : tie.Need-add-plus Inv-loop μ-loop
 add-plus c = omega arith
 
-mul-plus : tie.Need-mul-plus Inv-loop μ-loop
-mul-plus c = omega arith
+mul-plus-2 : tie.Need-mul-plus-2 Inv-loop μ-loop
+mul-plus-2 c = omega arith
 
 shared-slice-read-plus : tie.Need-shared-slice-read-plus Inv-loop μ-loop
 shared-slice-read-plus c = omega arith
 
-mul-plus-2 : tie.Need-mul-plus-2 Inv-loop μ-loop
-mul-plus-2 c = omega arith
+mul-plus-3 : tie.Need-mul-plus-3 Inv-loop μ-loop
+mul-plus-3 c = omega arith
 
 array-read-plus : tie.Need-array-read-plus Inv-loop μ-loop
 array-read-plus c = search needs
@@ -105,12 +105,12 @@ dot-spec =
     (tie.spec
     Inv-loop
     μ-loop
-    mul-start
     loop-holds
-    add-plus
     mul-plus
-    shared-slice-read-plus
+    add-plus
     mul-plus-2
+    shared-slice-read-plus
+    mul-plus-3
     array-read-plus
     plus-requires
     add-j

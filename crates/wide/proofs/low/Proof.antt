@@ -1,27 +1,30 @@
--- `wide::low` meets its contract.
+-- `wide::low` meets its contract: of the two middle products the lower halves count.
 -- Assumes nothing.
 use mathlib.Core.Path.{sym, ap, _∙_}
-use Prim.Native.Nat.{_*_, _/_, _%_, _^_}
+use Prim.Native.Nat.{_%_, _^_}
 use native.Mathlib.Omega.{arith}
 use borrow.Author.Needs.{needs}
-use Rattle.wide.proofs.Halves.{half-half, whole, lower}
+use Rattle.wide.proofs.Halves.{Bounds, bounds, whole, lower}
 use Rattle.wide.proofs.low.Statement.{statement}
 use Rattle.wide.proofs.low.Tie as tie
 
+small : (c : tie.Start) → Bounds (c .args .a) (c .args .b)
+small c = bounds (c .args .a) (c .args .b) (omega arith) (omega arith)
+
 mul-middle : tie.Need-mul-middle
-mul-middle c = omega (arith, half-half (c .args .a / 4294967296) (c .args .b % 4294967296) (omega arith) (omega arith))
+mul-middle c = omega (arith, small c)
 
 mul-middle-2 : tie.Need-mul-middle-2
-mul-middle-2 c = omega (arith, half-half (c .args .a % 4294967296) (c .args .b / 4294967296) (omega arith) (omega arith))
+mul-middle-2 c = omega (arith, small c)
 
 add-middle : tie.Need-add-middle
-add-middle c = search needs
+add-middle c = omega (arith, small c)
 
 mul-wrapping-add-u64 : tie.Need-mul-wrapping-add-u64
-mul-wrapping-add-u64 c = search needs
+mul-wrapping-add-u64 c = omega (arith, small c)
 
 mul-wrapping-add-u64-2 : tie.Need-mul-wrapping-add-u64-2
-mul-wrapping-add-u64-2 c = omega (arith, half-half (c .args .a % 4294967296) (c .args .b % 4294967296) (omega arith) (omega arith))
+mul-wrapping-add-u64-2 c = omega (arith, small c)
 
 wrapping-add-u64-requires : tie.Need-wrapping-add-u64-requires
 wrapping-add-u64-requires c κs = search needs
