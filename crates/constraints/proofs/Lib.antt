@@ -3,3 +3,5 @@ pub mod RowCells
 pub mod Families
 pub mod Equations
 pub mod TestCount
+pub mod TestList
+pub mod WalkLaws
