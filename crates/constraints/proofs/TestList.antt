@@ -7,8 +7,7 @@ use mathlib.Core.List.{List, [], _∷_, _++_, List·Memᴰ, List·Memᴰ·cases-
 use Prim.Native.Nat.{ℕ, zero, suc, _+_, _*_, _≤_, _<_}
 use native.Mathlib.Decide.{ℕ-discrete}
 use native.Mathlib.Omega.{arith}
-use Rattle.lists.specs.Lists.{choose}
-use Rattle.constraints.specs.Constraints.{Test, applies, rowTests, testsFrom, tests}
+use Rattle.constraints.specs.Constraints.{Test, keep, applies, rowTests, testsFrom, tests}
 use Rattle.constraints.proofs.Families.{Applies, applies-cases, zero-columns, new-zeros, starts, output-kept, goes-on, ends, joins, claims}
 
 -- ---- a test of the list is one of a row of the trace, and its constraint applies there
@@ -27,7 +26,7 @@ in-row k i c (suc n) x m = go (applies k i c) refl (in-row k i (c + 1) n x) m
     here e (inl p) r = (ap (λ y. y .at) p, ap (λ y. applies k i (y .number)) p ∙ e)
     here e (inr p) r = r p
 
-    go : (b : Bool) → applies k i c ≡ b → (List·Memᴰ x rest → Says) → List·Memᴰ x (choose b (record { at = i; number = c } ∷ rest) rest) → Says
+    go : (b : Bool) → applies k i c ≡ b → (List·Memᴰ x rest → Says) → List·Memᴰ x (keep b (record { at = i; number = c }) rest) → Says
     go true e r p = here e (List·Memᴰ·cases-cons p) r
     go false e r p = r p
 
@@ -56,7 +55,7 @@ row-in k i c (suc n) d l h a = go (applies k i c) refl (ℕ-discrete c d) (λ f.
     rest = rowTests k i (c + 1) n
 
     go : (b : Bool) → applies k i c ≡ b → Dec (c ≡ d) → (c + 1 ≤ d → List·Memᴰ (record { at = i; number = d }) rest)
-      → List·Memᴰ (record { at = i; number = d }) (choose b (record { at = i; number = c } ∷ rest) rest)
+      → List·Memᴰ (record { at = i; number = d }) (keep b (record { at = i; number = c }) rest)
     go true e (yes p) r = List·Memᴰ.List·Memᴰ·head (λ q. record { at = i; number = sym p q })
     go true e (no p) r = List·Memᴰ.List·Memᴰ·tail (r (omega arith))
     go false e (yes p) r =
