@@ -12,14 +12,14 @@ use lib.ListN.{length, take}
 use Rattle.lists.specs.Lists.{choose, cell}
 use Rattle.field.specs.Field.{add}
 use Rattle.words.specs.Words.{AllCanonical}
-use Rattle.table.specs.Table.{constant}
+use Rattle.table.specs.Table.{IsTable, constant}
 use Rattle.hash.specs.Hash.{plus, firstStep, secondStep}
 use Rattle.hash.proofs.States.{IsState, cell-plus}
 use Rattle.hash.proofs.Inputs.{cell-take}
 use Rattle.constraints.specs.Constraints.{row, within, round, entering, forward, backStep, back}
 use Rattle.constraints.specs.ReadOff.{firstRow}
 use Rattle.constraints.proofs.Families.{or-cases}
-use Rattle.constraints.proofs.OneRound.{Invertible, first-back, backStep-state}
+use Rattle.constraints.proofs.OneRound.{first-back, backStep-state}
 
 -- ---- rows 10 and 20
 pub enters : (i : ℕ) → (within i ≡ 10) ⊎ (within i ≡ 20) → entering i ≡ true
@@ -72,5 +72,5 @@ module _ (T t : List ℕ) (h j : ℕ) (l : j < 10) where
       ∙ ap (add (cell (secondStep T j (row t (firstRow h + j))) c)) (cell-take (constant T 0) c q))
 
   -- a row is the first step from its back
-  pub row-from-back : Invertible T → IsState (row t (firstRow h + j)) → row t (firstRow h + j) ≡ firstStep T j (back T t (firstRow h + j))
-  row-from-back u s = sym (ap (firstStep T j) back-is ∙ first-back T u j l s)
+  pub row-from-back : IsTable T → IsState (row t (firstRow h + j)) → row t (firstRow h + j) ≡ firstStep T j (back T t (firstRow h + j))
+  row-from-back accepted s = sym (ap (firstStep T j) back-is ∙ first-back T accepted j l s)

@@ -12,12 +12,12 @@ use lib.ListN.{length}
 use Rattle.lists.specs.Lists.{cell}
 use Rattle.field.specs.Field.{P, add, sub}
 use Rattle.words.specs.Words.{AllCanonical}
-use Rattle.table.specs.Table.{constant}
+use Rattle.table.specs.Table.{IsTable, constant}
 use Rattle.hash.specs.Hash.{plus, firstStep, secondStep, stateAt, middleState, finalState}
-use Rattle.hash.proofs.States.{IsState, state-cell, same-state, cell-plus, plus-state, secondStep-state, stateAt-zero, stateAt-suc, finalState-state}
+use Rattle.hash.proofs.States.{IsState, state-cell, same-state, cell-plus, plus-state, secondStep-state, stateAt-zero, stateAt-suc, finalState-state, constant-state}
 use Rattle.constraints.specs.Constraints.{row, within, entering, forward, minus, back}
 use Rattle.constraints.specs.ReadOff.{firstRow, readInput}
-use Rattle.constraints.proofs.OneRound.{Invertible, minus-state, cell-minus, plus-minus, minus-plus}
+use Rattle.constraints.proofs.OneRound.{minus-state, cell-minus, plus-minus, minus-plus}
 use Rattle.constraints.proofs.RowCells.{row-state}
 use Rattle.constraints.proofs.Equations.{Equations}
 use Rattle.constraints.proofs.ForwardBack.{enters, enters-not, within-of, back-state, forward-is, forward-enters, row-from-back}
@@ -28,13 +28,13 @@ sub-self a h = omega arith
 sub-added : (a b : ℕ) → a < P → b < P → sub (add a b) b ≡ a
 sub-added a b p q = omega arith
 
-module _ (T t claim : List ℕ) (k : ℕ) (u : Invertible T) (size : length t ≡ 384 * k) (canonical : AllCanonical t) (q : Equations T t claim k) where
+module _ (T t claim : List ℕ) (k : ℕ) (accepted : IsTable T) (size : length t ≡ 384 * k) (canonical : AllCanonical t) (q : Equations T t claim k) where
   K₀ : List ℕ
   K₀ = constant T 0
 
   K₀-state : IsState K₀
   unfolding K₀
-  K₀-state = u .constants 0 (omega arith)
+  K₀-state = constant-state T accepted 0 (omega arith)
 
   pub row-is-state : (i : ℕ) → i < 32 * k → IsState (row t i)
   row-is-state i l = row-state t canonical i (omega arith)
