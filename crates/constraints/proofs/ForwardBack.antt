@@ -64,7 +64,7 @@ module _ (T t : List ℕ) (h j : ℕ) (l : j < 10) where
 
   -- and columns 0 to 3 where one does
   pub forward-enters : entering (firstRow h + j) ≡ true → (c : ℕ) → c < 4
-    → cell (forward T t (firstRow h + j)) c ≡ add (cell (secondStep T j (row t (firstRow h + j))) c) (cell (constant T 0) c)
+      → cell (forward T t (firstRow h + j)) c ≡ add (cell (secondStep T j (row t (firstRow h + j))) c) (cell (constant T 0) c)
   unfolding forward
   forward-enters e c q =
       rw (e, round-of h j l)

@@ -35,7 +35,7 @@ length-rowTests k i c zero = refl
 length-rowTests k i c (suc n) = go (applies k i c) (length-rowTests k i (c + 1) n)
   where
     go : (b : Bool) → length (rowTests k i (c + 1) n) ≡ count (applies k i) (c + 1) n
-      → length (keep b (record { at = i; number = c }) (rowTests k i (c + 1) n)) ≡ choose b 1 0 + count (applies k i) (c + 1) n
+        → length (keep b (record { at = i; number = c }) (rowTests k i (c + 1) n)) ≡ choose b 1 0 + count (applies k i) (c + 1) n
     go true e = omega arith
     go false e = omega arith
 

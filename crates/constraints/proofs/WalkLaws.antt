@@ -36,12 +36,13 @@ module _ (T t claim : List ℕ) where
   one-more-end x xs n r e (stops i c place f m p) =
       stops i c (place + 1)
       (record {
-          before = x ∷ f .before;
-          after = f .after;
-          order = ap (λ l. x ∷ l) (f .order);
-          passed = one-more-holds x (f .before) e (f .passed);
-          fails = f .fails;
-          place = omega (arith, f .place) })
+        before = x ∷ f .before;
+        after = f .after;
+        order = ap (λ l. x ∷ l) (f .order);
+        passed = one-more-holds x (f .before) e (f .passed);
+        fails = f .fails;
+        place = omega (arith, f .place);
+      })
       m (omega arith)
 
   pub walk-ends : (xs : List Test) (n : ℕ) → Ends xs n (walk T t claim xs n)
@@ -50,7 +51,7 @@ module _ (T t claim : List ℕ) where
   walk-ends (x ∷ xs) n = go (holds T t claim (x .at) (x .number)) refl (walk-ends xs (n + 1))
     where
       go : (b : Bool) → holds T t claim (x .at) (x .number) ≡ b → Ends xs (n + 1) (walk T t claim xs (n + 1))
-        → Ends (x ∷ xs) n (choose b (walk T t claim xs (n + 1)) (Refused (Constraint (record { 0 = x .at }) (x .number) (n + 1))))
+          → Ends (x ∷ xs) n (choose b (walk T t claim xs (n + 1)) (Refused (Constraint (record { 0 = x .at }) (x .number) (n + 1))))
       go true e r = one-more-end x xs n _ e r
       go false e r =
           stops (x .at) (x .number) 1
@@ -115,7 +116,7 @@ module _ (T t claim : List ℕ) where
 
     -- and every trace that is not accepted is refused so
     pub else-first-failing : ((n : ℕ) → verdict T t claim k ≡ Accepted n → ⊥)
-      → (i : ℕ) × (c : ℕ) × (n : ℕ) × (verdict T t claim k ≡ Refused (Constraint (record { 0 = i }) c n))
+        → (i : ℕ) × (c : ℕ) × (n : ℕ) × (verdict T t claim k ≡ Refused (Constraint (record { 0 = i }) c n))
     else-first-failing never = go (verdict T t claim k) verdict-ends never
       where
         go : (r : Checked) → Ends (tests k) 0 r → ((n : ℕ) → r ≡ Accepted n → ⊥) → (i : ℕ) × (c : ℕ) × (n : ℕ) × (r ≡ Refused (Constraint (record { 0 = i }) c n))

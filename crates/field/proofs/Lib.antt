@@ -1,4 +1,5 @@
 pub mod Barrett
+pub mod Forms
 pub mod Modular
 pub mod Power
 pub mod Divisors

@@ -40,5 +40,5 @@ known-days = record {
   altered-31-5 = refl;
   altered-11-5 = refl;
   tapped-accepted = refl;
-  tapped-read = refl
+  tapped-read = refl;
 }
