@@ -1,2 +1,3 @@
 pub mod Sound
 pub mod ReadList
+pub mod Built
