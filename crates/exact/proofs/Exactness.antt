@@ -73,9 +73,12 @@ module _ (T t claim : List ℕ) (k : ℕ) (table : IsTable T) (permitted : IsPer
   pub only-one : (w v : List ℕ) → IsListFor T t claim k w → IsListFor T t claim k v → w ≡ v
   only-one w v l m = one-list-a-trace T k table permitted w v (l .size) (l .canonical) (m .size) (m .canonical) (l .traced ∙ sym (m .traced))
 
-  -- otherwise refused with 11, and with row, constraint and place of the first test of the order that fails
-  pub first-failing : (((w : List ℕ) × IsListFor T t claim k w) → ⊥)
+  -- a trace that is not accepted is refused with 11, and with row, constraint and place of the first test of the order that fails
+  pub first-failing : (verdict T t claim k ≡ Accepted (372 * k) → ⊥)
     → (i : ℕ) × (c : ℕ) × (n : ℕ) × (verdict T t claim k ≡ Refused (Constraint (record { 0 = i }) c n)) × IsFirstFailing T t claim (tests k) i c n
-  first-failing none =
-      let r = walks.else-first-failing T t claim k (λ n e. none (readTaps T t k, reads-that-list n e)) in
+  first-failing never =
+      let r = walks.else-first-failing T t claim k (λ n e. never (e ∙ ap Accepted (whole-order n e .1))) in
       (r .0, r .1, r .2, r .3, walks.refused-first-failing T t claim k (r .0) (r .1) (r .2) (r .3))
+
+  pub refuses-exactly : (i c n : ℕ) → (verdict T t claim k ≡ Refused (Constraint (record { 0 = i }) c n)) ↔ IsFirstFailing T t claim (tests k) i c n
+  refuses-exactly i c n = (walks.refused-first-failing T t claim k i c n, walks.first-failing-refused T t claim k i c n)
