@@ -1,9 +1,9 @@
 -- The ordered list of tests holds each constraint that applies, at each row of the trace, and nothing else.
 -- Assumes nothing.
-use mathlib.Core.Path.{_≡_, refl, sym, ap, ap₂, _∙_, subst}
+use mathlib.Core.Path.{_≡_, refl, sym, ap, _∙_}
 use mathlib.Core.Bool.{Bool, true, false}
 use mathlib.Core.Logic.{_⊎_, inl, inr, _↔_}
-use mathlib.Core.List.{List, [], _∷_, _++_, List·Memᴰ, List·Memᴰ·cases-cons, List·Memᴰ·append-cases, List·Memᴰ·not-nil, Memᴰ·append-left, Memᴰ·append-right, Memᴰ·cast}
+use mathlib.Core.List.{List, _++_, List·Memᴰ, List·Memᴰ·cases-cons, List·Memᴰ·append-cases, List·Memᴰ·not-nil, Memᴰ·append-left, Memᴰ·append-right, Memᴰ·cast}
 use Prim.Native.Nat.{ℕ, zero, suc, _+_, _*_, _≤_, _<_}
 use native.Mathlib.Decide.{ℕ-discrete}
 use native.Mathlib.Omega.{arith}
@@ -39,8 +39,8 @@ in-rows k i zero x m = absurd (List·Memᴰ·not-nil m)
 in-rows k i (suc n) x m = go (List·Memᴰ·append-cases (rowTests k i 1 52) m) (in-rows k (i + 1) n x)
   where
     go : List·Memᴰ x (rowTests k i 1 52) ⊎ List·Memᴰ x (testsFrom k (i + 1) n)
-      → (List·Memᴰ x (testsFrom k (i + 1) n) → (i + 1 ≤ x .at) × (x .at < i + 1 + n) × (applies k (x .at) (x .number) ≡ true))
-      → (i ≤ x .at) × (x .at < i + suc n) × (applies k (x .at) (x .number) ≡ true)
+        → (List·Memᴰ x (testsFrom k (i + 1) n) → (i + 1 ≤ x .at) × (x .at < i + 1 + n) × (applies k (x .at) (x .number) ≡ true))
+        → (i ≤ x .at) × (x .at < i + suc n) × (applies k (x .at) (x .number) ≡ true)
     go (inl p) r =
         let s = in-row k i 1 52 x p in
         (omega (arith, s .0), omega (arith, s .0), ap (λ y. applies k y (x .number)) (s .0) ∙ s .2)
@@ -58,7 +58,7 @@ row-in k i c (suc n) d l h a = go (applies k i c) refl (ℕ-discrete c d) (λ f.
     rest = rowTests k i (c + 1) n
 
     go : (b : Bool) → applies k i c ≡ b → Dec (c ≡ d) → (c + 1 ≤ d → List·Memᴰ (record { at = i; number = d }) rest)
-      → List·Memᴰ (record { at = i; number = d }) (keep b (record { at = i; number = c }) rest)
+        → List·Memᴰ (record { at = i; number = d }) (keep b (record { at = i; number = c }) rest)
     go true e (yes p) r = List·Memᴰ.List·Memᴰ·head (λ q. record { at = i; number = sym p q })
     go true e (no p) r = List·Memᴰ.List·Memᴰ·tail (r (omega arith))
     go false e (yes p) r =
@@ -72,7 +72,7 @@ rows-in k i zero e d p q l h a = absurd (omega arith)
 rows-in k i (suc n) e d p q l h a = go (ℕ-discrete i e) (λ f. rows-in k (i + 1) n e d f (omega arith) l h a)
   where
     go : Dec (i ≡ e) → (i + 1 ≤ e → List·Memᴰ (record { at = e; number = d }) (testsFrom k (i + 1) n))
-      → List·Memᴰ (record { at = e; number = d }) (rowTests k i 1 52 ++ testsFrom k (i + 1) n)
+        → List·Memᴰ (record { at = e; number = d }) (rowTests k i 1 52 ++ testsFrom k (i + 1) n)
     go (yes f) r =
         Memᴰ·append-left (testsFrom k (i + 1) n)
         (Memᴰ·cast (λ z. record { at = sym f z; number = d }) (row-in k i 1 52 d l h (ap (λ y. applies k y d) f ∙ a)))

@@ -1,10 +1,10 @@
 -- The list of tests is in document 01's order: rows of the whole trace rising, constraint numbers rising within a row.
 -- Assumes nothing.
-use mathlib.Core.Path.{_≡_, refl, sym, _∙_}
+use mathlib.Core.Path.{_≡_, refl, sym}
 use mathlib.Core.Bool.{Bool, true, false}
 use mathlib.Core.Logic.{⊎-elim}
 use mathlib.Core.List.{List, [], _∷_, _++_, List·Memᴰ, List·Memᴰ·append-cases}
-use Prim.Native.Nat.{ℕ, zero, suc, _+_, _*_, _≤_, _<_}
+use Prim.Native.Nat.{ℕ, zero, suc, _+_, _*_, _<_}
 use native.Mathlib.Omega.{arith}
 use Rattle.constraints.specs.Constraints.{Test, keep, applies, rowTests, testsFrom, tests}
 use Rattle.constraints.proofs.TestList.{in-row, in-rows}

@@ -1,18 +1,18 @@
 -- The section 3.1 trace of a list of canonical taps: its length, its cells, which are canonical, and its last row, which begins with the chain's output.
 -- Assumes nothing.
-use mathlib.Core.Path.{_≡_, refl, sym, ap, ap₂, _∙_, subst}
+use mathlib.Core.Path.{_≡_, sym, ap, ap₂, _∙_, subst}
 use mathlib.Core.List.{List}
-use Prim.Native.Nat.{ℕ, zero, suc, _+_, _*_, _-_, _/_, _%_, _≤_, _<_}
+use Prim.Native.Nat.{ℕ, _+_, _*_, _-_, _/_, _%_, _≤_, _<_}
 use native.Mathlib.Omega.{arith}
 use native.Mathlib.Numerals.{add-one}
 use lib.ListN.{length, take}
-use Rattle.lists.specs.Lists.{cell, tab}
+use Rattle.lists.specs.Lists.{cell}
 use Rattle.lists.proofs.Tab.{length-tab, cell-tab}
 use Rattle.field.specs.Field.{P}
 use Rattle.words.specs.Words.{AllCanonical}
-use Rattle.hash.specs.Hash.{input, tap, outputAt, chain, middleState, finalState}
+use Rattle.hash.specs.Hash.{input, tap, outputAt, chain, finalState}
 use Rattle.hash.proofs.States.{IsState, state-cell, middleState-state, finalState-state}
-use Rattle.hash.proofs.Inputs.{IsTap, cell-tap, tap-is-tap, cell-input-left, cell-input-right, cell-input-zeros, input-state, output-tap, output-suc}
+use Rattle.hash.proofs.Inputs.{IsTap, tap-is-tap, cell-input-left, cell-input-right, cell-input-zeros, input-state, output-tap, output-suc}
 use Rattle.trace.specs.Trace.{hashInput, traceRow, trace}
 use Rattle.trace.proofs.RowKinds.{RowKind, start, middle, end, row-kind, row-start, row-end, row-middle}
 
