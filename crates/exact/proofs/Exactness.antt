@@ -1,5 +1,5 @@
 -- Exactness (document 00, demand 3): for every accepted table, permitted k, and trace and claim of words below p, what acceptance and refusal mean.
--- They hold for every invertible M: no maximum-distance property is asked for. The claim needs only its length here, since one with a word of p or above fails constraints 49 to 52.
+-- They hold for every invertible M: no maximum-distance property is asked for. Of the claim only the length is asked, since no output holds a word of p or above.
 -- Assumes nothing.
 use mathlib.Core.Path.{_≡_, sym, ap, _∙_}
 use mathlib.Core.Logic.{_↔_}
