@@ -1,14 +1,14 @@
 -- The 52 constraints as equations between cells: every test of a trace holds exactly where these equations do.
 -- Assumes nothing.
 use mathlib.Core.Path.{_≡_, refl, sym, ap, _∙_}
-use mathlib.Core.Bool.{Bool, true, false}
+use mathlib.Core.Bool.{true, false}
 use mathlib.Core.List.{List}
 use Prim.Native.Nat.{ℕ, _+_, _*_, _-_, _≤_, _<_}
 use native.Mathlib.Decide.{decLt}
 use native.Mathlib.Omega.{arith}
 use borrow.Author.Tests.{le-leb, lt-leb, eq-eqb, eqb-true}
-use lib.Dec.{leb, eqb}
-use Rattle.lists.specs.Lists.{choose, cell}
+use lib.Dec.{eqb}
+use Rattle.lists.specs.Lists.{cell}
 use Rattle.field.specs.Field.{add}
 use Rattle.table.specs.Table.{constant}
 use Rattle.constraints.specs.Constraints.{row, within, entering, forward, back, applies, holds}

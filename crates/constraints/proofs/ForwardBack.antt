@@ -1,19 +1,19 @@
 -- Forward and back of a row, by the hash h and the round j whose middle state it is to hold: row `firstRow h + j`.
 -- Assumes nothing.
-use mathlib.Core.Path.{_≡_, refl, sym, ap, ap₂, _∙_}
-use mathlib.Core.Bool.{Bool, true, false, _||_, or-true}
-use mathlib.Core.Logic.{_⊎_, inl, inr, ⊎-map}
+use mathlib.Core.Path.{_≡_, sym, ap, _∙_}
+use mathlib.Core.Bool.{true, false, or-true}
+use mathlib.Core.Logic.{_⊎_, inl, inr, ⊎-map, ⊎-elim}
 use mathlib.Core.List.{List}
 use Prim.Native.Nat.{ℕ, _+_, _*_, _-_, _/_, _%_, _≤_, _<_}
+use native.Mathlib.Decide.{ℕ-discrete}
 use native.Mathlib.Omega.{arith}
-use borrow.Author.Tests.{eq-eqb, ne-eqb, eqb-true, eqb-false}
+use borrow.Author.Tests.{eq-eqb, ne-eqb, eqb-true}
 use lib.Dec.{eqb}
-use lib.ListN.{length, take}
-use Rattle.lists.specs.Lists.{choose, cell}
+use lib.ListN.{take}
+use Rattle.lists.specs.Lists.{cell}
 use Rattle.field.specs.Field.{add}
-use Rattle.words.specs.Words.{AllCanonical}
 use Rattle.table.specs.Table.{IsTable, constant}
-use Rattle.hash.specs.Hash.{plus, firstStep, secondStep}
+use Rattle.hash.specs.Hash.{firstStep, secondStep}
 use Rattle.hash.proofs.States.{IsState, cell-plus}
 use Rattle.hash.proofs.Inputs.{cell-take}
 use Rattle.constraints.specs.Constraints.{row, within, round, entering, forward, backStep, back}
@@ -47,6 +47,24 @@ round-of h j l = ap (λ r. (r - 1) % 10) (within-of h j l) ∙ e
   where
     e : (10 * (h % 3) + 1 + j - 1) % 10 ≡ j
     e = omega arith
+
+-- the rows at which a tap enters are the last ones of a batch's first and second hash
+pub entering-row : (h : ℕ) → (h % 3 ≡ 2 → ⊥) → entering (firstRow h + 9) ≡ true
+entering-row h e = go (ℕ-discrete (h % 3) 0)
+  where
+    go : Dec (h % 3 ≡ 0) → entering (firstRow h + 9) ≡ true
+    go (yes z) = enters (firstRow h + 9) (inl (omega (arith, within-of h 9 (omega arith))))
+    go (no z) = enters (firstRow h + 9) (inr (omega (arith, within-of h 9 (omega arith))))
+
+pub entering-hash : (i : ℕ) → entering i ≡ true → (h : ℕ) × (h % 3 ≡ 2 → ⊥) × (i ≡ firstRow h + 9)
+entering-hash i e = ⊎-elim (λ (z : within i ≡ 10). (3 * (i / 32), (λ x. omega arith), omega arith)) (λ (z : within i ≡ 20). (3 * (i / 32) + 1, (λ x. omega arith), omega arith)) (enters-at i e)
+
+-- a row of 1 to 29 at which none enters is followed by one of the same hash
+pub round-hash : (i : ℕ) → 1 ≤ within i → within i ≤ 29 → entering i ≡ false → (h : ℕ) × (j : ℕ) × (j < 9) × (i ≡ firstRow h + j)
+round-hash i p q e =
+    let ten : within i ≡ 10 → ⊥ = λ z. enters-not-at i e (inl z) in
+    let twenty : within i ≡ 20 → ⊥ = λ z. enters-not-at i e (inr z) in
+    (3 * (i / 32) + (within i - 1) / 10, (within i - 1) % 10, omega arith, omega arith)
 
 pub back-state : (T t : List ℕ) (i : ℕ) → IsState (back T t i)
 unfolding back

@@ -4,9 +4,9 @@ use mathlib.Core.Path.{_≡_, refl, sym, ap, _∙_, subst, subst₃}
 use mathlib.Core.Bool.{Bool, true, false}
 use mathlib.Core.Logic.{_⊎_, inl, inr}
 use mathlib.Core.List.{List, [], _∷_, _++_, List·Memᴰ, List·Memᴰ·cases-cons, List·Memᴰ·not-nil, Memᴰ·append-right}
-use Prim.Native.Nat.{ℕ, zero, suc, _+_, _≤_}
+use Prim.Native.Nat.{ℕ, suc, _+_}
 use native.Mathlib.Omega.{arith}
-use lib.ListN.{length, length-append}
+use lib.ListN.{length}
 use Rattle.lists.specs.Lists.{choose}
 use Rattle.counts.specs.declared.RowNumber.{RowNumber}
 use Rattle.refusals.specs.declared.Refusal.the-variants.{Constraint}
@@ -68,6 +68,18 @@ module _ (T t claim : List ℕ) where
       yes-and-no : (b : Bool) → b ≡ true → b ≡ false → ⊥
       yes-and-no b p q = let z : _≡_ {A = ℕ} 0 1 = cc in omega arith
 
+  -- a walk stops at the test that fails, where all before it hold
+  walk-stops : (xs : List Test) (i c : ℕ) (rest : List Test) (n : ℕ) → AllHold T t claim xs → holds T t claim i c ≡ false
+      → walk T t claim (xs ++ record { at = i; number = c } ∷ rest) n ≡ Refused (Constraint (record { 0 = i }) c (n + (length xs + 1)))
+  unfolding walk
+  walk-stops [] i c rest n a e =
+      let z : n + 1 ≡ n + (0 + 1) = omega arith in
+      rw e (ap (λ m. Refused (Constraint (record { 0 = i }) c m)) z)
+  walk-stops (x ∷ xs) i c rest n a e =
+      let z : n + 1 + (length xs + 1) ≡ n + (suc (length xs) + 1) = omega arith in
+      rw (a x (List·Memᴰ.List·Memᴰ·head refl))
+      (walk-stops xs i c rest (n + 1) (λ y m. a y (List·Memᴰ.List·Memᴰ·tail m)) e ∙ ap (λ m. Refused (Constraint (record { 0 = i }) c m)) z)
+
   -- ---- the verdict
   module _ (k : ℕ) where
     verdict-ends : Ends (tests k) 0 (verdict T t claim k)
@@ -113,6 +125,14 @@ module _ (T t claim : List ℕ) where
             let z : m ≡ n = cc in
             let w : place ≡ n = omega arith in
             subst₃ (λ u v l. IsFirstFailing T t claim (tests k) u v l) x y w f
+
+    pub first-failing-refused : (i c n : ℕ) → IsFirstFailing T t claim (tests k) i c n → verdict T t claim k ≡ Refused (Constraint (record { 0 = i }) c n)
+    unfolding verdict
+    first-failing-refused i c n f =
+        let z : 0 + (length (f .before) + 1) ≡ n = omega (arith, f .place) in
+        ap (λ l. walk T t claim l 0) (f .order)
+        ∙ walk-stops (f .before) i c (f .after) 0 (f .passed) (f .fails)
+        ∙ ap (λ m. Refused (Constraint (record { 0 = i }) c m)) z
 
     -- and every trace that is not accepted is refused so
     pub else-first-failing : ((n : ℕ) → verdict T t claim k ≡ Accepted n → ⊥)

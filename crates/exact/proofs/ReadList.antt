@@ -1,6 +1,6 @@
 -- A trace whose tests hold is the section 3.1 trace of the list that is read off it, and that list chains to the claim.
 -- Assumes nothing.
-use mathlib.Core.Path.{_≡_, refl, sym, ap, ap₂, _∙_, subst}
+use mathlib.Core.Path.{_≡_, refl, sym, ap, _∙_, subst}
 use mathlib.Core.List.{List}
 use Prim.Native.Nat.{ℕ, zero, suc, _+_, _*_, _-_, _/_, _%_, _≤_, _<_}
 use native.Mathlib.Nat.{zero-add}
@@ -8,20 +8,20 @@ use native.Mathlib.Numerals.{add-one}
 use native.Mathlib.Decide.{decLt}
 use native.Mathlib.Omega.{arith}
 use borrow.Author.Tests.{lt-ltb, le-ltb}
-use lib.ListN.{length, take}
-use Rattle.lists.specs.Lists.{choose, cell, tab}
+use lib.ListN.{length}
+use Rattle.lists.specs.Lists.{cell}
 use Rattle.lists.proofs.Tab.{length-tab, cell-tab}
 use Rattle.field.specs.Field.{P}
 use Rattle.words.specs.Words.{AllCanonical}
 use Rattle.table.specs.Table.{IsTable}
-use Rattle.hash.specs.Hash.{tap, outputAt, chain, middleState, finalState}
-use Rattle.hash.proofs.States.{IsState, state-cell, same-state, same-cells}
+use Rattle.hash.specs.Hash.{outputAt, chain, middleState, finalState}
+use Rattle.hash.proofs.States.{state-cell, same-state, same-cells}
 use Rattle.hash.proofs.Inputs.{by-fours, cell-take, cell-tap, output-zero}
 use Rattle.trace.specs.Trace.{hashInput, traceRow, trace}
 use Rattle.trace.proofs.RowKinds.{RowKind, start, middle, end, row-kind, row-start, row-middle, row-end}
 use Rattle.trace.proofs.TraceCells.{length-trace, cell-trace, next-output, output-is-tap, hashInput-state, input-output, input-next-tap, input-zeros, traceRow-state}
 use Rattle.constraints.specs.Constraints.{row}
-use Rattle.constraints.specs.ReadOff.{firstRow, readInput, readWord, readTaps}
+use Rattle.constraints.specs.ReadOff.{readInput, readWord, readTaps}
 use Rattle.constraints.proofs.RowCells.{cell-row, length-row, same-rows}
 use Rattle.constraints.proofs.Equations.{Equations}
 use Rattle.exact.specs.Exact.{IsListFor}

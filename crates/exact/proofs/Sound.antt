@@ -1,9 +1,8 @@
 -- From the equations of the 52 constraints to the middle states: every row of a trace that meets them holds what the hash of the input read off gives there.
 -- Assumes nothing.
-use mathlib.Core.Path.{_≡_, refl, sym, ap, ap₂, _∙_, subst}
-use mathlib.Core.Bool.{true, false}
+use mathlib.Core.Path.{_≡_, sym, ap, _∙_, subst}
+use mathlib.Core.Bool.{false}
 use mathlib.Core.List.{List}
-use mathlib.Core.Logic.{_⊎_, inl, inr}
 use Prim.Native.Nat.{ℕ, zero, suc, _+_, _*_, _-_, _/_, _%_, _≤_, _<_}
 use native.Mathlib.Nat.{add-zero}
 use native.Mathlib.Decide.{ℕ-discrete}
@@ -18,10 +17,10 @@ use Rattle.hash.specs.Hash.{plus, firstStep, secondStep, stateAt, middleState, 
 use Rattle.hash.proofs.States.{IsState, state-cell, same-state, cell-plus, plus-state, secondStep-state, stateAt-zero, stateAt-suc, finalState-state, constant-state}
 use Rattle.constraints.specs.Constraints.{row, within, entering, forward, minus, back}
 use Rattle.constraints.specs.ReadOff.{firstRow, readInput}
-use Rattle.constraints.proofs.OneRound.{minus-state, cell-minus, plus-minus, minus-plus}
+use Rattle.constraints.proofs.OneRound.{minus-state, cell-minus, plus-minus}
 use Rattle.constraints.proofs.RowCells.{row-state}
 use Rattle.constraints.proofs.Equations.{Equations}
-use Rattle.constraints.proofs.ForwardBack.{enters, enters-not, within-of, back-state, forward-is, forward-enters, row-from-back}
+use Rattle.constraints.proofs.ForwardBack.{enters-not, entering-row, within-of, back-state, forward-is, forward-enters, row-from-back}
 
 sub-self : (a : ℕ) → a < P → sub a a ≡ 0
 sub-self a h = omega arith
@@ -102,13 +101,6 @@ module _ (T t claim : List ℕ) (k : ℕ) (accepted : IsTable T) (size : length 
     last-round = ap (secondStep T 9) (row-round 9 (omega arith)) ∙ sym (stateAt-suc T (readInput T t h) 9)
 
   -- ---- from hash to hash
-  entering-row : (h : ℕ) → (h % 3 ≡ 2 → ⊥) → entering (firstRow h + 9) ≡ true
-  entering-row h e = go (ℕ-discrete (h % 3) 0)
-    where
-      go : Dec (h % 3 ≡ 0) → entering (firstRow h + 9) ≡ true
-      go (yes z) = enters (firstRow h + 9) (inl (omega (arith, within-of h 9 (omega arith))))
-      go (no z) = enters (firstRow h + 9) (inr (omega (arith, within-of h 9 (omega arith))))
-
   -- row 31 is the final state of the batch's third hash
   pub end-row : (b : ℕ) → b < k → row t (32 * b + 31) ≡ finalState T (readInput T t (3 * b + 2))
   end-row b l =
