@@ -1,54 +1,58 @@
+-- `hash::cubes` meets its contract: the cells passed are filled with the cubes.
+-- Assumes nothing.
+use mathlib.Core.Path.{_≡_, refl, _∙_}
+use Prim.Native.Nat.{ℕ, _-_, _≤_}
+use native.Mathlib.Omega.{arith}
+use borrow.Author.Needs.{needs}
+use lib.ListN.{length, length-set, replicate}
+use Rattle.lists.specs.Lists.{cell}
+use Rattle.lists.proofs.Tab.{filled, filled-none, filled-more, filled-all}
+use Rattle.field.specs.Field.{cube}
+use Rattle.hash.specs.Hash.{cubes}
 use Rattle.hash.proofs.cubes.Statement.{statement}
 use Rattle.hash.proofs.cubes.Tie as tie
-use Rattle.hash.proofs.cubes.Reads as reads
-use Rattle.hash.proofs.cubes.Lts as lts
-use Rattle.field.proofs.Fp.cube.Reads as cube-reads
 
 abbrev Inv-loop : tie.InvT-loop
-Inv-loop s out₀ j₀ out j = ?
+Inv-loop s out₀ j₀ out j = (j ≤ 12) × (length out ≡ 12) × (out ≡ filled j (λ i. cube (cell s i)) out₀)
 
 abbrev μ-loop : tie.MeasureT-loop
-μ-loop s out₀ j₀ out j = ?
+μ-loop s out₀ j₀ out j = 12 - j
 
--- src/lib.rt:58:5
 loop-holds : tie.Need-loop-holds Inv-loop μ-loop
-loop-holds c = ?
+loop-holds c = (omega arith, refl, filled-none _ _)
 
--- src/lib.rt:59:21
 mul-t7 : tie.Need-mul-t7 Inv-loop μ-loop
-mul-t7 c = ?
+mul-t7 c = search needs
 
--- src/lib.rt:59:21
 array-read-t10 : tie.Need-array-read-t10 Inv-loop μ-loop
-array-read-t10 c = ?
+array-read-t10 c = search needs
 
--- src/lib.rt:59:18
 cube-requires : tie.Need-cube-requires Inv-loop μ-loop
-cube-requires c κs = ?
+cube-requires c κs = c .before .before .pre (c .before .loop .j) (omega arith)
 
--- src/lib.rt:59:9
 mul-out : tie.Need-mul-out Inv-loop μ-loop
-mul-out c = ?
+mul-out c = search needs
 
--- src/lib.rt:59:9
 array-write-out : tie.Need-array-write-out Inv-loop μ-loop
-array-write-out c = ?
+array-write-out c = search needs
 
--- src/lib.rt:60:9
 add-j : tie.Need-add-j Inv-loop μ-loop
-add-j c = ?
+add-j c = search needs
 
--- src/lib.rt:58:5
 loop-less : tie.Need-loop-less Inv-loop μ-loop
-loop-less c = ?
+loop-less c = search needs
 
--- src/lib.rt:58:5
 loop-again : tie.Need-loop-again Inv-loop μ-loop
-loop-again c = ?
+loop-again c =
+    let l = c .before .before .loop in
+    (omega arith, simp length-set (l .inv .1), filled-more _ (l .j) _ _ (l .out) (omega arith) (c .cube .ensures .0) (l .inv .2))
 
--- src/lib.rt:52:1
 returns : tie.Need-returns Inv-loop μ-loop
-returns c = ?
+unfolding cubes
+returns c =
+    let l = c .before .loop in
+    let e : l .j ≡ 12 = omega arith in
+    l .inv .2 ∙ rw e (filled-all 12 _ (replicate 12 0) refl)
 
 pub cubes-spec : {M : Type 1} → statement M
 cubes-spec =
