@@ -3,15 +3,19 @@
 use mathlib.Core.Path.{_≡_, refl, sym, ap, _∙_}
 use mathlib.Core.List.{List, [], _∷_, _++_, append-assoc}
 use Prim.Native.Nat.{ℕ, zero, suc, _+_, _*_, _^_, _<_, _≤_}
+use native.Mathlib.Numerals.{one-add}
 use native.Mathlib.Omega.{arith}
 use lib.ListN.{length, length-append}
 use lib.Seq.{sets}
-use Rattle.fileword.specs.Words.{wordBytes, each, bytesOf}
+use Rattle.lists.specs.Lists.{cell}
+use Rattle.words.specs.Words.{AllCanonical}
+use Rattle.fileword.specs.Words.{wordBytes, wordAt, each, bytesOf}
 use Rattle.fileword.proofs.Each.{each-append}
 use Rattle.fileword.proofs.Stores.{sets-append, sets-all}
-use Rattle.fileword.proofs.Laws.{length-bytes}
+use Rattle.fileword.proofs.Laws.{length-bytes, word-bytes}
 use Rattle.elements.specs.Elements.{elementWords, wordsOf}
 use Rattle.elements.proofs.Laws.{length-words}
+use Rattle.elements.proofs.Round.{words-below}
 use Rattle.board.specs.Board.{countWord, fileOf, fileSize}
 
 pub file-length : (taps claim : List ℕ) (k : ℕ) → length claim ≡ 4 → length taps ≡ 12 * k + 4 → length (fileOf taps claim k) ≡ fileSize k
@@ -39,3 +43,20 @@ file-written l l₁ l₂ l₃ taps claim k w c t size e p q r =
     ∙ sets-append l 0 (first ++ second) third
     ∙ sets-all l ((first ++ second) ++ third) all
     ∙ sym parts
+
+-- ---- the words of the file of canonical taps and a canonical claim
+module _ (taps claim : List ℕ) (k : ℕ) (small : k ≤ 1024) (all : AllCanonical (claim ++ taps)) where
+  words : List ℕ
+  words = countWord k ∷ wordsOf (claim ++ taps)
+
+  words-length : length words ≡ suc (3 * length (claim ++ taps))
+  unfolding words
+  words-length = ap suc (length-words (claim ++ taps))
+
+  pub file-first : wordAt (fileOf taps claim k) 0 ≡ countWord k
+  unfolding fileOf words
+  file-first = word-bytes words 0 (omega (arith, words-length)) (omega arith)
+
+  pub file-word : (m : ℕ) → m < 3 * length (claim ++ taps) → wordAt (fileOf taps claim k) (1 + m) ≡ cell (wordsOf (claim ++ taps)) m
+  unfolding fileOf words
+  file-word m h = rw (one-add m) (word-bytes words (suc m) (omega (arith, words-length)) (words-below (claim ++ taps) all m h))
