@@ -1,0 +1,63 @@
+// Check: the walk through the tests of a trace (document 01, "The 52 constraints").
+ghost use mathlib.Core.Path.{_≡_};
+ghost use Prim.Native.Nat.{_+_, _*_, _<_, _≤_, _^_};
+ghost use lib.Dec.{eqb};
+ghost use Rattle.constraints.specs.Constraints.{applies, entering, between, within};
+ghost use Rattle.checker.specs.Spans.{Spans};
+use counts::RowNumber;
+
+// Rows 10 and 20 of a batch, after which a new tap enters.
+fn is_entering(row: RowNumber) -> bool
+    ensures { λ r. ⌜ r ≡ entering (row .0) ⌝ }
+{
+    let within = row.within();
+    within == 10 || within == 20
+}
+
+// Rows 1 to 29 of a batch, whose next row is a middle state too.
+fn is_middle(row: RowNumber) -> bool
+    ensures { λ r. ⌜ r ≡ between 1 29 (within (row .0)) ⌝ }
+{
+    let within = row.within();
+    1 <= within && within <= 29
+}
+
+// The row that is compared with the claim: the last of the trace.
+fn is_claim_row(k: usize, row: RowNumber) -> bool
+    requires { ⌜ (k < 2 ^ 32) × (row .0 < 2 ^ 40) ⌝ }
+    ensures { λ r. ⌜ r ≡ eqb (row .0 + 1) (32 * k) ⌝ }
+{
+    row.0 + 1 == 32 * k
+}
+
+// Whether the constraint applies at a row of a trace of k batches.
+fn applies(k: usize, row: RowNumber, constraint: usize) -> bool
+    requires { ⌜ (k < 2 ^ 32) × (row .0 < 2 ^ 40) ⌝ }
+    ensures { λ r. ⌜ r ≡ applies k (row .0) constraint ⌝ }
+{
+    match constraint {
+        1..=4 | 9..=20 => row.within() == 0,
+        5..=8 => is_entering(row),
+        21..=24 => is_middle(row),
+        25..=32 => is_middle(row) && !is_entering(row),
+        33..=44 => row.within() == 30,
+        45..=48 => row.within() == 31 && !is_claim_row(k, row),
+        49..=52 => is_claim_row(k, row),
+        _ => false,
+    }
+}
+
+// The lowest and the highest constraint that can apply at a row.
+struct Span(usize, usize);
+
+fn span_of(row: RowNumber) -> Span
+    ensures { λ r. ⌜ Spans (row .0) (r .0) (r .1) ⌝ }
+{
+    match row.within() {
+        0 => Span(1, 20),
+        10 | 20 => Span(5, 24),
+        1..=29 => Span(21, 32),
+        30 => Span(33, 44),
+        _ => Span(45, 52),
+    }
+}

@@ -1,0 +1,1 @@
+// Forward and back of a row.
