@@ -1,2 +1,7 @@
 pub mod OneRound
 pub mod RowCells
+pub mod Families
+pub mod Equations
+pub mod TestCount
+pub mod TestList
+pub mod WalkLaws
