@@ -1,1 +1,85 @@
-// The table: its test and Prepare.
+// The table: its test and Prepare (document 01, "The table").
+ghost use mathlib.Core.Path.{_≡_};
+ghost use Prim.Native.Nat.{_<_};
+ghost use lib.ListN.{length};
+ghost use Rattle.lists.specs.Lists.{cell, tab};
+ghost use Rattle.words.specs.Words.{AllCanonical};
+ghost use Rattle.matrix.specs.Matrix.{entry, timesColumn};
+ghost use Rattle.table.specs.Table.{unlike, firstUnlike, tableTest};
+use field::Fp;
+use refusals::Answer;
+use refusals::Refusal;
+
+// Column k of a 12 × 12 matrix.
+fn column(n: &[u64], k: usize) -> [u64; 12]
+    requires { ⌜ (length (now n) ≡ 144) × (k < 12) ⌝ }
+    ensures { λ r. ⌜ r ≡ tab 12 (λ j. entry (now (n .entry)) j k) ⌝ }
+{
+    let mut out = [0u64; 12];
+    let mut j: usize = 0;
+    while j < 12 {
+        out[j] = n[12 * j + k];
+        j += 1;
+    }
+    out
+}
+
+// Row i of a 12 × 12 matrix times a column.
+fn dot(m: &[u64], i: usize, x: [u64; 12]) -> u64
+    requires { ⌜ (length (now m) ≡ 144) × AllCanonical (now m) × (i < 12) × AllCanonical x ⌝ }
+    ensures { λ r. ⌜ r ≡ timesColumn 12 (entry (now (m .entry))) (cell x) i ⌝ }
+{
+    let mut sum = Fp::ZERO;
+    let mut j: usize = 0;
+    while j < 12 {
+        let a = Fp(m[12 * i + j]);
+        let b = Fp(x[j]);
+        sum = sum.add(a.mul(b));
+        j += 1;
+    }
+    sum.0
+}
+
+// Whether cell c of M times the stored inverse is unlike the identity's.
+fn is_unlike(table: &[u64], c: usize) -> bool
+    requires { ⌜ (length (now table) ≡ 540) × AllCanonical (now table) × (c < 144) ⌝ }
+    ensures { λ r. ⌜ r ≡ unlike (now (table .entry)) c ⌝ }
+{
+    let row = c / 12;
+    let k = c % 12;
+    let value = dot(&table[..144], row, column(&table[144..288], k));
+    if row == k { value != 1 } else { value != 0 }
+}
+
+// The first such cell, row by row, or 144.
+fn first_unlike(table: &[u64]) -> usize
+    requires { ⌜ (length (now table) ≡ 540) × AllCanonical (now table) ⌝ }
+    ensures { λ r. ⌜ r ≡ firstUnlike (now (table .entry)) ⌝ }
+{
+    let mut c: usize = 0;
+    while c < 144 {
+        if is_unlike(table, c) {
+            return c;
+        }
+        c += 1;
+    }
+    c
+}
+
+// The table test, with which every operation but Prepare begins: 1, 2, 4.
+pub fn test(table: &[u64]) -> Answer
+    ensures { λ r. ⌜ r ≡ tableTest (now (table .entry)) ⌝ }
+{
+    if table.len() != 540 {
+        return Answer::Refused(Refusal::TableLength);
+    }
+    let bad = words::first_bad(table);
+    if bad != 540 {
+        return Answer::Refused(Refusal::TableWord(bad));
+    }
+    let cell = first_unlike(table);
+    if cell != 144 {
+        return Answer::Refused(Refusal::WrongInverse(cell));
+    }
+    Answer::Accepted
+}

@@ -1,0 +1,60 @@
+-- The parts of a list, and of a prepared table: their lengths, cells and canonical words.
+-- Assumes nothing.
+use Prim.Native.Nat.{ℕ, _+_, _*_, _≤_, _<_}
+use mathlib.Core.Path.{_≡_, _∙_}
+use mathlib.Core.List.{List}
+use native.Mathlib.Omega.{arith}
+use lib.ListN.{length, take, drop, length-drop}
+use lib.Seq.{length-take-le, getD-take, getD-drop}
+use Rattle.lists.specs.Lists.{cell}
+use Rattle.words.specs.Words.{AllCanonical}
+use Rattle.table.specs.Table.{matrixOf, inverseOf, constant}
+
+-- ---- any part
+pub length-part : (t : List ℕ) (base size : ℕ) → base + size ≤ length t → length (take size (drop base t)) ≡ size
+length-part t base size h = length-take-le size (drop base t) (omega (arith, length-drop base t))
+
+pub cell-part : (t : List ℕ) (base size i : ℕ) → i < size → cell (take size (drop base t)) i ≡ cell t (base + i)
+cell-part t base size i h = getD-take size (drop base t) i 0 h ∙ getD-drop base t i 0
+
+pub part-canonical : (t : List ℕ) (base size : ℕ) → base + size ≤ length t → AllCanonical t → AllCanonical (take size (drop base t))
+part-canonical t base size h c i l = rw (cell-part t base size i (omega (arith, length-part t base size h))) (c (base + i) (omega (arith, length-part t base size h)))
+
+-- ---- M, its inverse and the constants
+module _ (t : List ℕ) (size : length t ≡ 540) where
+  pub length-matrix : length (matrixOf t) ≡ 144
+  unfolding matrixOf
+  length-matrix = length-part t 0 144 (omega arith)
+
+  pub length-inverse : length (inverseOf t) ≡ 144
+  unfolding inverseOf
+  length-inverse = length-part t 144 144 (omega arith)
+
+  pub length-constant : (n : ℕ) → n ≤ 20 → length (constant t n) ≡ 12
+  unfolding constant
+  length-constant n h = length-part t (288 + 12 * n) 12 (omega arith)
+
+  module _ (canonical : AllCanonical t) where
+    pub matrix-canonical : AllCanonical (matrixOf t)
+    unfolding matrixOf
+    matrix-canonical = part-canonical t 0 144 (omega arith) canonical
+
+    pub inverse-canonical : AllCanonical (inverseOf t)
+    unfolding inverseOf
+    inverse-canonical = part-canonical t 144 144 (omega arith) canonical
+
+    pub constant-canonical : (n : ℕ) → n ≤ 20 → AllCanonical (constant t n)
+    unfolding constant
+    constant-canonical n h = part-canonical t (288 + 12 * n) 12 (omega arith) canonical
+
+pub cell-matrix : (t : List ℕ) (i : ℕ) → i < 144 → cell (matrixOf t) i ≡ cell t i
+unfolding matrixOf
+cell-matrix t i h = getD-take 144 t i 0 h
+
+pub cell-inverse : (t : List ℕ) (i : ℕ) → i < 144 → cell (inverseOf t) i ≡ cell t (144 + i)
+unfolding inverseOf
+cell-inverse t i h = cell-part t 144 144 i h
+
+pub cell-constant : (t : List ℕ) (n i : ℕ) → i < 12 → cell (constant t n) i ≡ cell t (288 + 12 * n + i)
+unfolding constant
+cell-constant t n i h = cell-part t (288 + 12 * n) 12 i h
