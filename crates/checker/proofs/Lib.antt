@@ -1,3 +1,4 @@
 pub mod Lines
 pub mod SpanLaws
 pub mod WalkSteps
+pub mod Holding

@@ -21,7 +21,7 @@ pub record Room (w low high : ℕ) : Type 0 where
   pub at-30 : w ≡ 30 → (low ≤ 33) × (44 ≤ high)
   pub at-31 : w ≡ 31 → (low ≤ 45) × (52 ≤ high)
 
-entering-row : (i : ℕ) → entering i ≡ true → (within i ≡ 10) ⊎ (within i ≡ 20)
+pub entering-row : (i : ℕ) → entering i ≡ true → (within i ≡ 10) ⊎ (within i ≡ 20)
 entering-row i = go (eqb (within i) 10) refl
   where
     go : (b : Bool) → eqb (within i) 10 ≡ b → (b || eqb (within i) 20) ≡ true → (within i ≡ 10) ⊎ (within i ≡ 20)

@@ -2,9 +2,13 @@
 ghost use mathlib.Core.Path.{_≡_};
 ghost use Prim.Native.Nat.{_+_, _*_, _<_, _≤_, _^_};
 ghost use lib.Dec.{eqb};
-ghost use Rattle.constraints.specs.Constraints.{applies, entering, between, within};
+ghost use Rattle.table.specs.Table.{IsTable};
+ghost use Rattle.constraints.specs.Constraints.{applies, entering, between, within, holds};
+ghost use Rattle.rows.specs.Lent.{HasRow};
+ghost use Rattle.checker.specs.Compared.{Compared, Tested};
 ghost use Rattle.checker.specs.Spans.{Spans};
 use counts::RowNumber;
+use field::Fp;
 
 // Rows 10 and 20 of a batch, after which a new tap enters.
 fn is_entering(row: RowNumber) -> bool
@@ -60,4 +64,45 @@ fn span_of(row: RowNumber) -> Span
         30 => Span(33, 44),
         _ => Span(45, 52),
     }
+}
+
+// Whether the constraint holds at the row, from forward of this row and back of the next.
+fn holds(
+    table: &[u64],
+    trace: &[u64],
+    claim: &[u64; 4],
+    row: RowNumber,
+    constraint: usize,
+    forward: &[u64; 12],
+    back: &[u64; 12],
+) -> bool
+    requires { ⌜ IsTable (now table) × HasRow (now trace) (row .0) × Tested (now trace) (row .0) constraint × Compared (now table) (now trace) (row .0) (now forward) (now back) ⌝ }
+    ensures { λ r. ⌜ r ≡ holds (now (table .entry)) (now (trace .entry)) (now (claim .entry)) (row .0) constraint ⌝ }
+{
+    let start = row.start();
+    if constraint <= 4 {
+        return trace[start + constraint + 7] == 0;
+    }
+    if constraint <= 8 {
+        let j = constraint + 3;
+        return back[j] == table[288 + j];
+    }
+    if constraint <= 20 {
+        let j = constraint - 9;
+        return Fp(trace[start + j]).add(Fp(table[288 + j])).0 == back[j];
+    }
+    if constraint <= 32 {
+        let j = constraint - 21;
+        return forward[j] == back[j];
+    }
+    if constraint <= 44 {
+        let j = constraint - 33;
+        return forward[j] == trace[start + 12 + j];
+    }
+    if constraint <= 48 {
+        let j = constraint - 45;
+        return trace[start + j] == trace[start + 12 + j];
+    }
+    let j = constraint - 49;
+    trace[start + j] == claim[j]
 }
