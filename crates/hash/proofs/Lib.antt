@@ -1,2 +1,4 @@
 pub mod States
 pub mod Inputs
+pub mod Powers
+pub mod CodeStates
