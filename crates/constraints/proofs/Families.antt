@@ -21,7 +21,7 @@ pub data Applies (k i c : ℕ) : Type 0 where
   claims : (j : ℕ) → j < 4 → c ≡ 49 + j → i + 1 ≡ 32 * k → Applies k i c
 
 -- ---- Boolean laws
-or-cases : (a b : Bool) → (a || b) ≡ true → (a ≡ true) ⊎ (b ≡ true)
+pub or-cases : (a b : Bool) → (a || b) ≡ true → (a ≡ true) ⊎ (b ≡ true)
 or-cases true b e = inl refl
 or-cases false b e = inr e
 

@@ -5,3 +5,4 @@ pub mod Equations
 pub mod TestCount
 pub mod TestList
 pub mod WalkLaws
+pub mod ForwardBack

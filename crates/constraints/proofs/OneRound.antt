@@ -10,16 +10,11 @@ use Rattle.lists.proofs.Tab.{cell-tab}
 use Rattle.field.specs.Field.{P, add, sub, cube, root}
 use Rattle.field.proofs.Fermat.{cube-root, root-cube}
 use Rattle.matrix.specs.Matrix.{times}
-use Rattle.table.specs.Table.{matrixOf, inverseOf, constant}
+use Rattle.table.specs.Table.{IsTable, matrixOf, inverseOf, constant}
+use Rattle.table.proofs.Theorems.{undo-mix, mix-undo}
 use Rattle.hash.specs.Hash.{roots, cubes, plus, mix, firstStep}
-use Rattle.hash.proofs.States.{IsState, state-cell, same-state, tab-state, roots-state, cubes-state, plus-state, times-state, cell-roots, cell-cubes, cell-plus}
+use Rattle.hash.proofs.States.{IsState, state-cell, same-state, tab-state, roots-state, cubes-state, plus-state, times-state, cell-roots, cell-cubes, cell-plus, constant-state}
 use Rattle.constraints.specs.Constraints.{minus, backStep}
-
--- what is used of an accepted table: its constants are states, and M and the stored inverse undo each other
-pub record Invertible (T : List ℕ) : Type 0 where
-  pub constants : (n : ℕ) → n ≤ 20 → IsState (constant T n)
-  pub undo : (s : List ℕ) → IsState s → times (inverseOf T) (times (matrixOf T) s) ≡ s
-  pub redo : (s : List ℕ) → IsState s → times (matrixOf T) (times (inverseOf T) s) ≡ s
 
 -- ---- addition and subtraction
 add-sub : (a b : ℕ) → a < P → b < P → add (sub a b) b ≡ a
@@ -58,17 +53,23 @@ pub backStep-state : (T : List ℕ) (r : ℕ) (s : List ℕ) → IsState (backSt
 unfolding backStep
 backStep-state T r s = cubes-state _
 
-module _ (T : List ℕ) (u : Invertible T) (r : ℕ) (h : r < 10) where
+module _ (T : List ℕ) (accepted : IsTable T) (r : ℕ) (h : r < 10) where
   pub back-first : {s : List ℕ} → IsState s → backStep T r (firstStep T r s) ≡ s
   unfolding backStep firstStep mix
   back-first {s} p =
-      ap (λ x. cubes (times (inverseOf T) x)) (minus-plus (times-state (matrixOf T) (roots s)) (u .constants (2 * r + 1) (omega arith)))
-      ∙ ap cubes (u .undo (roots s) (roots-state s))
+      ap (λ x. cubes (times (inverseOf T) x)) (minus-plus (times-state (matrixOf T) (roots s)) (constant-state T accepted (2 * r + 1) (omega arith)))
+      ∙ ap cubes (undo-mix T accepted (roots s) (roots-state s .size) (λ i l. state-cell (roots-state s) i))
       ∙ cubes-roots p
 
   pub first-back : {x : List ℕ} → IsState x → firstStep T r (backStep T r x) ≡ x
   unfolding backStep firstStep mix
   first-back {x} p =
       ap (λ y. plus (times (matrixOf T) y) (constant T (2 * r + 1))) (roots-cubes (times-state (inverseOf T) (minus x (constant T (2 * r + 1)))))
-      ∙ ap (λ y. plus y (constant T (2 * r + 1))) (u .redo (minus x (constant T (2 * r + 1))) (minus-state _ _))
-      ∙ plus-minus p (u .constants (2 * r + 1) (omega arith))
+      ∙ ap (λ y. plus y (constant T (2 * r + 1))) (mix-undo T accepted less (less-state .size) (λ i l. state-cell less-state i))
+      ∙ plus-minus p (constant-state T accepted (2 * r + 1) (omega arith))
+    where
+      less : List ℕ
+      less = minus x (constant T (2 * r + 1))
+
+      less-state : IsState less
+      less-state = minus-state x (constant T (2 * r + 1))

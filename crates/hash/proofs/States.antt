@@ -6,8 +6,8 @@ use Prim.Native.Nat.{ℕ, zero, suc, _+_, _*_, _%_, _≤_, _<_}
 use native.Mathlib.Nat.{mod-lt}
 use native.Mathlib.Decide.{decLt}
 use native.Mathlib.Omega.{arith}
-use lib.ListN.{length, take, drop, length-take, length-drop, List·getD-eq-default}
-use lib.Seq.{ext-getD, getD-take, getD-drop}
+use lib.ListN.{length, List·getD-eq-default}
+use lib.Seq.{ext-getD}
 use Rattle.lists.specs.Lists.{cell, tab, sum}
 use Rattle.lists.proofs.Tab.{length-tab, cell-tab}
 use Rattle.field.specs.Field.{P, Canonical, add, cube, root}
@@ -15,6 +15,7 @@ use Rattle.field.proofs.Fermat.{root-lt}
 use Rattle.words.specs.Words.{AllCanonical}
 use Rattle.matrix.specs.Matrix.{entry, timesColumn, times}
 use Rattle.table.specs.Table.{IsTable, matrixOf, constant}
+use Rattle.table.proofs.Theorems.{constant-length, constant-canonical}
 use Rattle.hash.specs.Hash.{roots, cubes, plus, mix, firstStep, secondStep, stateAt, middleState, finalState}
 
 -- twelve canonical cells
@@ -103,16 +104,7 @@ cell-plus s k j h = cell-tab 12 _ j h
 
 -- ---- the constants of an accepted table
 pub constant-state : (T : List ℕ) → IsTable T → (n : ℕ) → n ≤ 20 → IsState (constant T n)
-unfolding constant
-constant-state T t n h = record { size = sized; canonical = low }
-  where
-    sized : length (take 12 (drop (288 + 12 * n) T)) ≡ 12
-    sized = length-take 12 (drop (288 + 12 * n) T) ∙ omega (arith, length-drop (288 + 12 * n) T, t .size)
-
-    low : (j : ℕ) → j < length (take 12 (drop (288 + 12 * n) T)) → cell (take 12 (drop (288 + 12 * n) T)) j < P
-    low j l =
-        let e = getD-take 12 (drop (288 + 12 * n) T) j 0 (omega (arith, sized)) in
-        omega (arith, e, getD-drop (288 + 12 * n) T j 0, cell-lt T (t .canonical) (288 + 12 * n + j))
+constant-state T a n h = record { size = constant-length T a n h; canonical = constant-canonical T a n h }
 
 -- ---- the middle state of each round, and the state after it
 pub stateAt-zero : (T s : List ℕ) → stateAt T s 0 ≡ plus s (constant T 0)
