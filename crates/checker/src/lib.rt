@@ -3,20 +3,12 @@ ghost use mathlib.Core.Path.{_≡_};
 ghost use Prim.Native.Nat.{_+_, _*_, _<_, _≤_, _^_};
 ghost use lib.Dec.{eqb};
 ghost use Rattle.table.specs.Table.{IsTable};
-ghost use Rattle.constraints.specs.Constraints.{applies, entering, between, within, holds};
+ghost use Rattle.constraints.specs.Constraints.{applies, between, within, holds};
 ghost use Rattle.rows.specs.Lent.{HasRow};
 ghost use Rattle.checker.specs.Compared.{Compared, Tested};
 ghost use Rattle.checker.specs.Spans.{Spans};
 use counts::RowNumber;
 use field::Fp;
-
-// Rows 10 and 20 of a batch, after which a new tap enters.
-fn is_entering(row: RowNumber) -> bool
-    ensures { λ r. ⌜ r ≡ entering (row .0) ⌝ }
-{
-    let within = row.within();
-    within == 10 || within == 20
-}
 
 // Rows 1 to 29 of a batch, whose next row is a middle state too.
 fn is_middle(row: RowNumber) -> bool
@@ -41,9 +33,9 @@ fn applies(k: usize, row: RowNumber, constraint: usize) -> bool
 {
     match constraint {
         1..=4 | 9..=20 => row.within() == 0,
-        5..=8 => is_entering(row),
+        5..=8 => rows::is_entering(row),
         21..=24 => is_middle(row),
-        25..=32 => is_middle(row) && !is_entering(row),
+        25..=32 => is_middle(row) && !rows::is_entering(row),
         33..=44 => row.within() == 30,
         45..=48 => row.within() == 31 && !is_claim_row(k, row),
         49..=52 => is_claim_row(k, row),

@@ -1,6 +1,7 @@
 -- The cells of a row of a lent trace, and of its forward and back, as loops fill them in.
 -- Assumes nothing.
-use mathlib.Core.Path.{_≡_, refl, sym, ap, _∙_, subst}
+use mathlib.Core.Path.{_≡_, refl, sym, ap, ap₂, _∙_, subst}
+use mathlib.Core.Bool.{true, false}
 use mathlib.Core.List.{List}
 use Prim.Native.Nat.{ℕ, _+_, _*_, _≤_, _<_}
 use native.Mathlib.Nat.{mod-lt}
@@ -12,10 +13,12 @@ use Rattle.lists.specs.Lists.{cell, tab}
 use Rattle.lists.proofs.Tab.{filled, filled-all, filled-before, filled-after, length-filled, cell-tab, tab-ext, tab-unique}
 use Rattle.field.specs.Field.{P, Canonical, add, sub}
 use Rattle.words.specs.Words.{CanonicalTo}
-use Rattle.table.specs.Table.{constant}
+use Rattle.matrix.specs.Matrix.{times}
+use Rattle.table.specs.Table.{inverseOf, constant}
 use Rattle.table.proofs.Parts.{cell-constant}
-use Rattle.hash.specs.Hash.{plus}
-use Rattle.constraints.specs.Constraints.{row, minus}
+use Rattle.hash.specs.Hash.{plus, cubes, secondStep}
+use Rattle.hash.proofs.States.{state-cell, secondStep-state}
+use Rattle.constraints.specs.Constraints.{row, round, entering, forward, minus, backStep, back}
 use Rattle.constraints.proofs.RowCells.{cell-row, length-row}
 use Rattle.rows.specs.Lent.{HasRow}
 
@@ -61,3 +64,23 @@ entering-filled T s size low out m q f =
     same j l (no h) =
         let z : cell (take 4 (constant T 0)) j ≡ 0 = List·getD-eq-default (take 4 (constant T 0)) 0 {n = j} (omega (arith, length-take 4 (constant T 0))) in
         filled-after 4 sum s j (omega arith) ∙ omega (arith, z, low j l)
+
+-- ---- forward and back from their parts
+module _ (T t : List ℕ) (i : ℕ) {r : ℕ} (q : r ≡ round i) {s : List ℕ} (at-row : s ≡ row t i) where
+  second-made : {n : List ℕ} → n ≡ secondStep T r s → n ≡ secondStep T (round i) (row t i)
+  second-made e = e ∙ ap₂ (secondStep T) q at-row
+
+  pub forward-plain : entering i ≡ false → {n : List ℕ} → n ≡ secondStep T r s → n ≡ forward T t i
+  unfolding forward
+  forward-plain b e = rw b (second-made e)
+
+  pub forward-entering : entering i ≡ true → {n : List ℕ} → n ≡ secondStep T r s → {out : List ℕ} → out ≡ plus n (take 4 (constant T 0)) → out ≡ forward T t i
+  unfolding forward
+  forward-entering b e f = rw b (f ∙ ap (λ x. plus x (take 4 (constant T 0))) (second-made e))
+
+  pub back-made : {l m out : List ℕ} → l ≡ minus s (constant T (2 * r + 1)) → m ≡ times (inverseOf T) l → out ≡ cubes m → out ≡ back T t i
+  unfolding back backStep
+  back-made e f g = g ∙ ap cubes (f ∙ ap (times (inverseOf T)) (e ∙ ap₂ (λ x n. minus x (constant T (2 * n + 1))) at-row q))
+
+pub second-canonical : (T : List ℕ) (r : ℕ) (s : List ℕ) {n : List ℕ} → n ≡ secondStep T r s → CanonicalTo 12 n
+second-canonical T r s e j l = subst (λ x. Canonical (cell x j)) (sym e) (state-cell (secondStep-state T r s) j)

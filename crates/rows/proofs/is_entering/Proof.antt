@@ -1,10 +1,10 @@
--- `checker::is_entering` meets its contract.
+-- `rows::is_entering` meets its contract.
 -- Assumes nothing.
 use mathlib.Core.Path.{sym, _∙_}
 use borrow.Author.Needs.{needs}
 use borrow.Author.Tests.{eq-eqb, ne-eqb}
-use Rattle.checker.proofs.is_entering.Statement.{statement}
-use Rattle.checker.proofs.is_entering.Tie as tie
+use Rattle.rows.proofs.is_entering.Statement.{statement}
+use Rattle.rows.proofs.is_entering.Tie as tie
 
 within-requires : tie.Need-within-requires
 within-requires c κs = search needs
