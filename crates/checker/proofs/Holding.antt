@@ -15,7 +15,8 @@ use Rattle.table.proofs.Parts.{cell-constant}
 use Rattle.constraints.specs.Constraints.{within, row, forward, back, holds}
 use Rattle.constraints.proofs.Families.{Applies, zero-columns, new-zeros, starts, output-kept, goes-on, ends, joins, claims, applies-cases}
 use Rattle.constraints.proofs.RowCells.{cell-row}
-use Rattle.checker.specs.Compared.{Compared, Tested}
+use Rattle.rows.specs.Lent.{HasRow}
+use Rattle.checker.specs.Compared.{InTrace, Compared, Tested}
 use Rattle.checker.proofs.SpanLaws.{entering-row}
 
 -- ---- where a constraint is tested
@@ -36,19 +37,23 @@ placed k i c (ends j l e r) = omega arith
 placed k i c (joins j l e r n) = record { low = omega arith; high = omega arith; behind = omega arith; ahead = omega arith; next = λ p q h. omega (arith, n) }
 placed k i c (claims j l e r) = omega arith
 
-module _ {t : List ℕ} {i c : ℕ} (h : Tested t i c) where
-  found : Placed (h .k) i c
-  found = placed (h .k) i c (applies-cases (h .k) i c (h .applied))
+-- the row is there, and so is the next of its batch
+pub has-row : {t : List ℕ} {i : ℕ} → InTrace t i → HasRow t i
+has-row h = record { canonical = h .canonical; inside = omega (arith, h .size, h .inside); small = omega (arith, h .few, h .inside) }
 
-  pub from-one : 1 ≤ c
-  from-one = found .low
+pub has-next : {t : List ℕ} {i : ℕ} → InTrace t i → within i ≤ 29 → HasRow t (i + 1)
+has-next h w = record { canonical = h .canonical; inside = omega (arith, h .size, h .inside); small = omega (arith, h .few, h .inside) }
+
+module _ {t : List ℕ} {i c : ℕ} (h : Tested t i c) where
+  found : Placed (h .place .k) i c
+  found = placed (h .place .k) i c (applies-cases (h .place .k) i c (h .applied))
 
   pub to-last : c ≤ 52
   to-last = found .high
 
   -- constraints 33 to 48 compare with the next row, which is there
   pub next-row : 33 ≤ c → c ≤ 48 → 12 * i + 24 ≤ length t
-  next-row p q = omega (arith, h .size, found .next p q (h .inside))
+  next-row p q = omega (arith, h .place .size, found .next p q (h .place .inside))
 
 module _ {T t f b : List ℕ} {i c : ℕ} (h : Tested t i c) (s : Compared T t i f b) where
   pub is-forward : 21 ≤ c → c ≤ 44 → f ≡ forward T t i

@@ -2,3 +2,4 @@ pub mod Lines
 pub mod SpanLaws
 pub mod WalkSteps
 pub mod Holding
+pub mod AnswerLaws

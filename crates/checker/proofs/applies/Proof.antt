@@ -8,12 +8,6 @@ use borrow.Author.Tests.{eq-eqb, ne-eqb}
 use Rattle.checker.proofs.Lines.{line-1, line-5, line-9, line-21, line-25, line-33, line-45, line-49, line-none, line-past}
 use Rattle.checker.proofs.applies.Statement.{statement}
 use Rattle.checker.proofs.applies.Tie as tie
-use Rattle.checker.proofs.applies.Reads as reads
-use Rattle.checker.proofs.applies.Lts as lts
-use Rattle.checker.proofs.is_claim_row.Reads as is-claim-row-reads
-use Rattle.checker.proofs.is_entering.Reads as is-entering-reads
-use Rattle.checker.proofs.is_middle.Reads as is-middle-reads
-use Rattle.counts.proofs.RowNumber.within.Reads as within-reads
 
 -- src/lib.rt:40:18
 is-entering-requires : tie.Need-is-entering-requires

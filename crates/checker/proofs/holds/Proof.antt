@@ -52,7 +52,7 @@ shared-slice-read-result-2 c = omega arith
 returns-2 : tie.Need-returns-2
 returns-2 c =
     let a = c .before .before .before .before .before .before .before in
-    holds-5 (a .args .table .now) (a .args .trace .now) (a .args .claim .now) (a .args .row .0) (a .args .constraint) _ (c .before .before .before .before .start .ensures) (omega arith) (omega arith) (is-back (a .pre .2) (a .pre .3) (omega arith) (omega arith))
+    holds-5 (a .args .table .now) (a .args .trace .now) (a .args .claim .now) (a .args .row .0) (a .args .constraint) _ (c .before .before .before .before .start .ensures) (omega arith) (omega arith) (is-back (a .pre .1) (a .pre .2) (omega arith) (omega arith))
 
 sub-j : tie.Need-sub-j
 sub-j c = omega arith
@@ -78,7 +78,7 @@ shared-slice-read-t38 c = omega arith
 add-requires : tie.Need-add-requires
 add-requires c κs =
     let a = c .before .before .before .before .before .before .before .before in
-    (a .pre .1 .canonical (c .before .before .before .before .before .start .result + (a .args .constraint - 9)) (omega arith), a .pre .0 .canonical (288 + (a .args .constraint - 9)) (omega arith))
+    (a .pre .1 .place .canonical (c .before .before .before .before .before .start .result + (a .args .constraint - 9)) (omega arith), a .pre .0 .canonical (288 + (a .args .constraint - 9)) (omega arith))
 
 mul-result-4 : tie.Need-mul-result-4
 mul-result-4 c = omega arith
@@ -89,7 +89,7 @@ element-copy-out-result-2 c = search needs
 returns-3 : tie.Need-returns-3
 returns-3 c =
     let a = c .before .before .before .before .before .before .before .before .before .before .before in
-    holds-9 (a .args .table .now) (a .args .trace .now) (a .args .claim .now) (a .args .row .0) (a .args .constraint) _ (c .before .before .before .before .before .before .before .before .start .ensures) (omega arith) (omega arith) (is-back (a .pre .2) (a .pre .3) (omega arith) (omega arith)) (c .before .before .add .ensures .0)
+    holds-9 (a .args .table .now) (a .args .trace .now) (a .args .claim .now) (a .args .row .0) (a .args .constraint) _ (c .before .before .before .before .before .before .before .before .start .ensures) (omega arith) (omega arith) (is-back (a .pre .1) (a .pre .2) (omega arith) (omega arith)) (c .before .before .add .ensures .0)
 
 sub-j-2 : tie.Need-sub-j-2
 sub-j-2 c = omega arith
@@ -109,7 +109,7 @@ element-copy-out-result-4 c = search needs
 returns-4 : tie.Need-returns-4
 returns-4 c =
     let a = c .before .before .before .before .before .before .before .before .before in
-    holds-21 (a .args .table .now) (a .args .trace .now) (a .args .claim .now) (a .args .row .0) (a .args .constraint) _ (c .before .before .before .before .before .before .start .ensures) (omega arith) (omega arith) (is-forward (a .pre .2) (a .pre .3) (omega arith) (omega arith)) (is-back (a .pre .2) (a .pre .3) (omega arith) (omega arith))
+    holds-21 (a .args .table .now) (a .args .trace .now) (a .args .claim .now) (a .args .row .0) (a .args .constraint) _ (c .before .before .before .before .before .before .start .ensures) (omega arith) (omega arith) (is-forward (a .pre .1) (a .pre .2) (omega arith) (omega arith)) (is-back (a .pre .1) (a .pre .2) (omega arith) (omega arith))
 
 sub-j-3 : tie.Need-sub-j-3
 sub-j-3 c = omega arith
@@ -130,12 +130,12 @@ mul-result-8 : tie.Need-mul-result-8
 mul-result-8 c = omega arith
 
 shared-slice-read-result-3 : tie.Need-shared-slice-read-result-3
-shared-slice-read-result-3 c = omega (arith, next-row (c .before .before .before .before .before .before .before .before .before .before .pre .2) (omega arith) (omega arith))
+shared-slice-read-result-3 c = omega (arith, next-row (c .before .before .before .before .before .before .before .before .before .before .pre .1) (omega arith) (omega arith))
 
 returns-5 : tie.Need-returns-5
 returns-5 c =
     let a = c .before .before .before .before .before .before .before .before .before .before in
-    holds-33 (a .args .table .now) (a .args .trace .now) (a .args .claim .now) (a .args .row .0) (a .args .constraint) _ (c .before .before .before .before .before .before .before .start .ensures) (omega arith) (omega arith) (is-forward (a .pre .2) (a .pre .3) (omega arith) (omega arith))
+    holds-33 (a .args .table .now) (a .args .trace .now) (a .args .claim .now) (a .args .row .0) (a .args .constraint) _ (c .before .before .before .before .before .before .before .start .ensures) (omega arith) (omega arith) (is-forward (a .pre .1) (a .pre .2) (omega arith) (omega arith))
 
 sub-j-4 : tie.Need-sub-j-4
 sub-j-4 c = omega arith
@@ -159,7 +159,7 @@ mul-result-10 : tie.Need-mul-result-10
 mul-result-10 c = omega arith
 
 shared-slice-read-result-5 : tie.Need-shared-slice-read-result-5
-shared-slice-read-result-5 c = omega (arith, next-row (c .before .before .before .before .before .before .before .before .before .before .before .pre .2) (omega arith) (omega arith))
+shared-slice-read-result-5 c = omega (arith, next-row (c .before .before .before .before .before .before .before .before .before .before .before .pre .1) (omega arith) (omega arith))
 
 returns-6 : tie.Need-returns-6
 returns-6 c =
@@ -170,24 +170,24 @@ sub-j-5 : tie.Need-sub-j-5
 sub-j-5 c = omega arith
 
 add-result-9 : tie.Need-add-result-9
-add-result-9 c = omega (arith, to-last (c .before .before .before .before .before .before .before .before .before .pre .2))
+add-result-9 c = omega (arith, to-last (c .before .before .before .before .before .before .before .before .before .pre .1))
 
 mul-result-11 : tie.Need-mul-result-11
-mul-result-11 c = omega (arith, to-last (c .before .before .before .before .before .before .before .before .before .pre .2))
+mul-result-11 c = omega (arith, to-last (c .before .before .before .before .before .before .before .before .before .pre .1))
 
 shared-slice-read-result-6 : tie.Need-shared-slice-read-result-6
-shared-slice-read-result-6 c = omega (arith, to-last (c .before .before .before .before .before .before .before .before .before .before .pre .2))
+shared-slice-read-result-6 c = omega (arith, to-last (c .before .before .before .before .before .before .before .before .before .before .pre .1))
 
 mul-result-12 : tie.Need-mul-result-12
-mul-result-12 c = omega (arith, to-last (c .before .before .before .before .before .before .before .before .before .before .pre .2))
+mul-result-12 c = omega (arith, to-last (c .before .before .before .before .before .before .before .before .before .before .pre .1))
 
 element-copy-out-result-6 : tie.Need-element-copy-out-result-6
-element-copy-out-result-6 c = omega (arith, to-last (c .before .before .before .before .before .before .before .before .before .before .pre .2))
+element-copy-out-result-6 c = omega (arith, to-last (c .before .before .before .before .before .before .before .before .before .before .pre .1))
 
 returns-7 : tie.Need-returns-7
 returns-7 c =
     let a = c .before .before .before .before .before .before .before .before .before .before .before in
-    holds-49 (a .args .table .now) (a .args .trace .now) (a .args .claim .now) (a .args .row .0) (a .args .constraint) _ (c .before .before .before .before .before .before .before .before .start .ensures) (omega arith) (to-last (a .pre .2))
+    holds-49 (a .args .table .now) (a .args .trace .now) (a .args .claim .now) (a .args .row .0) (a .args .constraint) _ (c .before .before .before .before .before .before .before .before .start .ensures) (omega arith) (to-last (a .pre .1))
 
 pub holds-spec : {M : Type 1} → statement M
 holds-spec =
