@@ -1,14 +1,14 @@
 -- The 52 constraints as equations between cells: every test of a trace holds exactly where these equations do.
 -- Assumes nothing.
 use mathlib.Core.Path.{_≡_, refl, sym, ap, _∙_}
-use mathlib.Core.Bool.{Bool, true, false}
+use mathlib.Core.Bool.{true, false}
 use mathlib.Core.List.{List}
 use Prim.Native.Nat.{ℕ, _+_, _*_, _-_, _≤_, _<_}
 use native.Mathlib.Decide.{decLt}
 use native.Mathlib.Omega.{arith}
 use borrow.Author.Tests.{le-leb, lt-leb, eq-eqb, eqb-true}
-use lib.Dec.{leb, eqb}
-use Rattle.lists.specs.Lists.{choose, cell}
+use lib.Dec.{eqb}
+use Rattle.lists.specs.Lists.{cell}
 use Rattle.field.specs.Field.{add}
 use Rattle.table.specs.Table.{constant}
 use Rattle.constraints.specs.Constraints.{row, within, entering, forward, back, applies, holds}
@@ -94,14 +94,15 @@ module _ (T t claim : List ℕ) where
   -- ---- and the equations hold where the tests do
   pub hold-equations : (k : ℕ) → ((i c : ℕ) → i < 32 * k → applies k i c ≡ true → holds T t claim i c ≡ true) → Equations T t claim k
   hold-equations k a = record {
-      zero-columns = λ i j l r h. eqb-true _ _ (sym (at-zero-columns i j h) ∙ test i (1 + j) l (families.zero-columns j h refl r));
-      new-zeros = λ i j l r h. eqb-true _ _ (sym (at-new-zeros i j h) ∙ test i (5 + j) l (families.new-zeros j h refl r));
-      starts = λ i j l r h. eqb-true _ _ (sym (at-starts i j h) ∙ test i (9 + j) l (families.starts j h refl r));
-      output-kept = λ i j l r s h. eqb-true _ _ (sym (at-goes-on i j (omega arith)) ∙ test i (21 + j) l (families.output-kept j h refl r s));
-      goes-on = λ i j l r s m h. eqb-true _ _ (sym (at-goes-on i j h) ∙ test i (21 + j) l (column i j (decLt j 4) h r s m));
-      ends = λ i j l r h. eqb-true _ _ (sym (at-ends i j h) ∙ test i (33 + j) l (families.ends j h refl r));
-      joins = λ i j l r m h. eqb-true _ _ (sym (at-joins i j h) ∙ test i (45 + j) l (families.joins j h refl r m));
-      claims = λ i j l r h. eqb-true _ _ (sym (at-claims i j h) ∙ test i (49 + j) l (families.claims j h refl r)) }
+    zero-columns = λ i j l r h. eqb-true _ _ (sym (at-zero-columns i j h) ∙ test i (1 + j) l (families.zero-columns j h refl r));
+    new-zeros = λ i j l r h. eqb-true _ _ (sym (at-new-zeros i j h) ∙ test i (5 + j) l (families.new-zeros j h refl r));
+    starts = λ i j l r h. eqb-true _ _ (sym (at-starts i j h) ∙ test i (9 + j) l (families.starts j h refl r));
+    output-kept = λ i j l r s h. eqb-true _ _ (sym (at-goes-on i j (omega arith)) ∙ test i (21 + j) l (families.output-kept j h refl r s));
+    goes-on = λ i j l r s m h. eqb-true _ _ (sym (at-goes-on i j h) ∙ test i (21 + j) l (column i j (decLt j 4) h r s m));
+    ends = λ i j l r h. eqb-true _ _ (sym (at-ends i j h) ∙ test i (33 + j) l (families.ends j h refl r));
+    joins = λ i j l r m h. eqb-true _ _ (sym (at-joins i j h) ∙ test i (45 + j) l (families.joins j h refl r m));
+    claims = λ i j l r h. eqb-true _ _ (sym (at-claims i j h) ∙ test i (49 + j) l (families.claims j h refl r));
+  }
     where
       test : (i c : ℕ) → i < 32 * k → Applies k i c → holds T t claim i c ≡ true
       test i c l y = a i c l (applies-yes k i c y)

@@ -1,20 +1,19 @@
 -- Forward and back of a row, by the hash h and the round j whose middle state it is to hold: row `firstRow h + j`.
 -- Assumes nothing.
-use mathlib.Core.Path.{_≡_, refl, sym, ap, ap₂, _∙_}
-use mathlib.Core.Bool.{Bool, true, false, _||_, or-true}
+use mathlib.Core.Path.{_≡_, sym, ap, _∙_}
+use mathlib.Core.Bool.{true, false, or-true}
 use mathlib.Core.Logic.{_⊎_, inl, inr, ⊎-map, ⊎-elim}
 use mathlib.Core.List.{List}
 use Prim.Native.Nat.{ℕ, _+_, _*_, _-_, _/_, _%_, _≤_, _<_}
 use native.Mathlib.Decide.{ℕ-discrete}
 use native.Mathlib.Omega.{arith}
-use borrow.Author.Tests.{eq-eqb, ne-eqb, eqb-true, eqb-false}
+use borrow.Author.Tests.{eq-eqb, ne-eqb, eqb-true}
 use lib.Dec.{eqb}
-use lib.ListN.{length, take}
-use Rattle.lists.specs.Lists.{choose, cell}
+use lib.ListN.{take}
+use Rattle.lists.specs.Lists.{cell}
 use Rattle.field.specs.Field.{add}
-use Rattle.words.specs.Words.{AllCanonical}
 use Rattle.table.specs.Table.{IsTable, constant}
-use Rattle.hash.specs.Hash.{plus, firstStep, secondStep}
+use Rattle.hash.specs.Hash.{firstStep, secondStep}
 use Rattle.hash.proofs.States.{IsState, cell-plus}
 use Rattle.hash.proofs.Inputs.{cell-take}
 use Rattle.constraints.specs.Constraints.{row, within, round, entering, forward, backStep, back}
@@ -83,7 +82,7 @@ module _ (T t : List ℕ) (h j : ℕ) (l : j < 10) where
 
   -- and columns 0 to 3 where one does
   pub forward-enters : entering (firstRow h + j) ≡ true → (c : ℕ) → c < 4
-    → cell (forward T t (firstRow h + j)) c ≡ add (cell (secondStep T j (row t (firstRow h + j))) c) (cell (constant T 0) c)
+      → cell (forward T t (firstRow h + j)) c ≡ add (cell (secondStep T j (row t (firstRow h + j))) c) (cell (constant T 0) c)
   unfolding forward
   forward-enters e c q =
       rw (e, round-of h j l)

@@ -6,3 +6,4 @@ pub mod TestCount
 pub mod TestList
 pub mod WalkLaws
 pub mod ForwardBack
+pub mod TestOrder

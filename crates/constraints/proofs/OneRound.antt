@@ -1,11 +1,11 @@
 -- One step there and back: `backStep` undoes `firstStep`, and `firstStep` undoes `backStep`, on states of twelve canonical cells.
 -- Assumes nothing.
-use mathlib.Core.Path.{_≡_, refl, sym, ap, _∙_}
+use mathlib.Core.Path.{_≡_, ap, _∙_}
 use mathlib.Core.List.{List}
-use Prim.Native.Nat.{ℕ, _+_, _*_, _-_, _%_, _≤_, _<_}
+use Prim.Native.Nat.{ℕ, _+_, _*_, _<_}
 use native.Mathlib.Nat.{mod-lt}
 use native.Mathlib.Omega.{arith}
-use Rattle.lists.specs.Lists.{cell, tab}
+use Rattle.lists.specs.Lists.{cell}
 use Rattle.lists.proofs.Tab.{cell-tab}
 use Rattle.field.specs.Field.{P, add, sub, cube, root}
 use Rattle.field.proofs.Fermat.{cube-root, root-cube}

@@ -2,8 +2,7 @@
 -- Assumes nothing.
 use mathlib.Core.Path.{_≡_, refl, sym, ap, ap₂, _∙_}
 use mathlib.Core.Bool.{Bool, true, false, _&&_, _||_, not}
-use mathlib.Core.List.{List, [], _∷_, _++_}
-use Prim.Native.Nat.{ℕ, zero, suc, _+_, _*_, _%_, _≤_, _<_}
+use Prim.Native.Nat.{ℕ, zero, suc, _+_, _*_, _%_, _<_}
 use native.Mathlib.Nat.{add-assoc}
 use native.Mathlib.Decide.{decLt}
 use native.Mathlib.Omega.{arith}
@@ -13,7 +12,7 @@ use lib.ListN.{length, length-append}
 use Rattle.lists.specs.Lists.{choose, sum, first}
 use Rattle.lists.proofs.First.{none-first}
 use Rattle.lists.proofs.Sum.{sum-ext, sum-split, sum-suc, sum-zero}
-use Rattle.constraints.specs.Constraints.{Test, keep, within, between, applies, rowTests, testsFrom, tests}
+use Rattle.constraints.specs.Constraints.{keep, within, between, applies, rowTests, testsFrom, tests}
 
 -- the tests at row r of a batch
 abbrev pub testsAt : ℕ → ℕ
@@ -35,7 +34,7 @@ length-rowTests k i c zero = refl
 length-rowTests k i c (suc n) = go (applies k i c) (length-rowTests k i (c + 1) n)
   where
     go : (b : Bool) → length (rowTests k i (c + 1) n) ≡ count (applies k i) (c + 1) n
-      → length (keep b (record { at = i; number = c }) (rowTests k i (c + 1) n)) ≡ choose b 1 0 + count (applies k i) (c + 1) n
+        → length (keep b (record { at = i; number = c }) (rowTests k i (c + 1) n)) ≡ choose b 1 0 + count (applies k i) (c + 1) n
     go true e = omega arith
     go false e = omega arith
 

@@ -4,9 +4,9 @@ use mathlib.Core.Path.{_≡_, refl, sym, ap, _∙_, subst, subst₃}
 use mathlib.Core.Bool.{Bool, true, false}
 use mathlib.Core.Logic.{_⊎_, inl, inr}
 use mathlib.Core.List.{List, [], _∷_, _++_, List·Memᴰ, List·Memᴰ·cases-cons, List·Memᴰ·not-nil, Memᴰ·append-right}
-use Prim.Native.Nat.{ℕ, zero, suc, _+_, _≤_}
+use Prim.Native.Nat.{ℕ, suc, _+_}
 use native.Mathlib.Omega.{arith}
-use lib.ListN.{length, length-append}
+use lib.ListN.{length}
 use Rattle.lists.specs.Lists.{choose}
 use Rattle.counts.specs.declared.RowNumber.{RowNumber}
 use Rattle.refusals.specs.declared.Refusal.the-variants.{Constraint}
@@ -36,12 +36,13 @@ module _ (T t claim : List ℕ) where
   one-more-end x xs n r e (stops i c place f m p) =
       stops i c (place + 1)
       (record {
-          before = x ∷ f .before;
-          after = f .after;
-          order = ap (λ l. x ∷ l) (f .order);
-          passed = one-more-holds x (f .before) e (f .passed);
-          fails = f .fails;
-          place = omega (arith, f .place) })
+        before = x ∷ f .before;
+        after = f .after;
+        order = ap (λ l. x ∷ l) (f .order);
+        passed = one-more-holds x (f .before) e (f .passed);
+        fails = f .fails;
+        place = omega (arith, f .place);
+      })
       m (omega arith)
 
   pub walk-ends : (xs : List Test) (n : ℕ) → Ends xs n (walk T t claim xs n)
@@ -50,7 +51,7 @@ module _ (T t claim : List ℕ) where
   walk-ends (x ∷ xs) n = go (holds T t claim (x .at) (x .number)) refl (walk-ends xs (n + 1))
     where
       go : (b : Bool) → holds T t claim (x .at) (x .number) ≡ b → Ends xs (n + 1) (walk T t claim xs (n + 1))
-        → Ends (x ∷ xs) n (choose b (walk T t claim xs (n + 1)) (Refused (Constraint (record { 0 = x .at }) (x .number) (n + 1))))
+          → Ends (x ∷ xs) n (choose b (walk T t claim xs (n + 1)) (Refused (Constraint (record { 0 = x .at }) (x .number) (n + 1))))
       go true e r = one-more-end x xs n _ e r
       go false e r =
           stops (x .at) (x .number) 1
@@ -66,6 +67,18 @@ module _ (T t claim : List ℕ) where
 
       yes-and-no : (b : Bool) → b ≡ true → b ≡ false → ⊥
       yes-and-no b p q = let z : _≡_ {A = ℕ} 0 1 = cc in omega arith
+
+  -- a walk stops at the test that fails, where all before it hold
+  walk-stops : (xs : List Test) (i c : ℕ) (rest : List Test) (n : ℕ) → AllHold T t claim xs → holds T t claim i c ≡ false
+      → walk T t claim (xs ++ record { at = i; number = c } ∷ rest) n ≡ Refused (Constraint (record { 0 = i }) c (n + (length xs + 1)))
+  unfolding walk
+  walk-stops [] i c rest n a e =
+      let z : n + 1 ≡ n + (0 + 1) = omega arith in
+      rw e (ap (λ m. Refused (Constraint (record { 0 = i }) c m)) z)
+  walk-stops (x ∷ xs) i c rest n a e =
+      let z : n + 1 + (length xs + 1) ≡ n + (suc (length xs) + 1) = omega arith in
+      rw (a x (List·Memᴰ.List·Memᴰ·head refl))
+      (walk-stops xs i c rest (n + 1) (λ y m. a y (List·Memᴰ.List·Memᴰ·tail m)) e ∙ ap (λ m. Refused (Constraint (record { 0 = i }) c m)) z)
 
   -- ---- the verdict
   module _ (k : ℕ) where
@@ -113,9 +126,17 @@ module _ (T t claim : List ℕ) where
             let w : place ≡ n = omega arith in
             subst₃ (λ u v l. IsFirstFailing T t claim (tests k) u v l) x y w f
 
+    pub first-failing-refused : (i c n : ℕ) → IsFirstFailing T t claim (tests k) i c n → verdict T t claim k ≡ Refused (Constraint (record { 0 = i }) c n)
+    unfolding verdict
+    first-failing-refused i c n f =
+        let z : 0 + (length (f .before) + 1) ≡ n = omega (arith, f .place) in
+        ap (λ l. walk T t claim l 0) (f .order)
+        ∙ walk-stops (f .before) i c (f .after) 0 (f .passed) (f .fails)
+        ∙ ap (λ m. Refused (Constraint (record { 0 = i }) c m)) z
+
     -- and every trace that is not accepted is refused so
     pub else-first-failing : ((n : ℕ) → verdict T t claim k ≡ Accepted n → ⊥)
-      → (i : ℕ) × (c : ℕ) × (n : ℕ) × (verdict T t claim k ≡ Refused (Constraint (record { 0 = i }) c n))
+        → (i : ℕ) × (c : ℕ) × (n : ℕ) × (verdict T t claim k ≡ Refused (Constraint (record { 0 = i }) c n))
     else-first-failing never = go (verdict T t claim k) verdict-ends never
       where
         go : (r : Checked) → Ends (tests k) 0 r → ((n : ℕ) → r ≡ Accepted n → ⊥) → (i : ℕ) × (c : ℕ) × (n : ℕ) × (r ≡ Refused (Constraint (record { 0 = i }) c n))

@@ -1,22 +1,20 @@
 -- The section 3.1 trace of a list of canonical taps, with the chain's output as the claim, meets the equations of the 52 constraints, and the list is read off it again.
 -- Assumes nothing.
-use mathlib.Core.Path.{_≡_, refl, sym, ap, ap₂, _∙_, subst}
+use mathlib.Core.Path.{_≡_, refl, sym, ap, _∙_}
 use mathlib.Core.Bool.{Bool, true, false}
 use mathlib.Core.List.{List}
-use mathlib.Core.Logic.{_⊎_, inl, inr, ⊎-elim}
-use Prim.Native.Nat.{ℕ, zero, suc, _+_, _*_, _-_, _/_, _%_, _≤_, _<_}
+use Prim.Native.Nat.{ℕ, suc, _+_, _*_, _-_, _/_, _%_, _≤_, _<_}
 use native.Mathlib.Nat.{add-zero, zero-add}
-use native.Mathlib.Numerals.{add-one}
 use native.Mathlib.Decide.{ℕ-discrete, decLt}
 use native.Mathlib.Omega.{arith}
 use borrow.Author.Tests.{eq-eqb, ne-eqb}
-use lib.ListN.{length, take}
+use lib.ListN.{length}
 use Rattle.lists.specs.Lists.{cell}
 use Rattle.field.specs.Field.{P, add}
 use Rattle.words.specs.Words.{AllCanonical}
 use Rattle.table.specs.Table.{IsTable, constant}
-use Rattle.hash.specs.Hash.{plus, tap, firstStep, secondStep, outputAt, chain, stateAt, middleState, finalState}
-use Rattle.hash.proofs.States.{IsState, state-cell, same-cells, cell-plus, stateAt-zero, stateAt-suc, stateAt-state, constant-state}
+use Rattle.hash.specs.Hash.{plus, secondStep, chain, stateAt, middleState, finalState}
+use Rattle.hash.proofs.States.{state-cell, same-cells, cell-plus, stateAt-zero, stateAt-suc, stateAt-state, constant-state}
 use Rattle.hash.proofs.Inputs.{cell-take, cell-tap, output-zero}
 use Rattle.trace.specs.Trace.{hashInput, traceRow, trace}
 use Rattle.trace.proofs.RowKinds.{row-start, row-middle, row-end}

@@ -1,12 +1,10 @@
 -- Exactness (document 00, demand 3): for every accepted table, permitted k, and trace and claim of words below p, what acceptance and refusal mean.
--- They hold for every invertible M: no maximum-distance property is asked for. The claim needs only its length here, since one with a word of p or above fails constraints 49 to 52.
+-- They hold for every invertible M: no maximum-distance property is asked for. Of the claim only the length is asked, since no output holds a word of p or above.
 -- Assumes nothing.
-use mathlib.Core.Path.{_≡_, refl, sym, ap, _∙_, subst}
-use mathlib.Core.Bool.{true}
+use mathlib.Core.Path.{_≡_, sym, ap, _∙_}
 use mathlib.Core.Logic.{_↔_}
-use mathlib.Core.List.{List, List·Memᴰ}
-use Prim.Native.Nat.{ℕ, _+_, _*_, _≤_, _<_}
-use native.Mathlib.Omega.{arith}
+use mathlib.Core.List.{List}
+use Prim.Native.Nat.{ℕ, _+_, _*_}
 use lib.ListN.{length}
 use Rattle.words.specs.Words.{AllCanonical}
 use Rattle.counts.specs.Counts.{IsPermitted}
@@ -15,7 +13,7 @@ use Rattle.refusals.specs.declared.Checked.the-variants.{Accepted, Refused}
 use Rattle.table.specs.Table.{IsTable}
 use Rattle.hash.specs.Hash.{chain}
 use Rattle.trace.specs.Trace.{trace}
-use Rattle.constraints.specs.Constraints.{Test, applies, holds, tests, verdict}
+use Rattle.constraints.specs.Constraints.{tests, verdict}
 use Rattle.constraints.specs.FirstFailing.{AllHold, IsFirstFailing}
 use Rattle.constraints.specs.ReadOff.{readTaps}
 use Rattle.constraints.proofs.Equations.{Equations, equations-hold, hold-equations}
@@ -28,19 +26,21 @@ use Rattle.exact.proofs.Built.{reads-back, meets-equations}
 
 -- every test of the order holds exactly where the equations do
 tests-say : (T t claim : List ℕ) (k : ℕ) → AllHold T t claim (tests k) ↔ Equations T t claim k
-tests-say T t claim k =
-    (λ a. hold-equations T t claim k (λ i c l e. a (record { at = i; number = c }) (test-list k (record { at = i; number = c }) .1 (l, e))),
-    λ q x m. (let s = test-list k x .0 m in equations-hold T t claim k q (x .at) (x .number) (s .0) (s .1)))
+tests-say T t claim k = (
+  λ a. hold-equations T t claim k (λ i c l e. a (record { at = i; number = c }) (test-list k (record { at = i; number = c }) .1 (l, e))),
+  λ q x m. (let s = test-list k x .0 m in equations-hold T t claim k q (x .at) (x .number) (s .0) (s .1)),
+)
 
 -- ---- lists of taps and the traces built from them
 module _ (T : List ℕ) (k : ℕ) (table : IsTable T) (permitted : IsPermitted k) where
   -- a built trace is accepted under the output its building returned, and reading it off yields the taps that it was built from
   pub reading-off-a-built-trace : (w : List ℕ) → length w ≡ 12 * k + 4 → AllCanonical w
-    → (verdict T (trace T w k) (chain T w k) k ≡ Accepted (372 * k)) × (readTaps T (trace T w k) k ≡ w)
-  reading-off-a-built-trace w size canonical =
-      (walks.all-hold-accepted T (trace T w k) (chain T w k) k (tests-say T (trace T w k) (chain T w k) k .1 (meets-equations T w k table size canonical))
-      ∙ ap Accepted (length-tests k),
-      reads-back T w k table size canonical (permitted .low))
+      → (verdict T (trace T w k) (chain T w k) k ≡ Accepted (372 * k)) × (readTaps T (trace T w k) k ≡ w)
+  reading-off-a-built-trace w size canonical = (
+    walks.all-hold-accepted T (trace T w k) (chain T w k) k (tests-say T (trace T w k) (chain T w k) k .1 (meets-equations T w k table size canonical))
+        ∙ ap Accepted (length-tests k),
+    reads-back T w k table size canonical (permitted .low),
+  )
 
   -- two lists that have the same trace are the same
   pub one-list-a-trace : (w v : List ℕ) → length w ≡ 12 * k + 4 → AllCanonical w → length v ≡ 12 * k + 4 → AllCanonical v → trace T w k ≡ trace T v k → w ≡ v
@@ -73,9 +73,12 @@ module _ (T t claim : List ℕ) (k : ℕ) (table : IsTable T) (permitted : IsPer
   pub only-one : (w v : List ℕ) → IsListFor T t claim k w → IsListFor T t claim k v → w ≡ v
   only-one w v l m = one-list-a-trace T k table permitted w v (l .size) (l .canonical) (m .size) (m .canonical) (l .traced ∙ sym (m .traced))
 
-  -- otherwise refused with 11, and with row, constraint and place of the first test of the order that fails
-  pub first-failing : (((w : List ℕ) × IsListFor T t claim k w) → ⊥)
-    → (i : ℕ) × (c : ℕ) × (n : ℕ) × (verdict T t claim k ≡ Refused (Constraint (record { 0 = i }) c n)) × IsFirstFailing T t claim (tests k) i c n
-  first-failing none =
-      let r = walks.else-first-failing T t claim k (λ n e. none (readTaps T t k, reads-that-list n e)) in
+  -- a trace that is not accepted is refused with 11, and with row, constraint and place of the first test of the order that fails
+  pub first-failing : (verdict T t claim k ≡ Accepted (372 * k) → ⊥)
+      → (i : ℕ) × (c : ℕ) × (n : ℕ) × (verdict T t claim k ≡ Refused (Constraint (record { 0 = i }) c n)) × IsFirstFailing T t claim (tests k) i c n
+  first-failing never =
+      let r = walks.else-first-failing T t claim k (λ n e. never (e ∙ ap Accepted (whole-order n e .1))) in
       (r .0, r .1, r .2, r .3, walks.refused-first-failing T t claim k (r .0) (r .1) (r .2) (r .3))
+
+  pub refuses-exactly : (i c n : ℕ) → (verdict T t claim k ≡ Refused (Constraint (record { 0 = i }) c n)) ↔ IsFirstFailing T t claim (tests k) i c n
+  refuses-exactly i c n = (walks.refused-first-failing T t claim k i c n, walks.first-failing-refused T t claim k i c n)

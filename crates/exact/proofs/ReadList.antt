@@ -1,6 +1,6 @@
 -- A trace whose tests hold is the section 3.1 trace of the list that is read off it, and that list chains to the claim.
 -- Assumes nothing.
-use mathlib.Core.Path.{_≡_, refl, sym, ap, ap₂, _∙_, subst}
+use mathlib.Core.Path.{_≡_, refl, sym, ap, _∙_, subst}
 use mathlib.Core.List.{List}
 use Prim.Native.Nat.{ℕ, zero, suc, _+_, _*_, _-_, _/_, _%_, _≤_, _<_}
 use native.Mathlib.Nat.{zero-add}
@@ -8,20 +8,20 @@ use native.Mathlib.Numerals.{add-one}
 use native.Mathlib.Decide.{decLt}
 use native.Mathlib.Omega.{arith}
 use borrow.Author.Tests.{lt-ltb, le-ltb}
-use lib.ListN.{length, take}
-use Rattle.lists.specs.Lists.{choose, cell, tab}
+use lib.ListN.{length}
+use Rattle.lists.specs.Lists.{cell}
 use Rattle.lists.proofs.Tab.{length-tab, cell-tab}
 use Rattle.field.specs.Field.{P}
 use Rattle.words.specs.Words.{AllCanonical}
 use Rattle.table.specs.Table.{IsTable}
-use Rattle.hash.specs.Hash.{tap, outputAt, chain, middleState, finalState}
-use Rattle.hash.proofs.States.{IsState, state-cell, same-state, same-cells}
+use Rattle.hash.specs.Hash.{outputAt, chain, middleState, finalState}
+use Rattle.hash.proofs.States.{state-cell, same-state, same-cells}
 use Rattle.hash.proofs.Inputs.{by-fours, cell-take, cell-tap, output-zero}
 use Rattle.trace.specs.Trace.{hashInput, traceRow, trace}
 use Rattle.trace.proofs.RowKinds.{RowKind, start, middle, end, row-kind, row-start, row-middle, row-end}
 use Rattle.trace.proofs.TraceCells.{length-trace, cell-trace, next-output, output-is-tap, hashInput-state, input-output, input-next-tap, input-zeros, traceRow-state}
 use Rattle.constraints.specs.Constraints.{row}
-use Rattle.constraints.specs.ReadOff.{firstRow, readInput, readWord, readTaps}
+use Rattle.constraints.specs.ReadOff.{readInput, readWord, readTaps}
 use Rattle.constraints.proofs.RowCells.{cell-row, length-row, same-rows}
 use Rattle.constraints.proofs.Equations.{Equations}
 use Rattle.exact.specs.Exact.{IsListFor}
@@ -55,7 +55,7 @@ row-of-trace T w k size canonical i l =
     (λ j h. cell-row (trace T w k) i j h ∙ cell-trace T w k i j l h)
 
 module _ (T t claim : List ℕ) (k : ℕ) (accepted : IsTable T) (some : 1 ≤ k) (size : length t ≡ 384 * k) (canonical : AllCanonical t)
-  (four : length claim ≡ 4) (q : Equations T t claim k) where
+    (four : length claim ≡ 4) (q : Equations T t claim k) where
   read-canonical : AllCanonical (readTaps T t k)
   read-canonical n l = go (decLt n 4)
     where
@@ -72,7 +72,7 @@ module _ (T t claim : List ℕ) (k : ℕ) (accepted : IsTable T) (some : 1 ≤ k
 
   -- ---- the inputs along the chain are those that were read off
   input-from-output : (h : ℕ) → h < 3 * k → ((j : ℕ) → j < 4 → cell (outputAt T (readTaps T t k) h) j ≡ cell (readInput T t h) j)
-    → hashInput T (readTaps T t k) h ≡ readInput T t h
+      → hashInput T (readTaps T t k) h ≡ readInput T t h
   input-from-output h l left =
       same-state (hashInput-state T w k (length-read T t k) read-canonical h l) (sound.read-state T t claim k accepted size canonical q h l)
       (by-fours (λ j. cell (hashInput T w h) j ≡ cell (readInput T t h) j)
@@ -87,20 +87,20 @@ module _ (T t claim : List ℕ) (k : ℕ) (accepted : IsTable T) (some : 1 ≤ k
   input-read zero l =
       input-from-output 0 l
       (λ j m.
-        ap (λ s. cell s j) (output-zero T (readTaps T t k))
-        ∙ cell-tap (readTaps T t k) 0 j m
-        ∙ ap (cell (readTaps T t k)) (zero-add j)
-        ∙ first-tap-read T t k j m
-        ∙ ap (λ s. cell s j) (sym (sound.start-read T t claim k accepted size canonical q 0 refl)))
+      ap (λ s. cell s j) (output-zero T (readTaps T t k))
+      ∙ cell-tap (readTaps T t k) 0 j m
+      ∙ ap (cell (readTaps T t k)) (zero-add j)
+      ∙ first-tap-read T t k j m
+      ∙ ap (λ s. cell s j) (sym (sound.start-read T t claim k accepted size canonical q 0 refl)))
   input-read (suc h) l =
       input-from-output (suc h) l
       (λ j m.
-        ap (λ n. cell (outputAt T (readTaps T t k) n) j) (sym (add-one h))
-        ∙ ap (λ s. cell s j) (next-output T (readTaps T t k) h)
-        ∙ cell-take (finalState T (hashInput T (readTaps T t k) h)) j m
-        ∙ ap (λ s. cell (finalState T s) j) (input-read h (omega arith))
-        ∙ sym (sound.output-read T t claim k accepted size canonical q h j (omega arith) m)
-        ∙ ap (λ n. cell (readInput T t n) j) (add-one h))
+      ap (λ n. cell (outputAt T (readTaps T t k) n) j) (sym (add-one h))
+      ∙ ap (λ s. cell s j) (next-output T (readTaps T t k) h)
+      ∙ cell-take (finalState T (hashInput T (readTaps T t k) h)) j m
+      ∙ ap (λ s. cell (finalState T s) j) (input-read h (omega arith))
+      ∙ sym (sound.output-read T t claim k accepted size canonical q h j (omega arith) m)
+      ∙ ap (λ n. cell (readInput T t n) j) (add-one h))
 
   -- ---- so every row is that of the list's trace
   row-read : (i : ℕ) → i < 32 * k → row t i ≡ traceRow T (readTaps T t k) i
@@ -143,11 +143,11 @@ module _ (T t claim : List ℕ) (k : ℕ) (accepted : IsTable T) (some : 1 ≤ k
   chain-read =
       same-cells 4 (outputAt T (readTaps T t k) (3 * k)) claim (output-is-tap T (readTaps T t k) k (length-read T t k) read-canonical (3 * k) .size) four
       (λ j m.
-        ap (λ n. cell (outputAt T (readTaps T t k) n) j) last
-        ∙ ap (λ s. cell s j) (next-output T (readTaps T t k) (3 * k - 1))
-        ∙ cell-take (finalState T (hashInput T (readTaps T t k) (3 * k - 1))) j m
-        ∙ ap (λ s. cell (finalState T s) j) (input-read (3 * k - 1) (omega arith))
-        ∙ sym (sound.claim-read T t claim k accepted size canonical q j some m))
+      ap (λ n. cell (outputAt T (readTaps T t k) n) j) last
+      ∙ ap (λ s. cell s j) (next-output T (readTaps T t k) (3 * k - 1))
+      ∙ cell-take (finalState T (hashInput T (readTaps T t k) (3 * k - 1))) j m
+      ∙ ap (λ s. cell (finalState T s) j) (input-read (3 * k - 1) (omega arith))
+      ∙ sym (sound.claim-read T t claim k accepted size canonical q j some m))
     where
       last : 3 * k ≡ 3 * k - 1 + 1
       last = omega arith

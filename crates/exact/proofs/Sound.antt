@@ -1,7 +1,7 @@
 -- From the equations of the 52 constraints to the middle states: every row of a trace that meets them holds what the hash of the input read off gives there.
 -- Assumes nothing.
-use mathlib.Core.Path.{_≡_, refl, sym, ap, ap₂, _∙_, subst}
-use mathlib.Core.Bool.{true, false}
+use mathlib.Core.Path.{_≡_, sym, ap, _∙_, subst}
+use mathlib.Core.Bool.{false}
 use mathlib.Core.List.{List}
 use Prim.Native.Nat.{ℕ, zero, suc, _+_, _*_, _-_, _/_, _%_, _≤_, _<_}
 use native.Mathlib.Nat.{add-zero}
@@ -17,7 +17,7 @@ use Rattle.hash.specs.Hash.{plus, firstStep, secondStep, stateAt, middleState, 
 use Rattle.hash.proofs.States.{IsState, state-cell, same-state, cell-plus, plus-state, secondStep-state, stateAt-zero, stateAt-suc, finalState-state, constant-state}
 use Rattle.constraints.specs.Constraints.{row, within, entering, forward, minus, back}
 use Rattle.constraints.specs.ReadOff.{firstRow, readInput}
-use Rattle.constraints.proofs.OneRound.{minus-state, cell-minus, plus-minus, minus-plus}
+use Rattle.constraints.proofs.OneRound.{minus-state, cell-minus, plus-minus}
 use Rattle.constraints.proofs.RowCells.{row-state}
 use Rattle.constraints.proofs.Equations.{Equations}
 use Rattle.constraints.proofs.ForwardBack.{enters-not, entering-row, within-of, back-state, forward-is, forward-enters, row-from-back}

@@ -10,8 +10,8 @@ use lib.Seq.{getD-take, getD-drop, getD-append-add}
 use Rattle.lists.specs.Lists.{cell}
 use Rattle.field.specs.Field.{P}
 use Rattle.words.specs.Words.{AllCanonical}
-use Rattle.hash.specs.Hash.{finalState, input, hash, tap, outputAt, chain}
-use Rattle.hash.proofs.States.{IsState, cell-lt, state-cell, finalState-state, same-cells}
+use Rattle.hash.specs.Hash.{finalState, input, hash, tap, outputAt}
+use Rattle.hash.proofs.States.{IsState, cell-lt, finalState-state}
 
 -- four canonical cells: a tap or an output
 pub record IsTap (s : List ℕ) : Type 0 where

@@ -1,19 +1,19 @@
 -- States: every step of the hash gives twelve canonical cells, and each cell of its result is given.
 -- Assumes nothing.
-use mathlib.Core.Path.{_≡_, refl, sym, ap, _∙_}
+use mathlib.Core.Path.{_≡_, refl, sym, _∙_}
 use mathlib.Core.List.{List}
-use Prim.Native.Nat.{ℕ, zero, suc, _+_, _*_, _%_, _≤_, _<_}
+use Prim.Native.Nat.{ℕ, zero, suc, _≤_, _<_}
 use native.Mathlib.Nat.{mod-lt}
 use native.Mathlib.Decide.{decLt}
 use native.Mathlib.Omega.{arith}
 use lib.ListN.{length, List·getD-eq-default}
 use lib.Seq.{ext-getD}
-use Rattle.lists.specs.Lists.{cell, tab, sum}
+use Rattle.lists.specs.Lists.{cell, tab}
 use Rattle.lists.proofs.Tab.{length-tab, cell-tab}
-use Rattle.field.specs.Field.{P, Canonical, add, cube, root}
+use Rattle.field.specs.Field.{P, add, cube, root}
 use Rattle.field.proofs.Fermat.{root-lt}
 use Rattle.words.specs.Words.{AllCanonical}
-use Rattle.matrix.specs.Matrix.{entry, timesColumn, times}
+use Rattle.matrix.specs.Matrix.{timesColumn, times}
 use Rattle.table.specs.Table.{IsTable, matrixOf, constant}
 use Rattle.table.proofs.Theorems.{constant-length, constant-canonical}
 use Rattle.hash.specs.Hash.{roots, cubes, plus, mix, firstStep, secondStep, stateAt, middleState, finalState}
