@@ -15,7 +15,7 @@ use Rattle.field.proofs.Power.{big}
 use Rattle.words.specs.Words.{AllCanonical}
 use Rattle.matrix.specs.Matrix.{timesColumn, identity, Inverse, Kernel, entry}
 use Rattle.matrix.proofs.Linear.{identity-same, identity-other, identity-lt, times-ext, product-ext}
-use Rattle.matrix.proofs.Dichotomy.{inverse-unique, not-both}
+use Rattle.matrix.proofs.Dichotomy.{Invertible, inverse-unique, not-both}
 use Rattle.inverse.specs.Inversion.{IsInverse, Inverts}
 use Rattle.inverse.specs.Elimination.{at, beside, started, rightHalf, Working, Zeros, Reduces, Stuck, Eliminated}
 use Rattle.inverse.proofs.Elimination.{beside-left, beside-right, finished, stuck}
@@ -94,6 +94,32 @@ without m w v b e h f = no-pivot m (subst (λ u. Stuck u) e (subst (λ a. Elimin
 
 pub found : (m w v out : List ℕ) (b : Bool) → w ≡ started m → Eliminated w v b → b ≡ true → out ≡ rightHalf v → IsInverse m out
 found m w v out b e h f o = subst (λ u. IsInverse m u) (sym o) (inverted m v (subst (λ u. Reduces u v 12) e (subst (λ a. Eliminated w v a) f h)))
+
+-- the list of a matrix's cells, row by row
+pub listed : (ℕ → ℕ → ℕ) → List ℕ
+listed a = tab 144 (λ t. a (t / 12) (t % 12))
+
+pub listed-inverse : (m : List ℕ) → (h : Invertible 12 (entry m)) → IsInverse m (listed (h .matrix))
+unfolding listed Inverse
+listed-inverse m h = record { size = length-tab 144 word; canonical = low; inverse = λ i k hi hk. product-ext 12 (entry m) (entry m) (entry (tab 144 word)) (h .matrix) i k (λ j l. refl) (λ j l. at-word j k l hk) ∙ h .right i k hi hk }
+  where
+    word : ℕ → ℕ
+    word t = h .matrix (t / 12) (t % 12)
+
+    low : AllCanonical (tab 144 word)
+    low t g = subst (λ y. y < P) (sym (cell-tab 144 word t t-lt)) (h .canonical (t / 12) (t % 12) (omega (arith, t-lt)) (omega arith))
+      where
+        t-lt : t < 144
+        t-lt = omega (arith, length-tab 144 word)
+
+    at-word : (i k : ℕ) → i < 12 → k < 12 → entry (tab 144 word) i k ≡ h .matrix i k
+    at-word i k hi hk = cell-tab 144 word (12 * i + k) (omega arith) ∙ ap₂ (h .matrix) p q
+      where
+        p : (12 * i + k) / 12 ≡ i
+        p = omega arith
+
+        q : (12 * i + k) % 12 ≡ k
+        q = omega arith
 
 -- the answer and the buffer are determined
 pub inverse-only : (m a b : List ℕ) → IsInverse m a → IsInverse m b → a ≡ b

@@ -57,7 +57,7 @@ module _ (raw n : List ℕ) (size : length raw ≡ 396) (size-n : length n ≡ 1
   unfolding inverseOf
   inverse-prepared = ap (take 144) (drop-at (take 144 raw) (n ++ drop 144 raw) 144 length-left) ∙ take-at n (drop 144 raw) 144 size-n
 
-  prepared-canonical : AllCanonical raw → AllCanonical n → AllCanonical (prepared raw n)
+  pub prepared-canonical : AllCanonical raw → AllCanonical n → AllCanonical (prepared raw n)
   prepared-canonical hr hn t l = left (decLt t 144)
     where
       t-lt : t < 540

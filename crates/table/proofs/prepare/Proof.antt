@@ -12,11 +12,6 @@ use Rattle.table.proofs.Prepared.{wrong-length, wrong-room, wrong-word,
 use borrow.Author.Needs.{needs}
 use Rattle.table.proofs.prepare.Statement.{statement}
 use Rattle.table.proofs.prepare.Tie as tie
-use Rattle.table.proofs.prepare.Reads as reads
-use Rattle.table.proofs.prepare.Lts as lts
-use Rattle.inverse.proofs.invert.Reads as invert-reads
-use Rattle.table.proofs.write.Reads as write-reads
-use Rattle.words.proofs.first_bad.Reads as first-bad-reads
 
 -- the tests have accepted
 tested : (c : tie.Else3) → rawTest (c .before .before .before .before .before .before .args .raw .now) (length (c .before .before .before .before .before .before .args .destination .now)) ≡ Accepted

@@ -6,8 +6,6 @@ use Rattle.table.proofs.Prepared.{word-matrix, word-inverse, word-const
 use borrow.Author.Needs.{needs}
 use Rattle.table.proofs.prepared_word.Statement.{statement}
 use Rattle.table.proofs.prepared_word.Tie as tie
-use Rattle.table.proofs.prepared_word.Reads as reads
-use Rattle.table.proofs.prepared_word.Lts as lts
 
 mul-result : tie.Need-mul-result
 mul-result c = search needs

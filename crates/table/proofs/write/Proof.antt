@@ -11,21 +11,18 @@ use Rattle.table.proofs.Prepared.{length-prepared}
 use borrow.Author.Needs.{needs}
 use Rattle.table.proofs.write.Statement.{statement}
 use Rattle.table.proofs.write.Tie as tie
-use Rattle.table.proofs.write.Reads as reads
-use Rattle.table.proofs.write.Lts as lts
-use Rattle.table.proofs.prepared_word.Reads as prepared-word-reads
 
 abbrev Inv-loop : tie.InvT-loop
 Inv-loop raw n destination₀ t₀ destination t =
- (t ≤ 540) × (length destination ≡ 540) × (destination ≡ filled t (cell (prepared raw n)) destination₀)
+    (t ≤ 540) × (length destination ≡ 540) × (destination ≡ filled t (cell (prepared raw n)) destination₀)
 
 abbrev μ-loop : tie.MeasureT-loop
 μ-loop raw n destination₀ t₀ destination t =
- 540 - t
+    540 - t
 
 loop-holds : tie.Need-loop-holds Inv-loop μ-loop
 loop-holds c =
- (omega arith, c .before .before .pre .2, filled-none _ _)
+    (omega arith, c .before .before .pre .2, filled-none _ _)
 
 prepared-word-requires : tie.Need-prepared-word-requires Inv-loop μ-loop
 prepared-word-requires c κs =
@@ -52,7 +49,7 @@ loop-again c =
 
 same-length : tie.Need-same-length Inv-loop μ-loop
 same-length c =
- c .before .loop .inv .1 ∙ sym (c .before .before .before .before .pre .2)
+    c .before .loop .inv .1 ∙ sym (c .before .before .before .before .pre .2)
 
 returns : tie.Need-returns Inv-loop μ-loop
 returns c =
