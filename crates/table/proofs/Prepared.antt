@@ -1,10 +1,10 @@
 -- The prepared table: its words and parts, the tests of Prepare by cases, and that it is a table.
 -- Assumes nothing.
-use Prim.Native.Nat.{ℕ, _+_, _*_, _-_, _≤_, _<_}
-use mathlib.Core.Path.{_≡_, refl, sym, ap, _∙_, subst}
+use Prim.Native.Nat.{ℕ, _+_, _-_, _≤_, _<_}
+use mathlib.Core.Path.{_≡_, sym, ap, _∙_, subst}
 use mathlib.Core.Bool.{Bool, true, false}
 use mathlib.Core.List.{List, _++_}
-use native.Mathlib.Decide.{ℕ-discrete, decLt}
+use native.Mathlib.Decide.{decLt}
 use native.Mathlib.Omega.{arith}
 use borrow.Author.Tests.{eq-eqb, ne-eqb}
 use lib.ListN.{length, take, drop, length-append, length-drop, List·getD-append}
@@ -12,12 +12,10 @@ use lib.Seq.{length-take-le, getD-take, getD-drop, getD-append-add, take-at, dro
 use Rattle.lists.specs.Lists.{cell}
 use Rattle.field.specs.Field.{P, Canonical}
 use Rattle.words.specs.Words.{AllCanonical, firstBad}
-use Rattle.words.proofs.Laws.{good-all}
-use Rattle.matrix.specs.Matrix.{entry, Inverse}
 use Rattle.refusals.specs.declared.Refusal.the-variants.{TableLength, TableWord, NoInverse, DestinationLength}
 use Rattle.refusals.specs.declared.Answer.the-variants.{Accepted, Refused}
 use Rattle.inverse.specs.Inversion.{Inverts}
-use Rattle.table.specs.Table.{matrixOf, inverseOf, IsTable, RawInverse, prepared, rawTest, Prepares, accepts, no-inverse, refuses}
+use Rattle.table.specs.Table.{matrixOf, inverseOf, RawInverse, prepared, rawTest, Prepares, accepts, no-inverse}
 
 -- ---- its words
 module _ (raw n : List ℕ) (size : length raw ≡ 396) (size-n : length n ≡ 144) where

@@ -1,10 +1,10 @@
 -- `table::write` meets its contract: the words passed are those of the prepared table.
 -- Assumes nothing.
-use Prim.Native.Nat.{ℕ, _-_, _≤_}
-use mathlib.Core.Path.{_≡_, refl, sym, _∙_}
+use Prim.Native.Nat.{_-_, _≤_}
+use mathlib.Core.Path.{_≡_, sym, _∙_}
 use native.Mathlib.Omega.{arith}
 use lib.ListN.{length, length-set}
-use Rattle.lists.specs.Lists.{cell, tab}
+use Rattle.lists.specs.Lists.{cell}
 use Rattle.lists.proofs.Tab.{filled, filled-none, filled-more, filled-all, tab-cell}
 use Rattle.table.specs.Table.{prepared}
 use Rattle.table.proofs.Prepared.{length-prepared}
