@@ -1,1 +1,3 @@
 pub mod Constraints
+pub mod ReadOff
+pub mod FirstFailing

@@ -5,7 +5,7 @@ use mathlib.Core.Path.{_≡_, refl, sym, ap, _∙_, subst}
 use native.Mathlib.Nat.{le-refl, le-trans, le-of-lt, add-le-add, mul-le-mul, mul-le-mul-left, mul-le-mul-right, le-of-mul-le-mul-left, lt-of-mul-lt-mul-left, lt-of-mul-lt-mul-right, lt-of-le-of-lt, div-mul-le-self}
 use lib.Dec.{lit<, lit≤}
 use native.Mathlib.Omega.{arith}
-use Rattle.field.specs.Field.{P, mul}
+use Rattle.field.specs.Field.{P}
 use Rattle.field.proofs.Modular.{mod-unique}
 
 -- u is c times n in units of w, r is w times e in units of p, and q is u times r in units of w
@@ -25,13 +25,14 @@ module _ (p r n u q w e c : ℕ) (unit : c * e ≡ w) where
       s₄ : c * e * n ≡ w * n
       s₄ = ap (λ x. x * n) unit
 
-  pub nearly : 0 < e → u * r < (q + 1) * w → c * n < (u + 1) * w → w * e ≤ (r + 1) * p → u * p + w * e ≤ p * w → n < q * p + 2 * p
-  nearly pos hq hu hr room = lt-of-mul-lt-mul-left w {m = n} {n = q * p + 2 * p} (omega (arith, s₁, s₂, s₃, s₄, room))
+  -- with slack: q is short by up to s, and r by up to v
+  pub nearly : (s v m : ℕ) → 0 < e → u * r < (q + s) * w → c * n < (u + 1) * w → w * e ≤ (r + v) * p → v * (u * p) + w * e ≤ m * (p * w) → n < q * p + (s + m) * p
+  nearly s v m pos hq hu hr room = lt-of-mul-lt-mul-left w {m = n} {n = q * p + (s + m) * p} (omega (arith, s₁, s₂, s₃, s₄, room))
     where
-      s₁ : u * r * p ≤ (q + 1) * w * p
+      s₁ : u * r * p ≤ (q + s) * w * p
       s₁ = mul-le-mul-right p (omega arith)
 
-      s₂ : u * (w * e) ≤ u * ((r + 1) * p)
+      s₂ : u * (w * e) ≤ u * ((r + v) * p)
       s₂ = mul-le-mul-left u hr
 
       s₃ : (c * n + 1) * e ≤ (u + 1) * w * e
@@ -58,13 +59,13 @@ module _ (a b : ℕ) (ha : a < P) (hb : b < P) (u q : ℕ) (eu : u ≡ 4 * a * (
   quotient-in = not-over P 9223371693257404923 (a * b) u q (2 ^ 64) (2 ^ 60) 16 refl (lit< tt) (subst (λ x. x * 2 ^ 64 ≤ u * 9223371693257404923) (sym eq) (div-mul-le-self (u * 9223371693257404923) (2 ^ 64))) upper-in (lit≤ tt)
 
   pub quotient-out : a * b < q * P + 2 * P
-  quotient-out = nearly P 9223371693257404923 (a * b) u q (2 ^ 64) (2 ^ 60) 16 refl (lit< tt) (omega (arith, eq)) upper-out (lit≤ tt) room
+  quotient-out = nearly P 9223371693257404923 (a * b) u q (2 ^ 64) (2 ^ 60) 16 refl 1 1 1 (lit< tt) (omega (arith, eq)) upper-out (lit≤ tt) room
     where
       u-low : u < 2 ^ 63
       u-low = lt-of-mul-lt-mul-right (2 ^ 64) (lt-of-le-of-lt (le-trans upper-in small) (lit< tt))
 
-      room : u * P + 2 ^ 64 * 2 ^ 60 ≤ P * 2 ^ 64
-      room = le-trans (add-le-add (mul-le-mul-right P (le-of-lt u-low)) (le-refl (2 ^ 64 * 2 ^ 60))) (lit≤ tt)
+      room : 1 * (u * P) + 2 ^ 64 * 2 ^ 60 ≤ 1 * (P * 2 ^ 64)
+      room = le-trans (add-le-add (mul-le-mul-left 1 (mul-le-mul-right P (le-of-lt u-low))) (le-refl (2 ^ 64 * 2 ^ 60))) (lit≤ tt)
 
 -- a difference taken modulo 2^64 is the difference, where that has 64 bits
 pub unwrapped : (r m n : ℕ) → r < 2 ^ 64 → m ≤ n → n < m + 2 ^ 64 → (r + m % 2 ^ 64) % 2 ^ 64 ≡ n % 2 ^ 64 → r + m ≡ n

@@ -1,5 +1,5 @@
-pub mod Halves
 pub mod Barrett
+pub mod Forms
 pub mod Modular
 pub mod Power
 pub mod Divisors

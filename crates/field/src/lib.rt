@@ -3,8 +3,9 @@ ghost use mathlib.Core.Path.{_≡_};
 ghost use Prim.Native.Nat.{_<_};
 ghost use lib.Dec.{ltb};
 ghost use Rattle.field.specs.Field.{P, Canonical, add, sub, neg, mul, square, cube, power, root, inverse};
+ghost use Rattle.field.specs.Montgomery.{Short, element};
 
-mod wide;
+pub mod montgomery;
 
 // An element, by its canonical word.
 pub struct Fp(pub u64);
@@ -87,7 +88,8 @@ impl Fp {
         requires { ⌜ Canonical (self .0) ⌝ }
         ensures { λ r. ⌜ (r .0 ≡ power (self .0) exponent) × Canonical (r .0) ⌝ }
     {
-        Fp(power_times(1, self.0, exponent))
+        let v = montgomery::enter(self.0);
+        Fp(montgomery::leave(power_times(montgomery::ONE, v, exponent)))
     }
 
     pub fn root(self) -> Fp
@@ -120,16 +122,17 @@ fn product(a: u64, b: u64) -> u64
 // 2^124 / p, rounded down
 const RECIPROCAL: u64 = 9223371693257404923;
 
-// acc * x^e. The exponent is halved at each call; the accumulator lets the compiler make a loop of it.
+// acc * x^e in Montgomery's form. The exponent is halved at each call; the accumulator lets the compiler make a loop of it.
 fn power_times(acc: u64, x: u64, e: u64) -> u64
-    requires { ⌜ Canonical acc × Canonical x ⌝ }
-    ensures { λ r. ⌜ (r ≡ mul acc (power x e)) × Canonical r ⌝ }
+    requires { ⌜ Short acc × Short x ⌝ }
+    ensures { λ r. ⌜ (element r ≡ mul (element acc) (power (element x) e)) × Short r ⌝ }
 {
     if e == 0 {
         return acc;
     }
+    let square = montgomery::times(x, x);
     if e % 2 == 0 {
-        return power_times(acc, product(x, x), e / 2);
+        return power_times(acc, square, e / 2);
     }
-    power_times(product(acc, x), product(x, x), e / 2)
+    power_times(montgomery::times(acc, x), square, e / 2)
 }

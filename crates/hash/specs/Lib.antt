@@ -1,1 +1,3 @@
 pub mod Hash
+pub mod Powers
+pub mod Answers

@@ -1,1 +1,215 @@
-// The Rescue hash and the chain.
+// The Rescue hash and the chain (document 01, "Hash and chain").
+ghost use mathlib.Core.Path.{_≡_};
+ghost use mathlib.Core.List.{_++_};
+ghost use Prim.Native.Nat.{_+_, _*_, _<_, _≤_, _^_};
+ghost use lib.ListN.{length, take, replicate};
+ghost use Rattle.words.specs.Words.{AllCanonical, CanonicalTo};
+ghost use Rattle.table.specs.Table.{IsTable, constant};
+ghost use Rattle.hash.specs.Hash.{roots, cubes, plus, mix, firstStep, secondStep, stateAt, finalState, input, tap, outputAt};
+ghost use Rattle.hash.specs.Powers.{products, powers};
+ghost use Rattle.hash.specs.Answers.{hashAnswer, chainAnswer};
+use counts::BatchCount;
+use counts::HashNumber;
+use field::Fp;
+use refusals::Answer;
+use refusals::Digest;
+use refusals::Digested;
+use refusals::Refusal;
+
+// Each cell of a times that of b.
+fn multiply(a: &mut [u64; 12], b: [u64; 12])
+    requires { ⌜ (length (now a) ≡ 12) × CanonicalTo 12 (now a) × CanonicalTo 12 b ⌝ }
+    ensures { λ r. ⌜ (now (a .exit) ≡ products (now (a .entry)) b) ⌝ }
+{
+    let mut j: usize = 0;
+    while j < 12 {
+        a[j] = Fp(a[j]).mul(Fp(b[j])).0;
+        j += 1;
+    }
+}
+
+// Each cell of acc times that of x raised to e. The exponent is halved at each call. Twelve cells in place, and nothing to do after the call, so that
+// the compiler makes a loop of it.
+fn powers_times(acc: &mut [u64; 12], x: &mut [u64; 12], e: u64)
+    requires { ⌜ (length (now acc) ≡ 12) × CanonicalTo 12 (now acc) × (length (now x) ≡ 12) × CanonicalTo 12 (now x) ⌝ }
+    ensures { λ r. ⌜ now (acc .exit) ≡ products (now (acc .entry)) (powers (now (x .entry)) e) ⌝ }
+{
+    if e == 0 {
+        return;
+    }
+    let base = *x;
+    if e % 2 == 1 {
+        multiply(acc, base);
+    }
+    multiply(x, base);
+    powers_times(acc, x, e / 2);
+}
+
+// Every cell rooted.
+fn roots(s: [u64; 12]) -> [u64; 12]
+    requires { ⌜ CanonicalTo 12 s ⌝ }
+    ensures { λ r. ⌜ r ≡ roots s ⌝ }
+{
+    let mut acc = [1u64; 12];
+    let mut x = s;
+    powers_times(&mut acc, &mut x, Fp::THIRD);
+    acc
+}
+
+// Every cell cubed.
+fn cubes(s: [u64; 12]) -> [u64; 12]
+    requires { ⌜ CanonicalTo 12 s ⌝ }
+    ensures { λ r. ⌜ r ≡ cubes s ⌝ }
+{
+    let mut out = [0u64; 12];
+    let mut j: usize = 0;
+    while j < 12 {
+        out[j] = Fp(s[j]).cube().0;
+        j += 1;
+    }
+    out
+}
+
+// M times s.
+fn mix(table: &[u64], s: [u64; 12]) -> [u64; 12]
+    requires { ⌜ IsTable (now table) × CanonicalTo 12 s ⌝ }
+    ensures { λ r. ⌜ r ≡ mix (now (table .entry)) s ⌝ }
+{
+    matrix::times(&table[..144], s)
+}
+
+// s plus K_n.
+fn plus_constant(table: &[u64], n: usize, s: [u64; 12]) -> [u64; 12]
+    requires { ⌜ IsTable (now table) × (n < 21) × CanonicalTo 12 s ⌝ }
+    ensures { λ r. ⌜ r ≡ plus s (constant (now (table .entry)) n) ⌝ }
+{
+    let start = 288 + 12 * n;
+    let mut out = [0u64; 12];
+    let mut j: usize = 0;
+    while j < 12 {
+        out[j] = Fp(s[j]).add(Fp(table[start + j])).0;
+        j += 1;
+    }
+    out
+}
+
+// The state before round 0: the input plus K_0.
+pub fn opening(table: &[u64], input: [u64; 12]) -> [u64; 12]
+    requires { ⌜ IsTable (now table) × CanonicalTo 12 input ⌝ }
+    ensures { λ r. ⌜ r ≡ stateAt (now (table .entry)) input 0 ⌝ }
+{
+    plus_constant(table, 0, input)
+}
+
+// The first step of the round, to its middle state.
+pub fn first_step(table: &[u64], round: usize, s: [u64; 12]) -> [u64; 12]
+    requires { ⌜ IsTable (now table) × (round < 10) × CanonicalTo 12 s ⌝ }
+    ensures { λ r. ⌜ r ≡ firstStep (now (table .entry)) round s ⌝ }
+{
+    let mixed = mix(table, roots(s));
+    plus_constant(table, 2 * round + 1, mixed)
+}
+
+// The second step of the round, from its middle state.
+pub fn second_step(table: &[u64], round: usize, s: [u64; 12]) -> [u64; 12]
+    requires { ⌜ IsTable (now table) × (round < 10) × CanonicalTo 12 s ⌝ }
+    ensures { λ r. ⌜ r ≡ secondStep (now (table .entry)) round s ⌝ }
+{
+    let mixed = mix(table, cubes(s));
+    plus_constant(table, 2 * round + 2, mixed)
+}
+
+// The state after the ten rounds.
+pub fn final_state(table: &[u64], input: [u64; 12]) -> [u64; 12]
+    requires { ⌜ IsTable (now table) × CanonicalTo 12 input ⌝ }
+    ensures { λ r. ⌜ r ≡ finalState (now (table .entry)) input ⌝ }
+{
+    let mut state = opening(table, input);
+    let mut round: usize = 0;
+    while round < 10 {
+        let next = second_step(table, round, first_step(table, round, state));
+        state = next;
+        round += 1;
+    }
+    state
+}
+
+// w_0, which is the last output before the first hash, and eight zeros.
+pub fn chain_start(taps: &[u64]) -> [u64; 12]
+    requires { ⌜ 4 ≤ length (now taps) ⌝ }
+    ensures { λ r. ⌜ r ≡ tap (now (taps .entry)) 0 ++ replicate 8 0 ⌝ }
+{
+    [taps[0], taps[1], taps[2], taps[3], 0, 0, 0, 0, 0, 0, 0, 0]
+}
+
+// The input of a hash: the last output, with which the last state begins, then the next tap and four zeros.
+pub fn input_of(hash: HashNumber, last: [u64; 12], taps: &[u64]) -> [u64; 12]
+    requires { ⌜ (hash .0 < 2 ^ 32) × (4 * hash .0 + 8 ≤ length (now taps)) ⌝ }
+    ensures { λ r. ⌜ r ≡ input (take 4 last) (tap (now (taps .entry)) (hash .0 + 1)) ⌝ }
+{
+    let at = hash.tap().start();
+    [
+        last[0],
+        last[1],
+        last[2],
+        last[3],
+        taps[at],
+        taps[at + 1],
+        taps[at + 2],
+        taps[at + 3],
+        0,
+        0,
+        0,
+        0,
+    ]
+}
+
+// The state that begins with the output of so many hashes.
+fn last_state(table: &[u64], taps: &[u64], hashes: usize) -> [u64; 12]
+    requires { ⌜ IsTable (now table) × (hashes < 2 ^ 32) × (4 * hashes + 4 ≤ length (now taps)) × AllCanonical (now taps) ⌝ }
+    ensures { λ r. ⌜ take 4 r ≡ outputAt (now (table .entry)) (now (taps .entry)) hashes ⌝ }
+{
+    let mut state = chain_start(taps);
+    let mut h: usize = 0;
+    while h < hashes {
+        let next = final_state(table, input_of(HashNumber(h), state, taps));
+        state = next;
+        h += 1;
+    }
+    state
+}
+
+// Hash, which is the chain of two taps: 1, 2, 4, 6.
+pub fn hash(table: &[u64], words: [u64; 8]) -> Digested
+    ensures { λ r. ⌜ r ≡ hashAnswer (now (table .entry)) words ⌝ }
+{
+    let tested = table::test(table);
+    let Answer::Accepted = tested else {
+        return Digested::after(tested);
+    };
+    let bad = words::first_bad(&words);
+    if bad != 8 {
+        return Digested::Refused(Refusal::TapWord(bad));
+    }
+    let last = last_state(table, &words, 1);
+    Digested::Accepted(Digest(last[0], last[1], last[2], last[3]))
+}
+
+// Chain: 1, 2, 4, 5, 6.
+pub fn chain(table: &[u64], taps: &[u64]) -> Digested
+    ensures { λ r. ⌜ r ≡ chainAnswer (now (table .entry)) (now (taps .entry)) ⌝ }
+{
+    let tested = table::test(table);
+    let Answer::Accepted = tested else {
+        return Digested::after(tested);
+    };
+    let BatchCount::Permitted(k) = counts::tap_batches(taps.len()) else {
+        return Digested::Refused(Refusal::TapLength);
+    };
+    let bad = words::first_bad(taps);
+    if bad != taps.len() {
+        return Digested::Refused(Refusal::TapWord(bad));
+    }
+    let last = last_state(table, taps, 3 * k);
+    Digested::Accepted(Digest(last[0], last[1], last[2], last[3]))
+}

@@ -48,6 +48,12 @@ unfolding sum
 sum-swap zero k f = sym (sum-0 k)
 sum-swap (suc n) k f = ap (λ y. y + sum k (λ j. f n j)) (sum-swap n k f) ∙ sym (sum-add k (λ j. sum n (λ i. f i j)) (λ j. f n j))
 
+-- a bound on each term bounds the sum
+pub sum-le : (n b : ℕ) (f : ℕ → ℕ) → ((i : ℕ) → i < n → f i ≤ b) → sum n f ≤ n * b
+unfolding sum
+sum-le zero b f h = omega arith
+sum-le (suc n) b f h = omega (arith, sum-le n b f (λ i l. h i (omega arith)), h n (omega arith))
+
 -- the sum over n + k splits
 pub sum-split : (n k : ℕ) (f : ℕ → ℕ) → sum (n + k) f ≡ sum n f + sum k (λ i. f (n + i))
 unfolding sum

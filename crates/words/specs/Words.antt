@@ -8,9 +8,13 @@ use lib.ListN.{length}
 use Rattle.lists.specs.Lists.{cell, first}
 use Rattle.field.specs.Field.{P, Canonical}
 
+-- the first n words are canonical
+abbrev pub CanonicalTo : ℕ → List ℕ → Type 0
+CanonicalTo n s = (i : ℕ) → i < n → Canonical (cell s i)
+
 -- every word of the list is canonical
 abbrev pub AllCanonical : List ℕ → Type 0
-AllCanonical s = (i : ℕ) → i < length s → Canonical (cell s i)
+AllCanonical s = CanonicalTo (length s) s
 
 -- the lowest index of a word that is not canonical, or the length where all are
 unfoldable pub firstBad : List ℕ → ℕ

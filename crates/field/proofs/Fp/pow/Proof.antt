@@ -1,17 +1,26 @@
--- `field::Fp::pow` meets its contract: one times the power is the power.
+-- `field::Fp::pow` meets its contract: in Montgomery's form, one times the power is the power.
 -- Assumes nothing.
-use mathlib.Core.Path.{_∙_}
+use mathlib.Core.Path.{_≡_, refl, ap, _∙_}
 use native.Mathlib.Omega.{arith}
 use borrow.Author.Needs.{needs}
+use Rattle.field.specs.Field.{mul, power}
 use Rattle.field.proofs.Power.{one-times}
 use Rattle.field.proofs.Fp.pow.Statement.{statement}
 use Rattle.field.proofs.Fp.pow.Tie as tie
 
+enter-requires : tie.Need-enter-requires
+enter-requires c κs = search needs
+
 power-times-requires : tie.Need-power-times-requires
 power-times-requires c κs = search needs
 
+leave-requires : tie.Need-leave-requires
+leave-requires c κs = search needs
+
 returns : tie.Need-returns
-returns c = (c .power-times .ensures .0 ∙ one-times (c .before .args .self .0) (c .before .args .exponent) (omega arith), c .power-times .ensures .1)
+returns c =
+    let a = c .before .before .before .args in
+    (c .leave .ensures .0 ∙ c .before .power-times .ensures .0 ∙ ap (λ x. mul 1 (power x (a .exponent))) (c .before .before .enter .ensures .1) ∙ one-times (a .self .0) (a .exponent) (omega arith), c .leave .ensures .1)
 
 pub pow-spec : {M : Type 1} → statement M
-pow-spec = tie.close (tie.spec power-times-requires returns)
+pow-spec = tie.close (tie.spec enter-requires power-times-requires leave-requires returns)

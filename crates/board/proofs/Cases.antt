@@ -1,0 +1,198 @@
+-- What Pack and Unpack answer, case by case in the order of their tests, and what acceptance says.
+-- Assumes nothing.
+use mathlib.Core.Path.{_≡_, refl, sym, ap, _∙_}
+use mathlib.Core.Bool.{Bool, true, false}
+use mathlib.Core.List.{List}
+use Prim.Native.Nat.{ℕ, _+_, _*_, _/_, _<_, _≤_}
+use native.Mathlib.Omega.{arith}
+use borrow.Author.Tests.{eq-eqb, ne-eqb, eqb-true, le-leb, lt-leb, leb-true}
+use lib.Dec.{eqb, leb}
+use lib.ListN.{length}
+use Rattle.words.specs.Words.{AllCanonical, firstBad}
+use Rattle.words.proofs.Laws.{all-good, good-all}
+use Rattle.counts.specs.Counts.{IsPermitted, permitted, tapBatches}
+use Rattle.counts.specs.declared.BatchCount.{BatchCount}
+use Rattle.counts.specs.declared.BatchCount.the-variants as count
+use Rattle.counts.proofs.Laws.{permitted-sound, permitted-complete, tap-sound, tap-complete}
+use Rattle.fileword.specs.Words.{kindOf, wordAt}
+use Rattle.elements.specs.Elements.{unless, elementsTest}
+use Rattle.elements.proofs.Tests.{IsElement, passed, after, each-accepted, all-accepted}
+use Rattle.refusals.specs.Refusals.{answerAfter, digestedAfter, digest}
+use Rattle.refusals.specs.declared.Refusal.{Refusal}
+use Rattle.refusals.specs.declared.Refusal.the-variants.{TapLength, TapWord, DestinationLength, ClaimWord, FileLength, WrongKind, WrongValue}
+use Rattle.refusals.specs.declared.Answer.{Answer}
+use Rattle.refusals.specs.declared.Answer.the-variants.{Accepted, Refused}
+use Rattle.refusals.specs.declared.Digest.{Digest}
+use Rattle.refusals.specs.declared.Digested.{Digested}
+use Rattle.refusals.specs.declared.Digested.the-variants as digested
+use Rattle.board.specs.Board.{countWord, fileSize, counted, packAnswer, countIn, spareIn, batchesIn, claimIn, countTest, unpackTest, unpackAnswer}
+
+-- ---- Pack
+pub pack-length : (taps claim : List ℕ) (size : ℕ) → tapBatches (length taps) ≡ count.Refused → packAnswer taps claim size ≡ Refused TapLength
+unfolding packAnswer
+pack-length taps claim size e = rw e
+
+module _ (taps claim : List ℕ) (size k : ℕ) (e : tapBatches (length taps) ≡ count.Permitted k) where
+  pub pack-destination : (size ≡ fileSize k → ⊥) → packAnswer taps claim size ≡ Refused DestinationLength
+  unfolding packAnswer
+  pack-destination s = rw (e, ne-eqb _ _ s)
+
+  pub pack-claim : size ≡ fileSize k → (firstBad claim ≡ length claim → ⊥) → packAnswer taps claim size ≡ Refused (ClaimWord (firstBad claim))
+  unfolding packAnswer
+  pack-claim s c = rw (e, eq-eqb _ _ s, ne-eqb _ _ c)
+
+  pub pack-tap : size ≡ fileSize k → firstBad claim ≡ length claim → (firstBad taps ≡ length taps → ⊥) → packAnswer taps claim size ≡ Refused (TapWord (firstBad taps))
+  unfolding packAnswer
+  pack-tap s c t = rw (e, eq-eqb _ _ s, eq-eqb _ _ c, ne-eqb _ _ t)
+
+  pub pack-accepts : size ≡ fileSize k → firstBad claim ≡ length claim → firstBad taps ≡ length taps → packAnswer taps claim size ≡ Accepted
+  unfolding packAnswer
+  pack-accepts s c t = rw (e, eq-eqb _ _ s, eq-eqb _ _ c, eq-eqb _ _ t)
+
+-- what Pack's acceptance says of taps, claim and the destination's length
+pub record IsPacked (taps claim : List ℕ) (size k : ℕ) : Type 0 where
+  pub permitted : IsPermitted k
+  pub taps-size : length taps ≡ 12 * k + 4
+  pub size-is : size ≡ fileSize k
+  pub claim-canonical : AllCanonical claim
+  pub taps-canonical : AllCanonical taps
+
+pub pack-accepted : (taps claim : List ℕ) (size : ℕ) → packAnswer taps claim size ≡ Accepted → IsPacked taps claim size (length taps / 12)
+unfolding packAnswer
+pack-accepted taps claim size = go (tapBatches (length taps)) refl
+  where
+    rest : ℕ → Answer
+    rest k =
+        unless (eqb size (fileSize k)) DestinationLength
+        (unless (eqb (firstBad claim) (length claim)) (ClaimWord (firstBad claim))
+        (unless (eqb (firstBad taps) (length taps)) (TapWord (firstBad taps))
+        Accepted))
+
+    go : (n : BatchCount) → tapBatches (length taps) ≡ n → counted n TapLength rest ≡ Accepted → IsPacked taps claim size (length taps / 12)
+    go count.Refused e q = absurd (let z : _≡_ {A = ℕ} 0 1 = cc in omega arith)
+    go (count.Permitted k) e q =
+        let t = tap-sound (length taps) k e in
+        let k-is : length taps / 12 ≡ k = omega (arith, t .0) in
+        let a = passed _ _ _ q in
+        let b = passed _ _ _ (a .1) in
+        let c = passed _ _ _ (b .1) in
+        rw k-is (record {
+          permitted = t .1;
+          taps-size = t .0;
+          size-is = eqb-true _ _ (a .0);
+          claim-canonical = good-all claim (eqb-true _ _ (b .0));
+          taps-canonical = good-all taps (eqb-true _ _ (c .0));
+        })
+
+pub pack-complete : (taps claim : List ℕ) (size k : ℕ) → IsPacked taps claim size k → packAnswer taps claim size ≡ Accepted
+pack-complete taps claim size k h =
+    pack-accepts taps claim size k (ap tapBatches (h .taps-size) ∙ tap-complete k (h .permitted)) (h .size-is) (all-good claim (h .claim-canonical)) (all-good taps (h .taps-canonical))
+
+-- ---- word 0
+pub count-kind : (w : ℕ) → (kindOf w ≡ 0 → ⊥) → countTest w ≡ Refused (WrongKind 0)
+unfolding countTest
+count-kind w a = rw (ne-eqb _ _ a)
+
+pub count-spare : (w : ℕ) → kindOf w ≡ 0 → (spareIn w ≡ 0 → ⊥) → countTest w ≡ Refused (WrongValue 0)
+unfolding countTest
+count-spare w a b = rw (eq-eqb _ _ a, ne-eqb _ _ b)
+
+pub count-value : (w : ℕ) → kindOf w ≡ 0 → spareIn w ≡ 0 → permitted (countIn w) ≡ false → countTest w ≡ Refused (WrongValue 0)
+unfolding countTest
+count-value w a b p = rw (eq-eqb _ _ a, eq-eqb _ _ b, p)
+
+pub count-accepts : (w : ℕ) → kindOf w ≡ 0 → spareIn w ≡ 0 → permitted (countIn w) ≡ true → countTest w ≡ Accepted
+unfolding countTest
+count-accepts w a b p = rw (eq-eqb _ _ a, eq-eqb _ _ b, p)
+
+-- word 0 is accepted exactly where it is the count word of a permitted k
+pub count-accepted : (w : ℕ) → countTest w ≡ Accepted → (w ≡ countWord (countIn w)) × IsPermitted (countIn w)
+unfolding countTest
+count-accepted w e =
+    let a = passed (eqb (kindOf w) 0) (WrongKind 0) _ e in
+    let b = passed (eqb (spareIn w) 0) (WrongValue 0) _ (a .1) in
+    let c = passed (permitted (countIn w)) (WrongValue 0) _ (b .1) in
+    (omega (arith, eqb-true (kindOf w) 0 (a .0), eqb-true (spareIn w) 0 (b .0)), permitted-sound (countIn w) (c .0))
+
+pub count-complete : (k : ℕ) → IsPermitted k → (countIn (countWord k) ≡ k) × (countTest (countWord k) ≡ Accepted)
+count-complete k p =
+    let k-is : countIn (countWord k) ≡ k = omega (arith, p .high) in
+    (k-is, count-accepts (countWord k) (omega (arith, p .high)) (omega (arith, p .high)) (ap permitted k-is ∙ permitted-complete k p))
+
+-- ---- Unpack
+module _ (file : List ℕ) (size : ℕ) where
+  pub unpack-short : length file < 4 → unpackTest file size ≡ Refused FileLength
+  unfolding unpackTest
+  unpack-short h = rw (lt-leb _ _ h)
+
+  module _ (h : 4 ≤ length file) where
+    pub unpack-count : (r : Refusal) → countTest (wordAt file 0) ≡ Refused r → unpackTest file size ≡ Refused r
+    unfolding unpackTest
+    unpack-count r e = rw (le-leb _ _ h, e)
+
+    module _ (e : countTest (wordAt file 0) ≡ Accepted) where
+      pub unpack-length : (length file ≡ fileSize (batchesIn file) → ⊥) → unpackTest file size ≡ Refused FileLength
+      unfolding unpackTest
+      unpack-length l = rw (le-leb _ _ h, e, ne-eqb _ _ l)
+
+      module _ (l : length file ≡ fileSize (batchesIn file)) where
+        pub unpack-destination : (size ≡ 12 * batchesIn file + 4 → ⊥) → unpackTest file size ≡ Refused DestinationLength
+        unfolding unpackTest
+        unpack-destination s = rw (le-leb _ _ h, e, eq-eqb _ _ l, ne-eqb _ _ s)
+
+        pub unpack-elements : size ≡ 12 * batchesIn file + 4 → unpackTest file size ≡ elementsTest file 1 (12 * batchesIn file + 8)
+        unfolding unpackTest
+        unpack-elements s = rw (le-leb _ _ h, e, eq-eqb _ _ l, eq-eqb _ _ s)
+
+-- the bytes are a board file of k batches
+pub record IsBoard (file : List ℕ) (k : ℕ) : Type 0 where
+  pub permitted : IsPermitted k
+  pub word : wordAt file 0 ≡ countWord k
+  pub size : length file ≡ fileSize k
+  pub elements : (i : ℕ) → i < 12 * k + 8 → IsElement file (1 + 3 * i)
+
+pub unpack-accepted : (file : List ℕ) (size : ℕ) → unpackTest file size ≡ Accepted → IsBoard file (batchesIn file) × (size ≡ 12 * batchesIn file + 4)
+unfolding unpackTest batchesIn
+unpack-accepted file size e =
+    let a = passed (leb 4 (length file)) FileLength _ e in
+    let b = after (countTest (wordAt file 0)) _ (a .1) in
+    let c = passed (eqb (length file) (fileSize (batchesIn file))) FileLength _ (b .1) in
+    let d = passed (eqb size (12 * batchesIn file + 4)) DestinationLength _ (c .1) in
+    let w = count-accepted (wordAt file 0) (b .0) in (
+      record {
+        permitted = w .1;
+        word = w .0;
+        size = eqb-true _ _ (c .0);
+        elements = each-accepted file 1 _ (d .1);
+      },
+      eqb-true _ _ (d .0),
+    )
+
+-- its number of batches is the one that is read
+pub batches-is : (file : List ℕ) (k : ℕ) → IsBoard file k → batchesIn file ≡ k
+unfolding batchesIn
+batches-is file k h = ap countIn (h .word) ∙ count-complete k (h .permitted) .0
+
+pub unpack-complete : (file : List ℕ) (k : ℕ) → IsBoard file k → unpackTest file (12 * k + 4) ≡ Accepted
+unpack-complete file k h =
+    let b = batches-is file k h in
+    unpack-elements file (12 * k + 4) (omega (arith, h .size)) (ap countTest (h .word) ∙ count-complete k (h .permitted) .1) (rw b (h .size)) (rw b)
+    ∙ rw b (all-accepted file 1 (12 * k + 8) (h .elements))
+
+-- what is returned: the claim, or the refusal
+pub unpack-returns : (file : List ℕ) (size : ℕ) → unpackTest file size ≡ Accepted → unpackAnswer file size ≡ digested.Accepted (digest (claimIn file))
+unfolding unpackAnswer
+unpack-returns file size e = rw e
+
+pub unpack-refuses : (file : List ℕ) (size : ℕ) (r : Refusal) → unpackTest file size ≡ Refused r → unpackAnswer file size ≡ digested.Refused r
+unfolding unpackAnswer
+unpack-refuses file size r e = rw e
+
+-- and conversely
+pub returned : (file : List ℕ) (size : ℕ) (d : Digest) → unpackAnswer file size ≡ digested.Accepted d → (unpackTest file size ≡ Accepted) × (digest (claimIn file) ≡ d)
+unfolding unpackAnswer
+returned file size d = go (unpackTest file size) refl
+  where
+    go : (t : Answer) → unpackTest file size ≡ t → digestedAfter t (digested.Accepted (digest (claimIn file))) ≡ digested.Accepted d → (unpackTest file size ≡ Accepted) × (digest (claimIn file) ≡ d)
+    go Accepted e q = (e, cc)
+    go (Refused r) e q = absurd (let z : _≡_ {A = ℕ} 0 1 = cc in omega arith)

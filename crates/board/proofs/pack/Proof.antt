@@ -1,0 +1,117 @@
+-- `board::pack` meets its contract: 5, 8, 9, 6, and then the file.
+-- Assumes nothing.
+use mathlib.Core.Path.{_≡_, refl, sym, ap, _∙_}
+use Prim.Native.Nat.{ℕ, _+_, _*_, _/_}
+use native.Mathlib.Omega.{arith}
+use lib.ListN.{length}
+use Rattle.counts.specs.Counts.{IsPermitted, tapBatches}
+use Rattle.counts.specs.declared.BatchCount.the-variants.{Permitted}
+use Rattle.counts.proofs.Laws.{tap-sound}
+use Rattle.refusals.specs.declared.Refusal.the-variants.{ClaimWord, TapWord}
+use Rattle.refusals.specs.declared.Answer.the-variants.{Refused}
+use Rattle.board.specs.Board.{fileOf, packed}
+use Rattle.board.proofs.Cases.{pack-length, pack-destination, pack-claim, pack-tap, pack-accepts}
+use borrow.Author.Needs.{needs}
+use Rattle.board.proofs.pack.Statement.{statement}
+use Rattle.board.proofs.pack.Tie as tie
+
+-- k is the count that the list of taps stands for
+abbrev k : tie.After-known-told → ℕ
+k c = c .before .count .given .0 .0
+
+abbrev start : tie.After-known-told → tie.Start
+start c = c .before .before .before .before .before .before
+
+counted : (c : tie.After-known-told) → tapBatches (length (start c .args .taps .now)) ≡ Permitted (k c)
+counted c = sym (c .before .before .before .tap-batches .ensures) ∙ c .before .count .given .1
+
+size : (c : tie.After-known-told) → (length (start c .args .taps .now) ≡ 12 * k c + 4) × IsPermitted (k c)
+size c = tap-sound (length (start c .args .taps .now)) (k c) (counted c)
+
+-- a claim is four words
+four : (c : tie.After-known-told) → length (start c .args .t2) ≡ 4
+four c = omega arith
+
+tap-batches-requires : tie.Need-tap-batches-requires
+tap-batches-requires c κs = search needs
+
+enum-known-count : tie.Need-enum-known-count
+enum-known-count c = search needs
+
+enum-told : tie.Need-enum-told
+enum-told c = search needs
+
+returns : tie.Need-returns
+returns c = (sym (pack-length _ _ _ (sym (c .before .before .tap-batches .ensures) ∙ c .enum-told .given .1)), refl)
+
+mul-if1 : tie.Need-mul-if1
+mul-if1 c = omega (arith, size c .1 .high)
+
+add-if1 : tie.Need-add-if1
+add-if1 c = omega (arith, size c .1 .high)
+
+returns-2 : tie.Need-returns-2
+returns-2 c = (sym (pack-destination _ _ _ _ (counted (c .before)) (c .if1 .taken)), refl)
+
+slice-aggregate-first-bad : tie.Need-slice-aggregate-first-bad
+slice-aggregate-first-bad c = search needs
+
+first-bad-requires : tie.Need-first-bad-requires
+first-bad-requires c κs = search needs
+
+returns-3 : tie.Need-returns-3
+returns-3 c =
+    let one = c .before .before .before in
+    let bad = c .before .first-bad .ensures in
+    (ap (λ n. Refused (ClaimWord n)) bad ∙ sym (pack-claim _ _ _ _ (counted (one .before)) (one .if1 .left) (λ e. c .if2 .taken (bad ∙ e ∙ four (one .before)))), refl)
+
+first-bad-requires-2 : tie.Need-first-bad-requires-2
+first-bad-requires-2 c κs = search needs
+
+returns-4 : tie.Need-returns-4
+returns-4 c =
+    let two = c .before .before in
+    let one = two .before .before .before in
+    let bad = c .before .first-bad2 .ensures in
+    (ap (λ n. Refused (TapWord n)) bad ∙ sym (pack-tap _ _ _ _ (counted (one .before)) (one .if1 .left) (sym (two .before .first-bad .ensures) ∙ two .if2 .left ∙ sym (four (one .before))) (λ e. c .if3 .taken (bad ∙ e))), refl)
+
+write-file-requires : tie.Need-write-file-requires
+write-file-requires c κs =
+    let one = c .before .before .before .before .before .before in
+    let t = size (one .before) in
+    (t .1 .high, t .0, one .if1 .left)
+
+same-length : tie.Need-same-length
+same-length c = search needs
+
+returns-5 : tie.Need-returns-5
+unfolding packed
+returns-5 c =
+    let three = c .before .before .before .before in
+    let two = three .before .before in
+    let one = two .before .before .before in
+    let t = size (one .before) in
+    let batches : length (start (one .before) .args .taps .now) / 12 ≡ k (one .before) = omega (arith, t .0) in (
+      sym (pack-accepts _ _ _ _ (counted (one .before)) (one .if1 .left) (sym (two .before .first-bad .ensures) ∙ two .if2 .left ∙ sym (four (one .before))) (sym (three .before .first-bad2 .ensures) ∙ three .if3 .left)),
+      c .before .before .write-file .ensures ∙ rw batches,
+    )
+
+pub pack-spec : {M : Type 1} → statement M
+pack-spec =
+    tie.close
+    (tie.spec
+    tap-batches-requires
+    enum-known-count
+    enum-told
+    returns
+    mul-if1
+    add-if1
+    returns-2
+    slice-aggregate-first-bad
+    first-bad-requires
+    returns-3
+    first-bad-requires-2
+    returns-4
+    write-file-requires
+    same-length
+    returns-5)

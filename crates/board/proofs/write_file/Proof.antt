@@ -1,0 +1,50 @@
+-- `board::write_file` meets its contract: word 0, then claim and taps, one after the other.
+-- Assumes nothing.
+use native.Mathlib.Omega.{arith}
+use Rattle.board.proofs.Files.{file-written}
+use borrow.Author.Needs.{needs}
+use Rattle.board.proofs.write_file.Statement.{statement}
+use Rattle.board.proofs.write_file.Tie as tie
+
+cast-join : tie.Need-cast-join
+cast-join c = search needs
+
+join-requires : tie.Need-join-requires
+join-requires c κs = search needs
+
+write-requires : tie.Need-write-requires
+write-requires c κs = search needs
+
+slice-aggregate-write-all : tie.Need-slice-aggregate-write-all
+slice-aggregate-write-all c = search needs
+
+write-all-requires : tie.Need-write-all-requires
+write-all-requires c κs = search needs
+
+write-all-requires-2 : tie.Need-write-all-requires-2
+write-all-requires-2 c κs = search needs
+
+same-length : tie.Need-same-length
+same-length c = search needs
+
+returns : tie.Need-returns
+returns c =
+    let third = c .before .before in
+    let second = third .before .before .before .before in
+    let first = second .before .before .before .before .before in
+    let start = first .before .before .before .before .before in
+    let a = start .args in
+    file-written (a .destination .now) _ _ _ (a .taps .now) (a .t2) (a .k) (first .before .before .join .result .0) (omega arith) (start .pre .1) (start .pre .2) (first .before .before .join .ensures) (first .write .ensures) (second .write-all .ensures) (third .write-all2 .ensures)
+
+pub write-file-spec : {M : Type 1} → statement M
+write-file-spec =
+    tie.close
+    (tie.spec
+    cast-join
+    join-requires
+    write-requires
+    slice-aggregate-write-all
+    write-all-requires
+    write-all-requires-2
+    same-length
+    returns)

@@ -1,0 +1,92 @@
+-- The board file: what Pack writes, and what Unpack finds (document 01, "The board file", "What is turned back").
+-- Assumes nothing.
+use mathlib.Core.List.{List, _∷_, _++_}
+use Prim.Native.Nat.{ℕ, _+_, _*_, _/_, _%_, _^_}
+use lib.Dec.{eqb, leb}
+use lib.ListN.{length}
+use Rattle.words.specs.Words.{firstBad}
+use Rattle.counts.specs.Counts.{permitted, tapBatches}
+use Rattle.counts.specs.declared.BatchCount.{BatchCount}
+use Rattle.counts.specs.declared.BatchCount.the-variants as count
+use Rattle.fileword.specs.Words.{joined, kindOf, payloadOf, wordAt, bytesOf}
+use Rattle.elements.specs.Elements.{wordsOf, elementsAt, unless, elementsTest}
+use Rattle.refusals.specs.Refusals.{answerAfter, digestedAfter, digest}
+use Rattle.refusals.specs.declared.Refusal.{Refusal}
+use Rattle.refusals.specs.declared.Refusal.the-variants.{TapLength, TapWord, DestinationLength, ClaimWord, FileLength, WrongKind, WrongValue}
+use Rattle.refusals.specs.declared.Answer.{Answer}
+use Rattle.refusals.specs.declared.Answer.the-variants.{Accepted, Refused}
+use Rattle.refusals.specs.declared.Digested.{Digested}
+use Rattle.refusals.specs.declared.Digested.the-variants as digested
+
+-- ---- the file of k batches
+
+-- word 0 has kind 0, bits 16 to 29 zero, k in bits 0 to 15
+abbrev pub countWord : ℕ → ℕ
+countWord k = joined 0 k
+
+-- then claim and taps
+unfoldable pub fileOf : List ℕ → List ℕ → ℕ → List ℕ
+fileOf taps claim k = bytesOf (countWord k ∷ wordsOf (claim ++ taps))
+
+-- length 144k + 100 bytes
+abbrev pub fileSize : ℕ → ℕ
+fileSize k = 144 * k + 100
+
+-- ---- Pack: 5, 8, 9, 6
+
+-- the refusal unless the count is permitted, and then what follows
+abbrev pub counted : BatchCount → Refusal → (ℕ → Answer) → Answer
+counted (count.Permitted k) r rest = rest k
+counted count.Refused r rest = Refused r
+
+-- size is the destination's length
+unfoldable pub packAnswer : List ℕ → List ℕ → ℕ → Answer
+packAnswer taps claim size =
+    counted (tapBatches (length taps)) TapLength (λ k.
+    unless (eqb size (fileSize k)) DestinationLength
+    (unless (eqb (firstBad claim) (length claim)) (ClaimWord (firstBad claim))
+    (unless (eqb (firstBad taps) (length taps)) (TapWord (firstBad taps))
+    Accepted)))
+
+-- what an accepting Pack writes: a list of 12k + 4 words stands for k batches
+unfoldable pub packed : List ℕ → List ℕ → List ℕ
+packed taps claim = fileOf taps claim (length taps / 12)
+
+-- ---- what any bytes hold
+
+abbrev pub countIn : ℕ → ℕ
+countIn w = w % 2 ^ 16
+
+abbrev pub spareIn : ℕ → ℕ
+spareIn w = payloadOf w / 2 ^ 16
+
+unfoldable pub batchesIn : List ℕ → ℕ
+batchesIn file = countIn (wordAt file 0)
+
+unfoldable pub claimIn : List ℕ → List ℕ
+claimIn file = elementsAt file 1 4
+
+unfoldable pub tapsIn : List ℕ → List ℕ
+tapsIn file = elementsAt file 13 (12 * batchesIn file + 4)
+
+-- ---- Unpack: 12 (below 4), word 0's 13 then 14, 12, 8, then each element's three kinds and its value
+
+-- what reading word 0 finds: its kind, then spare bits and k
+unfoldable pub countTest : ℕ → Answer
+countTest w =
+    unless (eqb (kindOf w) 0) (WrongKind 0)
+    (unless (eqb (spareIn w) 0) (WrongValue 0)
+    (unless (permitted (countIn w)) (WrongValue 0)
+    Accepted))
+
+unfoldable pub unpackTest : List ℕ → ℕ → Answer
+unpackTest file size =
+    unless (leb 4 (length file)) FileLength
+    (answerAfter (countTest (wordAt file 0))
+    (unless (eqb (length file) (fileSize (batchesIn file))) FileLength
+    (unless (eqb size (12 * batchesIn file + 4)) DestinationLength
+    (elementsTest file 1 (12 * batchesIn file + 8)))))
+
+-- the claim is returned
+unfoldable pub unpackAnswer : List ℕ → ℕ → Digested
+unpackAnswer file size = digestedAfter (unpackTest file size) (digested.Accepted (digest (claimIn file)))

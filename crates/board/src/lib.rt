@@ -1,0 +1,109 @@
+// Pack and Unpack (document 01, "The board file"). Neither hashes.
+ghost use mathlib.Core.Path.{_≡_};
+ghost use Prim.Native.Nat.{_+_, _*_, _≤_};
+ghost use lib.ListN.{length};
+ghost use Rattle.refusals.specs.Refusals.{answerKept, digestedKept};
+ghost use Rattle.board.specs.Board.{fileOf, fileSize, packAnswer, packed, countIn, countTest, unpackTest, unpackAnswer, tapsIn};
+use counts::BatchCount;
+use fileword::Word;
+use refusals::Answer;
+use refusals::Digest;
+use refusals::Digested;
+use refusals::Refusal;
+
+// Writes the board file of the taps and the claim: 5, 8, 9, 6.
+pub fn pack(taps: &[u64], claim: [u64; 4], destination: &mut [u8]) -> Answer
+    ensures { λ r. ⌜ (r ≡ packAnswer (now (taps .entry)) claim (length (now (destination .entry)))) × (now (destination .exit) ≡ answerKept r (packed (now (taps .entry)) claim) (now (destination .entry))) ⌝ }
+{
+    let count = counts::tap_batches(taps.len());
+    let BatchCount::Permitted(k) = count else {
+        return Answer::Refused(Refusal::TapLength);
+    };
+    if destination.len() != 144 * k + 100 {
+        return Answer::Refused(Refusal::DestinationLength);
+    }
+    let bad_claim = words::first_bad(&claim);
+    if bad_claim != 4 {
+        return Answer::Refused(Refusal::ClaimWord(bad_claim));
+    }
+    let bad_tap = words::first_bad(taps);
+    if bad_tap != taps.len() {
+        return Answer::Refused(Refusal::TapWord(bad_tap));
+    }
+    write_file(taps, claim, k, destination);
+    Answer::Accepted
+}
+
+// Word 0, then claim and taps.
+fn write_file(taps: &[u64], claim: [u64; 4], k: usize, destination: &mut [u8])
+    requires { ⌜ (k ≤ 1024) × (length (now taps) ≡ 12 * k + 4) × (length (now destination) ≡ fileSize k) ⌝ }
+    ensures { λ _. ⌜ now (destination .exit) ≡ fileOf (now (taps .entry)) claim k ⌝ }
+{
+    Word::join(0, k as u32).write(0, destination);
+    elements::write_all(&claim, 1, destination);
+    elements::write_all(taps, 13, destination);
+}
+
+// k, in bits 0 to 15 of word 0.
+fn count_in(word: Word) -> usize
+    ensures { λ r. ⌜ r ≡ countIn (word .0) ⌝ }
+{
+    (word.0 & 0xffff) as usize
+}
+
+// What reading word 0 finds.
+fn test_count(word: Word) -> Answer
+    ensures { λ r. ⌜ r ≡ countTest (word .0) ⌝ }
+{
+    if word.kind() != 0 {
+        return Answer::Refused(Refusal::WrongKind(0));
+    }
+    if word.payload() >> 16 != 0 {
+        return Answer::Refused(Refusal::WrongValue(0));
+    }
+    if counts::is_permitted(count_in(word)) {
+        Answer::Accepted
+    } else {
+        Answer::Refused(Refusal::WrongValue(0))
+    }
+}
+
+// What reading the whole file finds: 12 (below 4), word 0's 13 then 14, 12, 8, then each element's three kinds and its value.
+fn test_file(file: &[u8], size: usize) -> Answer
+    ensures { λ r. ⌜ r ≡ unpackTest (now (file .entry)) size ⌝ }
+{
+    if file.len() < 4 {
+        return Answer::Refused(Refusal::FileLength);
+    }
+    let word = Word::read(file, 0);
+    let tested = test_count(word);
+    let Answer::Accepted = tested else {
+        return tested;
+    };
+    let k = count_in(word);
+    if file.len() != 144 * k + 100 {
+        return Answer::Refused(Refusal::FileLength);
+    }
+    if size != 12 * k + 4 {
+        return Answer::Refused(Refusal::DestinationLength);
+    }
+    elements::test_all(file, 1, 12 * k + 8)
+}
+
+// Writes the taps of a board file and returns its claim. The whole file is tested before the first word is written, since a refusal alters nothing.
+pub fn unpack(file: &[u8], destination: &mut [u64]) -> Digested
+    ensures { λ r. ⌜ (r ≡ unpackAnswer (now (file .entry)) (length (now (destination .entry)))) × (now (destination .exit) ≡ digestedKept r (tapsIn (now (file .entry))) (now (destination .entry))) ⌝ }
+{
+    let tested = test_file(file, destination.len());
+    let Answer::Accepted = tested else {
+        return Digested::after(tested);
+    };
+    let claim = Digest(
+        elements::read(file, 1),
+        elements::read(file, 4),
+        elements::read(file, 7),
+        elements::read(file, 10),
+    );
+    elements::read_all(file, 13, destination);
+    Digested::Accepted(claim)
+}

@@ -1,0 +1,75 @@
+-- One step there and back: `backStep` undoes `firstStep`, and `firstStep` undoes `backStep`, on states of twelve canonical cells.
+-- Assumes nothing.
+use mathlib.Core.Path.{_≡_, ap, _∙_}
+use mathlib.Core.List.{List}
+use Prim.Native.Nat.{ℕ, _+_, _*_, _<_}
+use native.Mathlib.Nat.{mod-lt}
+use native.Mathlib.Omega.{arith}
+use Rattle.lists.specs.Lists.{cell}
+use Rattle.lists.proofs.Tab.{cell-tab}
+use Rattle.field.specs.Field.{P, add, sub, cube, root}
+use Rattle.field.proofs.Fermat.{cube-root, root-cube}
+use Rattle.matrix.specs.Matrix.{times}
+use Rattle.table.specs.Table.{IsTable, matrixOf, inverseOf, constant}
+use Rattle.table.proofs.Theorems.{undo-mix, mix-undo}
+use Rattle.hash.specs.Hash.{roots, cubes, plus, mix, firstStep}
+use Rattle.hash.proofs.States.{IsState, state-cell, same-state, tab-state, roots-state, cubes-state, plus-state, times-state, cell-roots, cell-cubes, cell-plus, constant-state}
+use Rattle.constraints.specs.Constraints.{minus, backStep}
+
+-- ---- addition and subtraction
+add-sub : (a b : ℕ) → a < P → b < P → add (sub a b) b ≡ a
+add-sub a b p q = omega arith
+
+sub-add : (a b : ℕ) → a < P → b < P → sub (add a b) b ≡ a
+sub-add a b p q = omega arith
+
+pub minus-state : (s k : List ℕ) → IsState (minus s k)
+unfolding minus
+minus-state s k = tab-state _ (λ j h. mod-lt _ (omega arith))
+
+pub cell-minus : (s k : List ℕ) (j : ℕ) → j < 12 → cell (minus s k) j ≡ sub (cell s j) (cell k j)
+unfolding minus
+cell-minus s k j h = cell-tab 12 _ j h
+
+pub plus-minus : {s k : List ℕ} → IsState s → IsState k → plus (minus s k) k ≡ s
+plus-minus {s} {k} p q =
+    same-state (plus-state (minus s k) k) p
+    (λ j h. cell-plus (minus s k) k j h ∙ ap (λ x. add x (cell k j)) (cell-minus s k j h) ∙ add-sub (cell s j) (cell k j) (state-cell p j) (state-cell q j))
+
+pub minus-plus : {s k : List ℕ} → IsState s → IsState k → minus (plus s k) k ≡ s
+minus-plus {s} {k} p q =
+    same-state (minus-state (plus s k) k) p
+    (λ j h. cell-minus (plus s k) k j h ∙ ap (λ x. sub x (cell k j)) (cell-plus s k j h) ∙ sub-add (cell s j) (cell k j) (state-cell p j) (state-cell q j))
+
+-- ---- cubes and roots
+cubes-roots : {s : List ℕ} → IsState s → cubes (roots s) ≡ s
+cubes-roots {s} p = same-state (cubes-state (roots s)) p (λ j h. cell-cubes (roots s) j h ∙ ap cube (cell-roots s j h) ∙ cube-root (cell s j) (state-cell p j))
+
+roots-cubes : {s : List ℕ} → IsState s → roots (cubes s) ≡ s
+roots-cubes {s} p = same-state (roots-state (cubes s)) p (λ j h. cell-roots (cubes s) j h ∙ ap root (cell-cubes s j h) ∙ root-cube (cell s j) (state-cell p j))
+
+-- ---- the first step of round r
+pub backStep-state : (T : List ℕ) (r : ℕ) (s : List ℕ) → IsState (backStep T r s)
+unfolding backStep
+backStep-state T r s = cubes-state _
+
+module _ (T : List ℕ) (accepted : IsTable T) (r : ℕ) (h : r < 10) where
+  pub back-first : {s : List ℕ} → IsState s → backStep T r (firstStep T r s) ≡ s
+  unfolding backStep firstStep mix
+  back-first {s} p =
+      ap (λ x. cubes (times (inverseOf T) x)) (minus-plus (times-state (matrixOf T) (roots s)) (constant-state T accepted (2 * r + 1) (omega arith)))
+      ∙ ap cubes (undo-mix T accepted (roots s) (roots-state s .size) (λ i l. state-cell (roots-state s) i))
+      ∙ cubes-roots p
+
+  pub first-back : {x : List ℕ} → IsState x → firstStep T r (backStep T r x) ≡ x
+  unfolding backStep firstStep mix
+  first-back {x} p =
+      ap (λ y. plus (times (matrixOf T) y) (constant T (2 * r + 1))) (roots-cubes (times-state (inverseOf T) (minus x (constant T (2 * r + 1)))))
+      ∙ ap (λ y. plus y (constant T (2 * r + 1))) (mix-undo T accepted less (less-state .size) (λ i l. state-cell less-state i))
+      ∙ plus-minus p (constant-state T accepted (2 * r + 1) (omega arith))
+    where
+      less : List ℕ
+      less = minus x (constant T (2 * r + 1))
+
+      less-state : IsState less
+      less-state = minus-state x (constant T (2 * r + 1))

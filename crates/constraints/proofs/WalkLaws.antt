@@ -1,0 +1,144 @@
+-- The walk accepts exactly where every test holds, with the number of all tests; else it names the first test that fails, and its place.
+-- Assumes nothing.
+use mathlib.Core.Path.{_≡_, refl, sym, ap, _∙_, subst, subst₃}
+use mathlib.Core.Bool.{Bool, true, false}
+use mathlib.Core.Logic.{_⊎_, inl, inr}
+use mathlib.Core.List.{List, [], _∷_, _++_, List·Memᴰ, List·Memᴰ·cases-cons, List·Memᴰ·not-nil, Memᴰ·append-right}
+use Prim.Native.Nat.{ℕ, suc, _+_}
+use native.Mathlib.Omega.{arith}
+use lib.ListN.{length}
+use Rattle.lists.specs.Lists.{choose}
+use Rattle.counts.specs.declared.RowNumber.{RowNumber}
+use Rattle.refusals.specs.declared.Refusal.the-variants.{Constraint}
+use Rattle.refusals.specs.declared.Checked.{Checked}
+use Rattle.refusals.specs.declared.Checked.the-variants.{Accepted, Refused}
+use Rattle.constraints.specs.Constraints.{Test, holds, tests, walk, verdict}
+use Rattle.constraints.specs.FirstFailing.{AllHold, IsFirstFailing}
+
+module _ (T t claim : List ℕ) where
+  none-to-hold : AllHold T t claim []
+  none-to-hold x m = absurd (List·Memᴰ·not-nil m)
+
+  one-more-holds : (x : Test) (xs : List Test) → holds T t claim (x .at) (x .number) ≡ true → AllHold T t claim xs → AllHold T t claim (x ∷ xs)
+  one-more-holds x xs e a y m = go (List·Memᴰ·cases-cons m)
+    where
+      go : (y ≡ x) ⊎ List·Memᴰ y xs → holds T t claim (y .at) (y .number) ≡ true
+      go (inl p) = ap (λ z. holds T t claim (z .at) (z .number)) p ∙ e
+      go (inr p) = a y p
+
+  -- a walk over xs after n tests comes to one of these two ends
+  pub data Ends (xs : List Test) (n : ℕ) : Checked → Type 0 where
+    passes : AllHold T t claim xs → (m : ℕ) → m ≡ n + length xs → Ends xs n (Accepted m)
+    stops : (i c place : ℕ) → IsFirstFailing T t claim xs i c place → (m : ℕ) → m ≡ n + place → Ends xs n (Refused (Constraint (record { 0 = i }) c m))
+
+  one-more-end : (x : Test) (xs : List Test) (n : ℕ) (r : Checked) → holds T t claim (x .at) (x .number) ≡ true → Ends xs (n + 1) r → Ends (x ∷ xs) n r
+  one-more-end x xs n r e (passes a m p) = passes (one-more-holds x xs e a) m (omega arith)
+  one-more-end x xs n r e (stops i c place f m p) =
+      stops i c (place + 1)
+      (record {
+        before = x ∷ f .before;
+        after = f .after;
+        order = ap (λ l. x ∷ l) (f .order);
+        passed = one-more-holds x (f .before) e (f .passed);
+        fails = f .fails;
+        place = omega (arith, f .place);
+      })
+      m (omega arith)
+
+  pub walk-ends : (xs : List Test) (n : ℕ) → Ends xs n (walk T t claim xs n)
+  unfolding walk
+  walk-ends [] n = passes none-to-hold n (omega arith)
+  walk-ends (x ∷ xs) n = go (holds T t claim (x .at) (x .number)) refl (walk-ends xs (n + 1))
+    where
+      go : (b : Bool) → holds T t claim (x .at) (x .number) ≡ b → Ends xs (n + 1) (walk T t claim xs (n + 1))
+          → Ends (x ∷ xs) n (choose b (walk T t claim xs (n + 1)) (Refused (Constraint (record { 0 = x .at }) (x .number) (n + 1))))
+      go true e r = one-more-end x xs n _ e r
+      go false e r =
+          stops (x .at) (x .number) 1
+          (record { before = []; after = xs; order = refl; passed = none-to-hold; fails = e; place = omega arith })
+          (n + 1) refl
+
+  -- the two ends exclude each other: the test that fails is one of the list
+  pub not-both : (xs : List Test) (i c n : ℕ) → AllHold T t claim xs → IsFirstFailing T t claim xs i c n → ⊥
+  not-both xs i c n a f = yes-and-no (holds T t claim i c) (a x (subst (λ l. List·Memᴰ x l) (sym (f .order)) (Memᴰ·append-right (f .before) (List·Memᴰ.List·Memᴰ·head refl)))) (f .fails)
+    where
+      x : Test
+      x = record { at = i; number = c }
+
+      yes-and-no : (b : Bool) → b ≡ true → b ≡ false → ⊥
+      yes-and-no b p q = let z : _≡_ {A = ℕ} 0 1 = cc in omega arith
+
+  -- a walk stops at the test that fails, where all before it hold
+  walk-stops : (xs : List Test) (i c : ℕ) (rest : List Test) (n : ℕ) → AllHold T t claim xs → holds T t claim i c ≡ false
+      → walk T t claim (xs ++ record { at = i; number = c } ∷ rest) n ≡ Refused (Constraint (record { 0 = i }) c (n + (length xs + 1)))
+  unfolding walk
+  walk-stops [] i c rest n a e =
+      let z : n + 1 ≡ n + (0 + 1) = omega arith in
+      rw e (ap (λ m. Refused (Constraint (record { 0 = i }) c m)) z)
+  walk-stops (x ∷ xs) i c rest n a e =
+      let z : n + 1 + (length xs + 1) ≡ n + (suc (length xs) + 1) = omega arith in
+      rw (a x (List·Memᴰ.List·Memᴰ·head refl))
+      (walk-stops xs i c rest (n + 1) (λ y m. a y (List·Memᴰ.List·Memᴰ·tail m)) e ∙ ap (λ m. Refused (Constraint (record { 0 = i }) c m)) z)
+
+  -- ---- the verdict
+  module _ (k : ℕ) where
+    verdict-ends : Ends (tests k) 0 (verdict T t claim k)
+    unfolding verdict
+    verdict-ends = walk-ends (tests k) 0
+
+    pub accepted-all-hold : (n : ℕ) → verdict T t claim k ≡ Accepted n → AllHold T t claim (tests k)
+    accepted-all-hold n = go (verdict T t claim k) verdict-ends
+      where
+        go : (r : Checked) → Ends (tests k) 0 r → r ≡ Accepted n → AllHold T t claim (tests k)
+        go r (passes a m p) e = a
+        go r (stops i c place f m p) e = absurd (let z : _≡_ {A = ℕ} 0 1 = cc in omega arith)
+
+    -- the number reported with an accepted trace is that of all tests
+    pub accepted-count : (n : ℕ) → verdict T t claim k ≡ Accepted n → n ≡ length (tests k)
+    accepted-count n = go (verdict T t claim k) verdict-ends
+      where
+        go : (r : Checked) → Ends (tests k) 0 r → r ≡ Accepted n → n ≡ length (tests k)
+        go r (passes a m p) e =
+            let z : m ≡ n = cc in
+            omega arith
+        go r (stops i c place f m p) e = absurd (let z : _≡_ {A = ℕ} 0 1 = cc in omega arith)
+
+    pub all-hold-accepted : AllHold T t claim (tests k) → verdict T t claim k ≡ Accepted (length (tests k))
+    all-hold-accepted a = go (verdict T t claim k) verdict-ends
+      where
+        go : (r : Checked) → Ends (tests k) 0 r → r ≡ Accepted (length (tests k))
+        go r (passes b m p) =
+            let z : m ≡ length (tests k) = omega arith in
+            ap Accepted z
+        go r (stops i c place f m p) = absurd (not-both (tests k) i c place a f)
+
+    -- a refusal names row, constraint and place of the first test that fails
+    pub refused-first-failing : (i c n : ℕ) → verdict T t claim k ≡ Refused (Constraint (record { 0 = i }) c n) → IsFirstFailing T t claim (tests k) i c n
+    refused-first-failing i c n = go (verdict T t claim k) verdict-ends
+      where
+        go : (r : Checked) → Ends (tests k) 0 r → r ≡ Refused (Constraint (record { 0 = i }) c n) → IsFirstFailing T t claim (tests k) i c n
+        go r (passes a m p) e = absurd (let z : _≡_ {A = ℕ} 0 1 = cc in omega arith)
+        go r (stops j d place f m p) e =
+            let same : _≡_ {A = RowNumber} (record { 0 = j }) (record { 0 = i }) = cc in
+            let x : j ≡ i = ap (λ row. row .0) same in
+            let y : d ≡ c = cc in
+            let z : m ≡ n = cc in
+            let w : place ≡ n = omega arith in
+            subst₃ (λ u v l. IsFirstFailing T t claim (tests k) u v l) x y w f
+
+    pub first-failing-refused : (i c n : ℕ) → IsFirstFailing T t claim (tests k) i c n → verdict T t claim k ≡ Refused (Constraint (record { 0 = i }) c n)
+    unfolding verdict
+    first-failing-refused i c n f =
+        let z : 0 + (length (f .before) + 1) ≡ n = omega (arith, f .place) in
+        ap (λ l. walk T t claim l 0) (f .order)
+        ∙ walk-stops (f .before) i c (f .after) 0 (f .passed) (f .fails)
+        ∙ ap (λ m. Refused (Constraint (record { 0 = i }) c m)) z
+
+    -- and every trace that is not accepted is refused so
+    pub else-first-failing : ((n : ℕ) → verdict T t claim k ≡ Accepted n → ⊥)
+        → (i : ℕ) × (c : ℕ) × (n : ℕ) × (verdict T t claim k ≡ Refused (Constraint (record { 0 = i }) c n))
+    else-first-failing never = go (verdict T t claim k) verdict-ends never
+      where
+        go : (r : Checked) → Ends (tests k) 0 r → ((n : ℕ) → r ≡ Accepted n → ⊥) → (i : ℕ) × (c : ℕ) × (n : ℕ) × (r ≡ Refused (Constraint (record { 0 = i }) c n))
+        go r (passes a m p) q = absurd (q m refl)
+        go r (stops i c place f m p) q = (i, c, m, refl)

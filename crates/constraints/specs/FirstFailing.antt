@@ -1,0 +1,21 @@
+-- What the walk decides: that every test holds, or which is the first that fails (document 01, "The 52 constraints").
+-- Assumes nothing.
+use mathlib.Core.Path.{_≡_}
+use mathlib.Core.Bool.{true, false}
+use mathlib.Core.List.{List, _∷_, _++_, List·Memᴰ}
+use Prim.Native.Nat.{ℕ, _+_}
+use lib.ListN.{length}
+use Rattle.constraints.specs.Constraints.{Test, holds}
+
+-- every test of the list holds
+abbrev pub AllHold : List ℕ → List ℕ → List ℕ → List Test → Type 0
+AllHold T t claim tests = (x : Test) → List·Memᴰ x tests → holds T t claim (x .at) (x .number) ≡ true
+
+-- constraint c at row i is the first test of the list that fails, and its place, counted from 1, is n
+pub record IsFirstFailing (T t claim : List ℕ) (tests : List Test) (i c n : ℕ) : Type 0 where
+  pub before : List Test
+  pub after : List Test
+  pub order : tests ≡ before ++ record { at = i; number = c } ∷ after
+  pub passed : AllHold T t claim before
+  pub fails : holds T t claim i c ≡ false
+  pub place : n ≡ length before + 1

@@ -1,0 +1,77 @@
+-- An element's three words spell it, and no other element has them: the words of a list of elements are read as those elements.
+-- Assumes nothing.
+use mathlib.Core.Path.{_≡_, refl, sym, ap, ap₂, _∙_}
+use mathlib.Core.List.{List, [], _∷_, _++_}
+use Prim.Native.Nat.{ℕ, zero, suc, _+_, _*_, _/_, _%_, _^_, _<_, _≤_}
+use native.Mathlib.Nat.{mod-eq-of-lt}
+use native.Mathlib.Numerals.{add-one}
+use native.Mathlib.Omega.{arith}
+use lib.Bits.{bitOr, or-shifted}
+use lib.ListN.{length, take}
+use lib.Pow.{shr-shr}
+use lib.Seq.{sets, take-suc, length-take-le}
+use Rattle.lists.specs.Lists.{cell}
+use Rattle.field.specs.Field.{P}
+use Rattle.fileword.specs.Words.{joined, kindOf, payloadOf, wordBytes, wordAt, each, bytesOf}
+use Rattle.fileword.proofs.Shifts.{above}
+use Rattle.fileword.proofs.Each.{each-append, length-each, cell-each}
+use Rattle.fileword.proofs.Stores.{sets-append}
+use Rattle.fileword.proofs.Laws.{length-bytes}
+use Rattle.elements.specs.Elements.{elementWords, wordsOf, elementOf, elementAt}
+
+-- three payloads joined by shifts, where the first is below 16
+pub spelled : (a b c : ℕ) → a < 2 ^ 4 → b < 2 ^ 30 → c < 2 ^ 30 → bitOr (bitOr (a * 2 ^ 60 % 2 ^ 64) (b * 2 ^ 30 % 2 ^ 64)) c ≡ a * 2 ^ 60 + b * 2 ^ 30 + c
+spelled a b c ha hb hc =
+    let small : b * 2 ^ 30 % 2 ^ 64 ≡ b * 2 ^ 30 = mod-eq-of-lt (omega arith) in
+    let two = above 64 a 60 (b * 2 ^ 30 % 2 ^ 64) (omega arith) (omega arith) in
+    let e : a * 2 ^ 60 + b * 2 ^ 30 % 2 ^ 64 ≡ (a * 2 ^ 30 + b) * 2 ^ 30 = omega arith in
+    ap (λ (x : ℕ). bitOr x c) (two ∙ e) ∙ or-shifted (a * 2 ^ 30 + b) 30 c hc ∙ omega arith
+
+-- a 64-bit number is what its three words spell
+pub words-spell : (x : ℕ) → x < 2 ^ 64 → elementOf (joined 1 (x / 2 ^ 60)) (joined 2 (x / 2 ^ 30 % 2 ^ 30)) (joined 3 (x % 2 ^ 30)) ≡ x
+words-spell x h = omega (arith, shr-shr x 30 30)
+
+-- words of the three kinds are those of the element that they spell
+pub spell-words : (a b c : ℕ) → kindOf a ≡ 1 → kindOf b ≡ 2 → kindOf c ≡ 3 → elementWords (elementOf a b c) ≡ a ∷ b ∷ c ∷ []
+spell-words a b c ha hb hc =
+    ap₂ _∷_ (omega arith) (ap₂ _∷_ (omega arith) (ap (λ w. w ∷ []) (omega arith)))
+
+-- an element of 2^64 or more has a first payload above 15
+pub no-word : (file : List ℕ) (j : ℕ) → 16 ≤ payloadOf (wordAt file j) → 2 ^ 64 ≤ elementAt file j
+unfolding elementAt
+no-word file j h = omega arith
+
+-- ---- writing: three words, one after the other
+pub write-three : (l l₁ l₂ l₃ : List ℕ) (j a b c : ℕ) → l₁ ≡ sets l (4 * j) (wordBytes a) → l₂ ≡ sets l₁ (4 * (j + 1)) (wordBytes b) → l₃ ≡ sets l₂ (4 * (j + 2)) (wordBytes c)
+    → l₃ ≡ sets l (4 * j) (bytesOf (a ∷ b ∷ c ∷ []))
+unfolding each
+write-three l l₁ l₂ l₃ j a b c p q r =
+    let four : 4 * (j + 1) ≡ suc (suc (suc (suc (4 * j)))) = omega arith in
+    let eight : 4 * (j + 2) ≡ suc (suc (suc (suc (suc (suc (suc (suc (4 * j)))))))) = omega arith in
+    r ∙ rw (q, p, four, eight)
+
+-- ---- lists of elements
+three-words : (x : ℕ) → length (elementWords x) ≡ 3
+three-words x = refl
+
+pub length-words : (xs : List ℕ) → length (wordsOf xs) ≡ 3 * length xs
+length-words xs = length-each 3 elementWords three-words xs
+
+pub cell-words : (xs : List ℕ) (i t : ℕ) → i < length xs → t < 3 → cell (wordsOf xs) (3 * i + t) ≡ cell (elementWords (cell xs i)) t
+cell-words xs i t h m = cell-each 3 elementWords three-words xs i t h m
+
+-- the elements passed, and the next
+pub write-next : (l l₁ l₂ xs : List ℕ) (i j : ℕ) → i < length xs → l₁ ≡ sets l (4 * j) (bytesOf (wordsOf (take i xs))) → l₂ ≡ sets l₁ (4 * (j + 3 * i)) (bytesOf (elementWords (cell xs i)))
+    → l₂ ≡ sets l (4 * j) (bytesOf (wordsOf (take (i + 1) xs)))
+unfolding each
+write-next l l₁ l₂ xs i j h p q =
+    let done : List ℕ = bytesOf (wordsOf (take i xs)) in
+    let next : List ℕ = bytesOf (elementWords (cell xs i)) in
+    let size : length done ≡ 4 * (3 * i) = length-bytes (wordsOf (take i xs)) ∙ ap (λ n. 4 * n) (length-words (take i xs) ∙ ap (λ n. 3 * n) (length-take-le i xs (omega arith))) in
+    let at : 4 * (j + 3 * i) ≡ 4 * j + length done = omega (arith, size) in
+    let more : bytesOf (wordsOf (take (i + 1) xs)) ≡ done ++ next =
+    ap (λ n. bytesOf (wordsOf (take n xs))) (add-one i)
+    ∙ ap (λ s. bytesOf (wordsOf s)) (take-suc xs i 0 h)
+    ∙ ap bytesOf (each-append elementWords (take i xs) (cell xs i ∷ []))
+    ∙ each-append wordBytes (wordsOf (take i xs)) (elementWords (cell xs i)) in
+    q ∙ rw (p, at) (sets-append l (4 * j) done next ∙ ap (sets l (4 * j)) (sym more))

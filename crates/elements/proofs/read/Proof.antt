@@ -1,0 +1,43 @@
+-- `elements::read` meets its contract: an element below p has a first payload below 16.
+-- Assumes nothing.
+use mathlib.Core.Path.{_≡_, ap, _∙_}
+use native.Mathlib.Omega.{arith}
+use borrow.Author.Needs.{needs}
+use Rattle.elements.specs.Elements.{elementAt}
+use Rattle.elements.proofs.read.Statement.{statement}
+use Rattle.elements.proofs.read.Tie as tie
+
+read-requires : tie.Need-read-requires
+read-requires c κs = search needs
+
+add-read : tie.Need-add-read
+add-read c = search needs
+
+read-requires-2 : tie.Need-read-requires-2
+read-requires-2 c κs = search needs
+
+add-read-2 : tie.Need-add-read-2
+add-read-2 c = search needs
+
+read-requires-3 : tie.Need-read-requires-3
+read-requires-3 c κs = search needs
+
+value-requires : tie.Need-value-requires
+unfolding elementAt
+value-requires c κs = omega arith
+
+returns : tie.Need-returns
+unfolding elementAt
+returns c = cc
+
+pub read-spec : {M : Type 1} → statement M
+read-spec =
+    tie.close
+    (tie.spec
+    read-requires
+    add-read
+    read-requires-2
+    add-read-2
+    read-requires-3
+    value-requires
+    returns)

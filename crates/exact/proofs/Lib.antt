@@ -1,0 +1,4 @@
+pub mod Sound
+pub mod ReadList
+pub mod Built
+pub mod Exactness

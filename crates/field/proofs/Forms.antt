@@ -1,0 +1,137 @@
+-- Montgomery's form: a product divided by 2^64 is the product of the elements that its factors stand for.
+-- Assumes nothing.
+use Prim.Native.Nat.{ℕ, _+_, _*_, _-_, _/_, _%_, _^_, _<_, _≤_}
+use mathlib.Core.Path.{_≡_, refl, sym, ap, ap₂, _∙_, subst}
+use native.Mathlib.Nat.{add-mul-mod-self-left, mod-mod, mod-lt, mod-eq-of-lt, mul-one, mul-comm, mul-assoc, mod-add-div, mul-le-mul, lt-of-le-of-lt, div-lt-iff-lt-mul, mul-lt-mul-of-pos-right, le-of-lt}
+use native.Mathlib.Omega.{arith}
+use lib.Dec.{lit<, lit≤}
+use lib.Pow.{shr-lt}
+use Rattle.field.specs.Field.{P, mul}
+use Rattle.field.specs.Montgomery.{Short, element, timesWord, enterWord}
+use Rattle.field.proofs.Modular.{mul-mod-l, mul-mod-r}
+
+-- numbers that differ by multiples of m
+same : (m x y u v : ℕ) → x + m * u ≡ y + m * v → x % m ≡ y % m
+same m x y u v e = sym (add-mul-mod-self-left x m u) ∙ ap (λ z. z % m) e ∙ add-mul-mod-self-left y m v
+
+-- ---- a k with an inverse j: dividing by k
+module _ (p k j : ℕ) (inv : (k * j) % p ≡ 1) where
+  undo : (a : ℕ) → (a * k * j) % p ≡ a % p
+  undo a = ap (λ z. z % p) (mul-assoc a k j) ∙ sym (mul-mod-r p a (k * j)) ∙ ap (λ z. (a * z) % p) inv ∙ ap (λ z. z % p) (mul-one a)
+
+  divided : (r t : ℕ) → (r * k) % p ≡ t % p → r % p ≡ (t * j) % p
+  divided r t e = sym (undo r) ∙ sym (mul-mod-l p (r * k) j) ∙ ap (λ z. (z * j) % p) e ∙ mul-mod-l p t j
+
+  -- r is a b / k: then r / k is a / k times b / k
+  product-form : (a b r : ℕ) → (r * k) % p ≡ (a * b) % p → (r * j) % p ≡ ((a * j) % p * ((b * j) % p)) % p
+  product-form a b r e =
+      sym (mul-mod-l p r j)
+      ∙ ap (λ z. (z * j) % p) (divided r (a * b) e)
+      ∙ mul-mod-l p (a * b * j) j
+      ∙ ap (λ z. z % p) s
+      ∙ sym (mul-mod-l p (a * j) (b * j))
+      ∙ sym (mul-mod-r p ((a * j) % p) (b * j))
+    where
+      s : a * b * j * j ≡ a * j * (b * j)
+      s = omega arith
+
+-- 2^64 and its inverse
+inverse-of-unit : (2 ^ 64 * 288230397626548624) % P ≡ 1
+inverse-of-unit = refl
+
+-- ---- the reduction: t is h 2^64 + l, and f p is u 2^64 + l
+pub lower-equal : (l f : ℕ) → l < 2 ^ 64 → f ≡ l * 16140900978596511745 % 2 ^ 64 → f * P % 2 ^ 64 ≡ l
+lower-equal l f h e =
+    ap (λ x. x * P % 2 ^ 64) e
+    ∙ mul-mod-l (2 ^ 64) (l * 16140900978596511745) P
+    ∙ ap (λ x. x % 2 ^ 64) (mul-assoc l 16140900978596511745 P)
+    ∙ sym (mul-mod-r (2 ^ 64) l (16140900978596511745 * P))
+    ∙ ap (λ x. x % 2 ^ 64) (mul-one l)
+    ∙ mod-eq-of-lt h
+
+pub factor-small : (f : ℕ) → f < 2 ^ 64 → f * P / 2 ^ 64 < P
+factor-small f h = div-lt-iff-lt-mul {k = 2 ^ 64} {x = f * P} {y = P} (lit< tt) .1 (subst (λ x. f * P < x) (mul-comm (2 ^ 64) P) (mul-lt-mul-of-pos-right h (lit< tt)))
+
+pub upper-small : (a b : ℕ) → Short a → Short b → a * b / 2 ^ 64 < P
+upper-small a b ha hb = omega (arith, low)
+  where
+    small : a * b ≤ 4611686190226079745 * 4611686190226079745
+    small = mul-le-mul {n₂ = 4611686190226079745} {m₂ = 4611686190226079745} (omega arith) (omega arith)
+
+    low : a * b / 2 ^ 64 < 2 ^ 61
+    low = shr-lt 61 64 (lt-of-le-of-lt small (lit< tt))
+
+reduced : (t h l f u r : ℕ) → t ≡ h * 2 ^ 64 + l → f * P ≡ u * 2 ^ 64 + l → r + u ≡ h + P → (r * 2 ^ 64) % P ≡ t % P
+reduced t h l f u r et ef er = same P (r * 2 ^ 64) t f (2 ^ 64) (go P f er ef et)
+  where
+    go : (p f′ : ℕ) → r + u ≡ h + p → f′ * p ≡ u * 2 ^ 64 + l → t ≡ h * 2 ^ 64 + l → r * 2 ^ 64 + p * f′ ≡ t + p * 2 ^ 64
+    go p f′ a b c = omega arith
+
+pub times-law : (a b l f u r : ℕ) → l ≡ a * b % 2 ^ 64 → f ≡ l * 16140900978596511745 % 2 ^ 64 → u ≡ f * P / 2 ^ 64 → r + u ≡ a * b / 2 ^ 64 + P → element r ≡ mul (element a) (element b)
+times-law a b l f u r el ef eu er = product-form P (2 ^ 64) 288230397626548624 inverse-of-unit a b r (reduced (a * b) (a * b / 2 ^ 64) l f u r split-t split-f er)
+  where
+    l-low : l < 2 ^ 64
+    l-low = subst (λ x. x < 2 ^ 64) (sym el) (mod-lt (a * b) (lit< tt))
+
+    split-t : a * b ≡ a * b / 2 ^ 64 * 2 ^ 64 + l
+    split-t = sym (mod-add-div (a * b) (2 ^ 64)) ∙ turned (a * b % 2 ^ 64) (a * b / 2 ^ 64) ∙ ap (λ x. a * b / 2 ^ 64 * 2 ^ 64 + x) (sym el)
+      where
+        turned : (x y : ℕ) → x + 2 ^ 64 * y ≡ y * 2 ^ 64 + x
+        turned x y = omega arith
+
+    split-f : f * P ≡ u * 2 ^ 64 + l
+    split-f = sym (mod-add-div (f * P) (2 ^ 64)) ∙ turned (f * P % 2 ^ 64) (f * P / 2 ^ 64) ∙ ap₂ (λ x y. x * 2 ^ 64 + y) (sym eu) (lower-equal l f l-low ef)
+      where
+        turned : (x y : ℕ) → x + 2 ^ 64 * y ≡ y * 2 ^ 64 + x
+        turned x y = omega arith
+
+-- ---- into the form and out of it
+pub enter-law : (x r : ℕ) → x < P → element r ≡ mul (element x) (element 2288261904184696897) → element r ≡ x
+enter-law x r h e =
+    e
+    ∙ mul-mod-l P (x * 288230397626548624) 2305842407918272505
+    ∙ ap (λ z. z % P) (mul-assoc x 288230397626548624 2305842407918272505)
+    ∙ sym (mul-mod-r P x (288230397626548624 * 2305842407918272505))
+    ∙ ap (λ z. z % P) (mul-one x)
+    ∙ mod-eq-of-lt h
+
+pub leave-law : (v x : ℕ) → element x ≡ mul (element v) (element 1) → x % P ≡ element v
+leave-law v x e =
+    sym (undo P 288230397626548624 (2 ^ 64) refl x)
+    ∙ sym (mul-mod-l P (x * 288230397626548624) (2 ^ 64))
+    ∙ ap (λ z. (z * 2 ^ 64) % P) e
+    ∙ mul-mod-l P (element v * 288230397626548624) (2 ^ 64)
+    ∙ undo P 288230397626548624 (2 ^ 64) refl (element v)
+    ∙ mod-mod (v * 288230397626548624) P
+
+pub element-lt : (v : ℕ) → element v < P
+element-lt v = mod-lt (v * 288230397626548624) (omega arith)
+
+-- ---- the laws of `timesWord`
+module _ (a b : ℕ) (ha : Short a) (hb : Short b) where
+  factor : ℕ
+  factor = a * b % 2 ^ 64 * 16140900978596511745 % 2 ^ 64
+
+  off-small : factor * P / 2 ^ 64 < P
+  unfolding factor
+  off-small = factor-small factor (mod-lt (a * b % 2 ^ 64 * 16140900978596511745) (lit< tt))
+
+  pub times-element : element (timesWord a b) ≡ mul (element a) (element b)
+  unfolding factor timesWord
+  times-element = times-law a b (a * b % 2 ^ 64) factor (factor * P / 2 ^ 64) (timesWord a b) refl refl refl (restored (a * b / 2 ^ 64) (factor * P / 2 ^ 64) off-small)
+    where
+      restored : (h u : ℕ) → u < P → ((h + P) - u) + u ≡ h + P
+      restored h u l = omega arith
+
+  pub times-short : Short (timesWord a b)
+  unfolding factor timesWord
+  times-short = low (a * b / 2 ^ 64) (factor * P / 2 ^ 64) (upper-small a b ha hb)
+    where
+      low : (h u : ℕ) → h < P → (h + P) - u < 2 * P
+      low h u l = omega arith
+
+pub enter-element : (x : ℕ) → x < P → element (enterWord x) ≡ x
+enter-element x h = enter-law x (enterWord x) h (times-element x 2288261904184696897 (omega arith) (omega arith))
+
+pub enter-short : (x : ℕ) → x < P → Short (enterWord x)
+enter-short x h = times-short x 2288261904184696897 (omega arith) (omega arith)

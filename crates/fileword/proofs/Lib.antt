@@ -1,0 +1,4 @@
+pub mod Shifts
+pub mod Each
+pub mod Stores
+pub mod Laws

@@ -1,0 +1,12 @@
+-- `fileword::Word::join` meets its contract.
+-- Assumes nothing.
+use borrow.Author.Needs.{needs}
+use Rattle.fileword.proofs.Shifts.{above}
+use Rattle.fileword.proofs.Word.join.Statement.{statement}
+use Rattle.fileword.proofs.Word.join.Tie as tie
+
+returns : tie.Need-returns
+returns c = above 32 (c .args .kind) 30 (c .args .payload) (search needs) (search needs)
+
+pub join-spec : {M : Type 1} → statement M
+join-spec = tie.close (tie.spec returns)

@@ -1,0 +1,11 @@
+-- `fileword::Word::payload` meets its contract.
+-- Assumes nothing.
+use lib.Bits.{and-mask}
+use Rattle.fileword.proofs.Word.payload.Statement.{statement}
+use Rattle.fileword.proofs.Word.payload.Tie as tie
+
+returns : tie.Need-returns
+returns c = and-mask (c .before .args .self .0) 30
+
+pub payload-spec : {M : Type 1} → statement M
+payload-spec = tie.close (tie.spec returns)

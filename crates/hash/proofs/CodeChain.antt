@@ -1,0 +1,63 @@
+-- The chain as the code walks it: the words that it reads for a hash, and the state that begins with the last output.
+-- Assumes nothing.
+use mathlib.Core.Path.{_≡_, refl, sym, ap, ap₂, _∙_, subst}
+use mathlib.Core.List.{List, [], _∷_, _++_}
+use Prim.Native.Nat.{ℕ, _+_, _*_, _≤_}
+use native.Mathlib.Numerals.{add-one}
+use native.Mathlib.Omega.{arith}
+use lib.ListN.{length, take, drop, replicate, length-drop}
+use lib.Seq.{getD-drop, take-all}
+use Rattle.lists.specs.Lists.{cell}
+use Rattle.words.specs.Words.{AllCanonical, CanonicalTo}
+use Rattle.hash.specs.Hash.{finalState, input, hash, tap, outputAt}
+use Rattle.hash.proofs.Inputs.{IsTap, tap-is-tap, input-state, output-zero, output-suc, output-tap}
+use Rattle.hash.proofs.CodeStates.{canonical-state}
+
+-- the first four cells
+pub first-four : (s : List ℕ) → 4 ≤ length s → cell s 0 ∷ cell s 1 ∷ cell s 2 ∷ cell s 3 ∷ [] ≡ take 4 s
+first-four [] h = absurd (omega arith)
+first-four (a ∷ []) h = absurd (omega arith)
+first-four (a ∷ b ∷ []) h = absurd (omega arith)
+first-four (a ∷ b ∷ c ∷ []) h = absurd (omega arith)
+first-four (a ∷ b ∷ c ∷ d ∷ s) h = refl
+
+-- w_n, from its first word at n₀
+pub tap-words : (w : List ℕ) (n n₀ : ℕ) → 4 * n + 4 ≤ length w → n₀ ≡ 4 * n → cell w n₀ ∷ cell w (n₀ + 1) ∷ cell w (n₀ + 2) ∷ cell w (n₀ + 3) ∷ [] ≡ tap w n
+unfolding tap
+tap-words w n n₀ h e = (λ i. at 0 n₀ (omega arith) i ∷ at 1 (n₀ + 1) (omega arith) i ∷ at 2 (n₀ + 2) (omega arith) i ∷ at 3 (n₀ + 3) (omega arith) i ∷ []) ∙ first-four (drop (4 * n) w) (omega (arith, length-drop (4 * n) w))
+  where
+    at : (j m : ℕ) → m ≡ 4 * n + j → cell w m ≡ cell (drop (4 * n) w) j
+    at j m q = ap (cell w) q ∙ sym (getD-drop (4 * n) w j 0)
+
+-- the input that begins with the first four cells of s, and goes on with w_n
+pub input-words : (s w : List ℕ) (n n₀ : ℕ) →
+    4 ≤ length s →
+    4 * n + 4 ≤ length w →
+    n₀ ≡ 4 * n →
+    cell s 0 ∷ cell s 1 ∷ cell s 2 ∷ cell s 3 ∷ cell w n₀ ∷ cell w (n₀ + 1) ∷ cell w (n₀ + 2) ∷ cell w (n₀ + 3) ∷ 0 ∷ 0 ∷ 0 ∷ 0 ∷ [] ≡ input (take 4 s) (tap w n)
+unfolding input
+input-words s w n n₀ hs hw e = ap₂ input (first-four s hs) (tap-words w n n₀ hw e)
+
+-- ---- the walk: the state begins with the last output
+module _ (T w : List ℕ) where
+  -- before the first hash
+  pub starts : (s : List ℕ) → 4 ≤ length w → s ≡ tap w 0 ++ replicate 8 0 → take 4 s ≡ outputAt T w 0
+  starts s h e =
+      let t = tap-words w 0 0 h refl in
+      ap (take 4) e ∙ ap (λ x. take 4 (x ++ replicate 8 0)) (sym t) ∙ t ∙ sym (output-zero T w)
+
+  module _ (h : ℕ) (s r : List ℕ) (e : take 4 s ≡ outputAt T w h) (q : r ≡ input (take 4 s) (tap w (h + 1))) where
+    pub input-canonical : AllCanonical w → 4 * h + 8 ≤ length w → CanonicalTo 12 r
+    input-canonical a l = canonical-state q (input-state (subst IsTap (sym e) (output-tap T w a (omega arith) h)) (tap-is-tap w a (h + 1) (omega arith)))
+
+    -- after hash h
+    pub goes-on : (f : List ℕ) → f ≡ finalState T r → take 4 f ≡ outputAt T w (h + 1)
+    goes-on f p =
+        ap (take 4) (p ∙ ap (finalState T) (q ∙ ap₂ (λ a n. input a (tap w n)) e (add-one h)))
+        ∙ sym (output-suc T w h)
+        ∙ ap (outputAt T w) (sym (add-one h))
+
+-- the chain of two taps is their hash
+pub two-taps : (T w : List ℕ) → length w ≡ 8 → outputAt T w 1 ≡ hash T (take 4 w) (drop 4 w)
+unfolding outputAt tap
+two-taps T w e = ap (hash T (take 4 w)) (take-all 4 (drop 4 w) (omega (arith, length-drop 4 w)))

@@ -1,0 +1,72 @@
+-- `hash::final_state` meets its contract: the state is that before the round, from whatever input the first one came.
+-- Assumes nothing.
+use mathlib.Core.Path.{_≡_, refl, ap, _∙_}
+use mathlib.Core.List.{List}
+use Prim.Native.Nat.{ℕ, suc, _-_, _≤_}
+use native.Mathlib.Numerals.{add-one}
+use native.Mathlib.Omega.{arith}
+use borrow.Author.Needs.{needs}
+use Rattle.words.specs.Words.{CanonicalTo}
+use Rattle.hash.specs.Hash.{firstStep, secondStep, stateAt, finalState}
+use Rattle.hash.proofs.States.{firstStep-state, secondStep-state, stateAt-state}
+use Rattle.hash.proofs.CodeStates.{canonical-state}
+use Rattle.hash.proofs.final_state.Statement.{statement}
+use Rattle.hash.proofs.final_state.Tie as tie
+
+abbrev Inv-loop : tie.InvT-loop
+Inv-loop table state₀ round₀ state round = (round ≤ 10) × CanonicalTo 12 state × ((s : List ℕ) → state₀ ≡ stateAt table s 0 → state ≡ stateAt table s round)
+
+abbrev μ-loop : tie.MeasureT-loop
+μ-loop table state₀ round₀ state round = 10 - round
+
+opening-requires : tie.Need-opening-requires Inv-loop μ-loop
+opening-requires c κs = c .before .pre
+
+loop-holds : tie.Need-loop-holds Inv-loop μ-loop
+loop-holds c = (omega arith, canonical-state (c .opening .ensures) (stateAt-state _ _ 0), λ s e. e)
+
+first-step-requires : tie.Need-first-step-requires Inv-loop μ-loop
+first-step-requires c κs = (c .before .before .before .before .pre .0, omega arith, c .before .loop .inv .1)
+
+second-step-requires : tie.Need-second-step-requires Inv-loop μ-loop
+second-step-requires c κs = (c .before .before .before .before .before .pre .0, omega arith, canonical-state (c .first-step .ensures) (firstStep-state _ _ _))
+
+add-round : tie.Need-add-round Inv-loop μ-loop
+add-round c = search needs
+
+loop-less : tie.Need-loop-less Inv-loop μ-loop
+loop-less c = search needs
+
+loop-again : tie.Need-loop-again Inv-loop μ-loop
+unfolding stateAt
+loop-again c =
+    let t = c .before .before .before .before .before .before .args .table .now in
+    let l = c .before .before .before .loop in
+    let n = l .round in (
+      omega arith,
+      canonical-state (c .second-step .ensures) (secondStep-state _ _ _),
+      λ s e. c .second-step .ensures ∙ ap (secondStep t n) (c .before .first-step .ensures ∙ ap (firstStep t n) (l .inv .2 s e)) ∙ rw (add-one n),
+    )
+
+returns : tie.Need-returns Inv-loop μ-loop
+unfolding finalState
+returns c =
+    let a = c .before .before .before .before .args in
+    let l = c .before .loop in
+    let e : l .round ≡ 10 = omega arith in
+    l .inv .2 (a .input) (c .before .before .opening .ensures) ∙ ap (stateAt (a .table .now) (a .input)) e
+
+pub final-state-spec : {M : Type 1} → statement M
+final-state-spec =
+    tie.close
+    (tie.spec
+    Inv-loop
+    μ-loop
+    opening-requires
+    loop-holds
+    first-step-requires
+    second-step-requires
+    add-round
+    loop-less
+    loop-again
+    returns)

@@ -1,0 +1,152 @@
+-- Under the table S every round moves each cell two places on, so that ten rounds bring the second tap to the front.
+-- Assumes nothing.
+use mathlib.Core.Path.{_≡_, refl, sym, ap, _∙_}
+use mathlib.Core.Bool.{Bool, true, false}
+use mathlib.Core.List.{List, [], _∷_, _++_}
+use Prim.Native.Nat.{ℕ, zero, suc, _+_, _*_, _-_, _/_, _%_, _<_, _≤_}
+use native.Mathlib.Nat.{mod-lt, mod-eq-of-lt, one-mul, zero-mul}
+use native.Mathlib.Omega.{arith}
+use borrow.Author.Tests.{eq-eqb, ne-eqb}
+use lib.Dec.{eqb}
+use lib.ListN.{length, drop, replicate, length-append, List·getD-append}
+use lib.Seq.{getD-take, getD-drop, getD-append-add}
+use Rattle.lists.specs.Lists.{choose, cell, tab, sum}
+use Rattle.lists.proofs.Tab.{length-tab, cell-tab}
+use Rattle.lists.proofs.Sum.{sum-one}
+use Rattle.words.specs.Words.{AllCanonical}
+use Rattle.field.specs.Field.{P, add, cube, root}
+use Rattle.field.proofs.Fermat.{root-lt, cube-root}
+use Rattle.matrix.specs.Matrix.{entry, timesColumn, times}
+use Rattle.matrix.proofs.Cells.{cell-times}
+use Rattle.table.specs.Table.{matrixOf, constant}
+use Rattle.hash.specs.Hash.{roots, cubes, plus, mix, firstStep, secondStep, stateAt, middleState, finalState, input, hash}
+use Rattle.hash.proofs.States.{IsState, state-cell, same-cells, cell-roots, cell-cubes, cell-plus, roots-state, cubes-state, stateAt-state, stateAt-zero, stateAt-suc}
+use Rattle.hash.proofs.Inputs.{IsTap, cell-take, cell-input-right, input-state, hash-tap}
+use Rattle.knowndays.specs.Days.{shifted, S}
+
+-- ---- the table's words
+length-shifted : (shift : ℕ) → length (shifted shift) ≡ 144
+unfolding shifted
+length-shifted shift = length-tab 144 (λ n. choose (eqb (n % 12) ((n / 12 + shift) % 12)) 1 0)
+
+S-matrix : (n : ℕ) → n < 144 → cell S n ≡ choose (eqb (n % 12) ((n / 12 + 11) % 12)) 1 0
+unfolding S shifted
+S-matrix n h =
+    List·getD-append (shifted 11 ++ shifted 1) (replicate 252 0) 0 n (omega (arith, length-append (shifted 11) (shifted 1), length-shifted 11))
+    ∙ List·getD-append (shifted 11) (shifted 1) 0 n (omega (arith, length-shifted 11))
+    ∙ cell-tab 144 (λ m. choose (eqb (m % 12) ((m / 12 + 11) % 12)) 1 0) n h
+
+zeros-cell : (m i : ℕ) → cell (replicate m 0) i ≡ 0
+zeros-cell zero zero = refl
+zeros-cell zero (suc i) = refl
+zeros-cell (suc m) zero = refl
+zeros-cell (suc m) (suc i) = zeros-cell m i
+
+S-constants : (n : ℕ) → cell S (288 + n) ≡ 0
+unfolding S
+S-constants n = ap (λ k. cell (shifted 11 ++ shifted 1 ++ replicate 252 0) k) e ∙ getD-append-add (shifted 11 ++ shifted 1) (replicate 252 0) n 0 ∙ zeros-cell 252 n
+  where
+    e : 288 + n ≡ length (shifted 11 ++ shifted 1) + n
+    e = omega (arith, length-append (shifted 11) (shifted 1), length-shifted 11, length-shifted 1)
+
+constant-zero : (n j : ℕ) → j < 12 → cell (constant S n) j ≡ 0
+unfolding constant
+constant-zero n j h = getD-take 12 (drop (288 + 12 * n) S) j 0 h ∙ getD-drop (288 + 12 * n) S j 0 ∙ ap (cell S) e ∙ S-constants (12 * n + j)
+  where
+    e : 288 + 12 * n + j ≡ 288 + (12 * n + j)
+    e = omega arith
+
+S-entry : (i j : ℕ) → i < 12 → j < 12 → entry (matrixOf S) i j ≡ choose (eqb j ((i + 11) % 12)) 1 0
+unfolding matrixOf
+S-entry i j hi hj =
+    getD-take 144 S (12 * i + j) 0 (omega arith)
+    ∙ S-matrix (12 * i + j) (omega arith)
+    ∙ ap (λ c. choose (eqb c (((12 * i + j) / 12 + 11) % 12)) 1 0) p
+    ∙ ap (λ r. choose (eqb j ((r + 11) % 12)) 1 0) q
+  where
+    p : (12 * i + j) % 12 ≡ j
+    p = omega arith
+
+    q : (12 * i + j) / 12 ≡ i
+    q = omega arith
+
+-- ---- M moves each cell one place on
+mix-cell : (s : List ℕ) (i : ℕ) → i < 12 → cell (mix S s) i ≡ cell s ((i + 11) % 12) % P
+unfolding mix timesColumn
+mix-cell s i h = cell-times (matrixOf S) s i h ∙ ap (λ x. x % P) (sum-one 12 from (λ j. entry (matrixOf S) i j * cell s j) within others ∙ ap (λ x. x * cell s from) here ∙ one-mul (cell s from))
+  where
+    from : ℕ
+    from = (i + 11) % 12
+
+    within : from < 12
+    within = mod-lt (i + 11) (omega arith)
+
+    here : entry (matrixOf S) i from ≡ 1
+    here = S-entry i from h within ∙ ap (λ b. choose b 1 0) (eq-eqb from from refl)
+
+    others : (j : ℕ) → j < 12 → (j ≡ from → ⊥) → entry (matrixOf S) i j * cell s j ≡ 0
+    others j hj ne = ap (λ x. x * cell s j) (S-entry i j h hj ∙ ap (λ b. choose b 1 0) (ne-eqb j from ne)) ∙ zero-mul (cell s j)
+
+add-zero-constant : (x k : ℕ) → x < P → k ≡ 0 → add x k ≡ x
+add-zero-constant x k h e = ap (λ y. (x + y) % P) e ∙ ap (λ y. y % P) z ∙ mod-eq-of-lt h
+  where
+    z : x + 0 ≡ x
+    z = omega arith
+
+-- one step: a cell function that gives canonical words, then M, then a constant of zeros
+step-cell : (s : List ℕ) (n i : ℕ) → IsState s → i < 12 → cell (plus (mix S s) (constant S n)) i ≡ cell s ((i + 11) % 12)
+step-cell s n i st h =
+    cell-plus (mix S s) (constant S n) i h
+    ∙ ap (λ x. add x (cell (constant S n) i)) (mix-cell s i h ∙ mod-eq-of-lt (state-cell st ((i + 11) % 12)))
+    ∙ add-zero-constant (cell s ((i + 11) % 12)) (cell (constant S n) i) (state-cell st ((i + 11) % 12)) (constant-zero n i h)
+
+-- ---- a round moves each cell two places on
+round-cell : (s : List ℕ) (r i : ℕ) → IsState s → i < 12 → cell (secondStep S r (firstStep S r s)) i ≡ cell s ((i + 10) % 12)
+unfolding firstStep secondStep
+round-cell s r i st h =
+    step-cell (cubes (firstStep S r s)) (2 * r + 2) i (cubes-state (firstStep S r s)) h
+    ∙ cell-cubes (firstStep S r s) j hj
+    ∙ ap cube (step-cell (roots s) (2 * r + 1) j (roots-state s) hj ∙ cell-roots s ((j + 11) % 12) (mod-lt (j + 11) (omega arith)) ∙ ap (λ k. root (cell s k)) e)
+    ∙ cube-root (cell s ((i + 10) % 12)) (state-cell st ((i + 10) % 12))
+  where
+    j : ℕ
+    j = (i + 11) % 12
+
+    hj : j < 12
+    hj = mod-lt (i + 11) (omega arith)
+
+    e : (j + 11) % 12 ≡ (i + 10) % 12
+    e = omega arith
+
+state-moved : (s : List ℕ) → IsState s → (r i : ℕ) → i < 12 → cell (stateAt S s r) i ≡ cell s ((i + 10 * r) % 12)
+unfolding middleState
+state-moved s st zero i h =
+    ap (λ t. cell t i) (stateAt-zero S s)
+    ∙ cell-plus s (constant S 0) i h
+    ∙ add-zero-constant (cell s i) (cell (constant S 0) i) (state-cell st i) (constant-zero 0 i h)
+    ∙ ap (cell s) e
+  where
+    e : i ≡ (i + 10 * 0) % 12
+    e = omega arith
+state-moved s st (suc r) i h = rec (state-moved s st r ((i + 10) % 12) (mod-lt (i + 10) (omega arith)))
+  where
+    rec : cell (stateAt S s r) ((i + 10) % 12) ≡ cell s (((i + 10) % 12 + 10 * r) % 12) → cell (stateAt S s (suc r)) i ≡ cell s ((i + 10 * suc r) % 12)
+    rec ih = ap (λ t. cell t i) (stateAt-suc S s r) ∙ round-cell (stateAt S s r) r i (stateAt-state S s r) h ∙ ih ∙ ap (cell s) e
+      where
+        e : ((i + 10) % 12 + 10 * r) % 12 ≡ (i + 10 * suc r) % 12
+        e = omega arith
+
+-- ---- so the hash gives its second tap
+pub hash-gives-second : (a b : List ℕ) → IsTap a → IsTap b → hash S a b ≡ b
+unfolding hash finalState
+hash-gives-second a b ta tb = same-cells 4 (hash S a b) b (hash-tap S a b .size) (tb .size) each
+  where
+    each : (j : ℕ) → j < 4 → cell (hash S a b) j ≡ cell b j
+    each j h =
+        cell-take (finalState S (input a b)) j h
+        ∙ state-moved (input a b) (input-state ta tb) 10 j (omega arith)
+        ∙ ap (cell (input a b)) e
+        ∙ cell-input-right ta tb j h
+      where
+        e : (j + 10 * 10) % 12 ≡ 4 + j
+        e = omega arith

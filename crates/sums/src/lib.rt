@@ -1,0 +1,48 @@
+// Sums of products of two elements, which have 128 bits, reduced by p once.
+ghost use mathlib.Core.Path.{_≡_};
+ghost use Prim.Native.Nat.{_+_, _*_, _%_, _^_, _<_};
+ghost use Rattle.field.specs.Field.{P, Canonical};
+ghost use Rattle.sums.specs.Sums.{valueOf, lessOnce};
+use field::Fp;
+
+// An upper and a lower word.
+pub struct Wide(pub u64, pub u64);
+
+// 2^125 / p, rounded down
+const RECIPROCAL: u64 = 18446743386514809847;
+
+impl Wide {
+    pub const ZERO: Wide = Wide(0, 0);
+
+    // The sum with a * b.
+    pub fn plus(self, a: u64, b: u64) -> Wide
+        requires { ⌜ (self .0 < 2 ^ 62) × Canonical a × Canonical b ⌝ }
+        ensures { λ r. ⌜ valueOf r ≡ valueOf self + a * b ⌝ }
+    {
+        let part = wide::low(a, b);
+        let lower = std::num::wrapping_add_u64(self.1, part);
+        if lower < part {
+            Wide(self.0 + wide::high(a, b) + 1, lower)
+        } else {
+            Wide(self.0 + wide::high(a, b), lower)
+        }
+    }
+
+    // The remainder by p, by Barrett's method: the quotient is estimated from the upper 64 bits, and is less than 6 too small.
+    pub fn rest(self) -> u64
+        requires { ⌜ self .0 < 2 ^ 62 ⌝ }
+        ensures { λ r. ⌜ (r ≡ valueOf self % P) × Canonical r ⌝ }
+    {
+        let upper = less_once(self.0, Fp::P);
+        let quotient = 2 * wide::high(4 * upper + self.1 / 4611686018427387904, RECIPROCAL);
+        let left = std::num::wrapping_sub_u64(self.1, wide::low(quotient, Fp::P));
+        less_once(less_once(less_once(left, 4 * Fp::P), 2 * Fp::P), Fp::P)
+    }
+}
+
+// x, less m where it reaches m.
+fn less_once(x: u64, m: u64) -> u64
+    ensures { λ r. ⌜ r ≡ lessOnce x m ⌝ }
+{
+    if x < m { x } else { x - m }
+}
