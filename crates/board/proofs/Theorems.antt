@@ -1,30 +1,30 @@
 -- The board file's promises (demand 2): a packed file unpacks to its taps and claim, an accepted file packs to the same bytes,
 -- so that no claim and list have two files; and no element from p on, or from 2^64 on, is ever taken for another.
 -- Assumes nothing.
-use mathlib.Core.Path.{_≡_, refl, sym, ap, ap₂, _∙_}
+use mathlib.Core.Path.{_≡_, refl, sym, ap, _∙_}
 use mathlib.Core.List.{List, [], _∷_, _++_}
-use Prim.Native.Nat.{ℕ, zero, suc, _+_, _*_, _/_, _-_, _^_, _<_, _≤_}
+use Prim.Native.Nat.{ℕ, zero, suc, _+_, _*_, _/_, _^_, _<_, _≤_}
 use native.Mathlib.Numerals.{one-add}
 use native.Mathlib.Omega.{arith}
-use lib.ListN.{length, length-append, take, drop}
+use lib.ListN.{length, length-append, take, drop, replicate}
 use lib.Seq.{take-at, drop-at}
 use Rattle.lists.specs.Lists.{cell, tab}
 use Rattle.field.specs.Field.{P, Canonical}
 use Rattle.words.specs.Words.{AllCanonical}
 use Rattle.counts.specs.Counts.{IsPermitted}
-use Rattle.fileword.specs.Words.{kindOf, payloadOf, wordAt, AllBytes, bytesOf}
+use Rattle.fileword.specs.Words.{payloadOf, wordAt, AllBytes, each, bytesOf}
 use Rattle.fileword.proofs.Laws.{bytes-unique}
 use Rattle.elements.specs.Elements.{wordsOf, elementAt, elementsAt}
 use Rattle.elements.proofs.Laws.{length-words, no-word}
-use Rattle.elements.proofs.Tests.{IsElement, too-large, first-refused}
+use Rattle.elements.proofs.Tests.{too-large, first-refused}
 use Rattle.elements.proofs.Round.{read-accepted, read-back, words-back, length-elements, elements-append, elements-canonical}
 use Rattle.refusals.specs.Refusals.{digest}
 use Rattle.refusals.specs.declared.Digest.{Digest}
 use Rattle.refusals.specs.declared.Refusal.the-variants.{WrongValue}
 use Rattle.refusals.specs.declared.Answer.the-variants as answer
 use Rattle.refusals.specs.declared.Digested.the-variants.{Accepted, Refused}
-use Rattle.board.specs.Board.{countWord, fileOf, fileSize, packAnswer, packed, batchesIn, claimIn, tapsIn, countTest, unpackTest, unpackAnswer}
-use Rattle.board.proofs.Cases.{IsPacked, pack-accepted, pack-complete, IsBoard, batches-is, unpack-accepted, unpack-complete, unpack-elements, unpack-returns, unpack-refuses, returned}
+use Rattle.board.specs.Board.{countWord, fileOf, packAnswer, packed, batchesIn, claimIn, tapsIn, unpackAnswer, claimOf, IsBoard, ReadTo}
+use Rattle.board.proofs.Cases.{pack-accepted, pack-complete, batches-is, unpack-accepted, unpack-complete, unpack-elements, unpack-returns, unpack-refuses, returned}
 use Rattle.board.proofs.Files as files
 
 -- the file has 144k + 100 bytes
@@ -45,12 +45,12 @@ module _ (taps claim : List ℕ) (k : ℕ) (permitted : IsPermitted k) (t : leng
   count = length-append claim taps ∙ omega arith
 
   pub packed-board : IsBoard (fileOf taps claim k) k
-  packed-board = record
-    { permitted = permitted
-    ; word = files.file-first taps claim k (permitted .high) all
-    ; size = files.file-length taps claim k c t
-    ; elements = λ i h. read-accepted (fileOf taps claim k) 1 (claim ++ taps) all (files.file-word taps claim k (permitted .high) all) i (omega (arith, count))
-    }
+  packed-board = record {
+    permitted = permitted;
+    word = files.file-first taps claim k (permitted .high) all;
+    size = files.file-length taps claim k c t;
+    elements = λ i h. read-accepted (fileOf taps claim k) 1 (claim ++ taps) all (files.file-word taps claim k (permitted .high) all) i (omega (arith, count));
+  }
 
   -- the claim, then the taps, are what is read
   parts : claimIn (fileOf taps claim k) ++ tapsIn (fileOf taps claim k) ≡ claim ++ taps
@@ -78,11 +78,15 @@ module _ (taps claim : List ℕ) (k : ℕ) (permitted : IsPermitted k) (t : leng
       let file : List ℕ = fileOf taps claim k in
       (ap (unpackAnswer file) t ∙ unpack-returns file (12 * k + 4) (unpack-complete file k packed-board) ∙ ap (λ s. Accepted (digest s)) packed-claim, packed-taps)
 
--- ---- an accepted file packs to the same bytes
+-- the same of whatever Pack accepts
+pub unpack-packed : (taps claim : List ℕ) (size : ℕ) → length claim ≡ 4 → packAnswer taps claim size ≡ answer.Accepted
+    → (unpackAnswer (packed taps claim) (length taps) ≡ Accepted (digest claim)) × (tapsIn (packed taps claim) ≡ taps)
+unfolding packed
+unpack-packed taps claim size c e =
+    let h = pack-accepted taps claim size e in
+    unpack-pack taps claim (length taps / 12) (h .permitted) (h .taps-size) (h .taps-canonical) c (h .claim-canonical)
 
--- the four words of a claim that is returned
-abbrev pub claimOf : Digest → List ℕ
-claimOf d = d .0 ∷ d .1 ∷ d .2 ∷ d .3 ∷ []
+-- ---- an accepted file packs to the same bytes
 
 module _ (file : List ℕ) (bytes : AllBytes file) (h : IsBoard file (batchesIn file)) where
   k : ℕ
@@ -112,10 +116,10 @@ module _ (file : List ℕ) (bytes : AllBytes file) (h : IsBoard file (batchesIn 
 
   board-canonical : AllCanonical (claimIn file) × AllCanonical (tapsIn file)
   unfolding claimIn tapsIn
-  board-canonical =
-    ( elements-canonical file 1 4 (λ i l. h .elements i (omega arith))
-    , elements-canonical file 13 (12 * batchesIn file + 4) (λ i l. rw (after-claim i) at (h .elements (4 + i) (omega arith)))
-    )
+  board-canonical = (
+    elements-canonical file 1 4 (λ i l. h .elements i (omega arith)),
+    elements-canonical file 13 (12 * batchesIn file + 4) (λ i l. rw (after-claim i) at (h .elements (4 + i) (omega arith))),
+  )
     where
       after-claim : (i : ℕ) → 1 + 3 * (4 + i) ≡ 13 + 3 * i
       after-claim i = omega arith
@@ -137,15 +141,15 @@ pack-unpack file size d bytes e =
     let h = unpack-accepted file size (r .0) .0 in
     let c = claim-is file d (r .1) in
     let canonical = board-canonical file bytes h in
-    let k-is : length (tapsIn file) / 12 ≡ batchesIn file = omega (arith, taps-length file) in
-    ( pack-complete (tapsIn file) (claimOf d) (length file) (batchesIn file) (record
-      { permitted = h .permitted
-      ; taps-size = taps-length file
-      ; size-is = h .size
-      ; claim-canonical = rw c at (canonical .0)
-      ; taps-canonical = canonical .1
-      })
-    , rw (sym c, k-is) (board-packs file bytes h)
+    let k-is : length (tapsIn file) / 12 ≡ batchesIn file = omega (arith, taps-length file) in (
+      pack-complete (tapsIn file) (claimOf d) (length file) (batchesIn file) (record {
+        permitted = h .permitted;
+        taps-size = taps-length file;
+        size-is = h .size;
+        claim-canonical = rw c at (canonical .0);
+        taps-canonical = canonical .1;
+      }),
+      rw (sym c, k-is) (board-packs file bytes h),
     )
 
 -- so two accepted files that hold the same claim and taps are equal
@@ -159,18 +163,6 @@ one-meaning f g m n d bf bg ef eg t =
 pub accepted-canonical : (file : List ℕ) (size : ℕ) (d : Digest) → unpackAnswer file size ≡ Accepted d → (i : ℕ) → i < 12 * batchesIn file + 8 → Canonical (elementAt file (1 + 3 * i))
 accepted-canonical file size d e i h = unpack-accepted file size (returned file size d e .0) .0 .elements i h .value
 
--- what Unpack has accepted when it comes to element i
-pub record ReadTo (file : List ℕ) (size i : ℕ) : Type 0 where
-  pub four : 4 ≤ length file
-  pub count : countTest (wordAt file 0) ≡ answer.Accepted
-  pub bytes : length file ≡ fileSize (batchesIn file)
-  pub room : size ≡ 12 * batchesIn file + 4
-  pub within : i < 12 * batchesIn file + 8
-  pub before : (n : ℕ) → n < i → IsElement file (1 + 3 * n)
-  pub high : kindOf (wordAt file (1 + 3 * i)) ≡ 1
-  pub middle : kindOf (wordAt file (1 + 3 * i + 1)) ≡ 2
-  pub low : kindOf (wordAt file (1 + 3 * i + 2)) ≡ 3
-
 -- an element from p on is refused at its first word, however large the number that its payloads spell
 pub no-wrap : (file : List ℕ) (size i : ℕ) → ReadTo file size i → P ≤ elementAt file (1 + 3 * i) → unpackAnswer file size ≡ Refused (WrongValue (1 + 3 * i))
 no-wrap file size i h large =
@@ -183,3 +175,14 @@ pub no-wrap-64 : (file : List ℕ) (size i : ℕ) → ReadTo file size i → 15 
 no-wrap-64 file size i h above =
     let large = no-word file (1 + 3 * i) above in
     (large, no-wrap file size i h (omega (arith, large)))
+
+-- ---- the file of zeros (document 01, "Known days"): 00000001, then 40000000, 80000000, C0000000 twenty times
+
+-- a list n times
+abbrev pub times : ℕ → List ℕ → List ℕ
+times zero s = []
+times (suc n) s = s ++ times n s
+
+pub zero-file : fileOf (replicate 16 0) (replicate 4 0) 1 ≡ bytesOf (0x00000001 ∷ times 20 (0x40000000 ∷ 0x80000000 ∷ 0xC0000000 ∷ []))
+unfolding fileOf each
+zero-file = refl
