@@ -40,7 +40,7 @@ pub read-three : (file : List ℕ) (j a b c x : ℕ) → a ≡ wordAt file j →
 unfolding elementAt
 read-three file j a b c x p q r e = e ∙ rw (p, q, r)
 
--- an element of 2^64 or more has a first payload above 15
+-- a first payload above 15 makes an element of 2^64 or more
 pub no-word : (file : List ℕ) (j : ℕ) → 16 ≤ payloadOf (wordAt file j) → 2 ^ 64 ≤ elementAt file j
 unfolding elementAt
 no-word file j h = omega arith
