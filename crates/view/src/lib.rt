@@ -18,7 +18,8 @@ pub fn row_at(trace: &[u64], batch: BatchNumber, within: usize) -> &[u64]
     requires { ⌜ LentRow (now trace) (batch .0) within ⌝ }
     ensures { λ r. ⌜ now r ≡ row (now (trace .entry)) (32 * batch .0 + within) ⌝ }
 {
-    let start = batch.row(within).start();
+    let row = batch.row(within);
+    let start = row.start();
     let end = start + 12;
     &trace[start..end]
 }
@@ -42,4 +43,19 @@ pub fn row_of(trace: &[u64], batch: BatchNumber, within: usize) -> &[u64]
     ensures { λ r. ⌜ now r ≡ row (now (trace .entry)) (32 * batch .0 + within) ⌝ }
 {
     row(view(trace, batch), within)
+}
+
+// The cells of a row of the whole trace, read through the view of its batch.
+pub fn cells(trace: &[u64], number: RowNumber) -> [u64; 12]
+    requires { ⌜ (number .0 < 2 ^ 37) × (12 * number .0 + 12 ≤ length (now trace)) ⌝ }
+    ensures { λ r. ⌜ r ≡ row (now (trace .entry)) (number .0) ⌝ }
+{
+    let lent = row_of(trace, number.batch(), number.within());
+    let mut out = [0u64; 12];
+    let mut j: usize = 0;
+    while j < 12 {
+        out[j] = lent[j];
+        j += 1;
+    }
+    out
 }
