@@ -27,96 +27,15 @@ use Rattle.board.proofs.Round.{packed-board, packed-claim, packed-taps,
 pub file-length : (taps claim : List ℕ) (k : ℕ) → length claim ≡ 4 → length taps ≡ 12 * k + 4 → length (fileOf taps claim k) ≡ 144 * k + 100
 file-length taps claim k c t = files.file-length taps claim k c t
 
--- ---- a packed board file unpacks to its taps and claim
-both-canonical : (s t : List ℕ) → AllCanonical s → AllCanonical t → AllCanonical (s ++ t)
-both-canonical [] t a b i h = b i h
-both-canonical (x ∷ s) t a b zero h = a 0 (omega arith)
-both-canonical (x ∷ s) t a b (suc i) h = both-canonical s t (λ j l. a (suc j) (omega arith)) b i (omega arith)
-
-module _ (taps claim : List ℕ) (k : ℕ) (permitted : IsPermitted k) (t : length taps ≡ 12 * k + 4) (t-canonical : AllCanonical taps) (c : length claim ≡ 4) (c-canonical : AllCanonical claim) where
-  all : AllCanonical (claim ++ taps)
-  all = both-canonical claim taps c-canonical t-canonical
-
-  count : length (claim ++ taps) ≡ 12 * k + 8
-  count = length-append claim taps ∙ omega arith
-
-  pub packed-board : IsBoard (fileOf taps claim k) k
-  packed-board = record {
-    permitted = permitted;
-    word = files.file-first taps claim k (permitted .high) all;
-    size = files.file-length taps claim k c t;
-    elements = λ i h. read-accepted (fileOf taps claim k) 1 (claim ++ taps) all (files.file-word taps claim k (permitted .high) all) i (omega (arith, count));
-  }
-
-  -- the claim, then the taps, are what is read
-  parts : claimIn (fileOf taps claim k) ++ tapsIn (fileOf taps claim k) ≡ claim ++ taps
-  unfolding claimIn tapsIn
-  parts =
-      let file : List ℕ = fileOf taps claim k in
-      let b = batches-is file k packed-board in
-      let n : 4 + (12 * batchesIn file + 4) ≡ length (claim ++ taps) = omega (arith, b, count) in
-      sym (elements-append file 1 4 (12 * batchesIn file + 4)) ∙ ap (elementsAt file 1) n ∙ read-back file 1 (claim ++ taps) all (files.file-word taps claim k (permitted .high) all)
-
-  pub packed-claim : claimIn (fileOf taps claim k) ≡ claim
-  unfolding claimIn
-  packed-claim =
-      sym (take-at (claimIn file) (tapsIn file) 4 (length-elements file 1 4)) ∙ ap (take 4) parts ∙ take-at claim taps 4 c
-
-  pub packed-taps : tapsIn (fileOf taps claim k) ≡ taps
-  packed-taps =
-      sym (drop-at (claimIn file) (tapsIn file) 4 (length-elements file 1 4)) ∙ ap (drop 4) parts ∙ drop-at claim taps 4 c
-
-  pub unpack-pack : (unpackAnswer (fileOf taps claim k) (length taps) ≡ Accepted (digest claim)) × (tapsIn (fileOf taps claim k) ≡ taps)
-  unpack-pack =
-      (ap (unpackAnswer file) t ∙ unpack-returns file (12 * k + 4) (unpack-complete file k packed-board) ∙ ap (λ s. Accepted (digest s)) packed-claim, packed-taps)
-
--- ---- an accepted file packs to the same bytes
-
--- the four words of a claim that is returned
-abbrev pub claimOf : Digest → List ℕ
-claimOf d = d .0 ∷ d .1 ∷ d .2 ∷ d .3 ∷ []
-
-module _ (file : List ℕ) (bytes : AllBytes file) (h : IsBoard file (batchesIn file)) where
-  k : ℕ
-  k = batchesIn file
-
-  elements : List ℕ
-  elements = elementsAt file 1 (12 * k + 8)
-
-  board-elements : claimIn file ++ tapsIn file ≡ elements
-  unfolding claimIn tapsIn k elements
-  board-elements =
-      let n : 4 + (12 * batchesIn file + 4) ≡ 12 * batchesIn file + 8 = omega arith in
-      sym (elements-append file 1 4 (12 * batchesIn file + 4)) ∙ ap (elementsAt file 1) n
-
-  board-words : (j : ℕ) → j < length (countWord k ∷ wordsOf elements) → cell (countWord k ∷ wordsOf elements) j ≡ wordAt file j
-  unfolding k elements
-  board-words zero l = sym (h .word)
-  board-words (suc m) l =
-      words-back file 1 (12 * k + 8) (h .elements) m (omega (arith, length-words elements, length-elements file 1 (12 * k + 8)))
-      ∙ ap (wordAt file) (one-add m)
-
-  board-packs : fileOf (tapsIn file) (claimIn file) (batchesIn file) ≡ file
-  unfolding fileOf k elements
-  board-packs =
-      ap (λ s. bytesOf (countWord k ∷ wordsOf s)) board-elements
-      ∙ bytes-unique file (countWord k ∷ wordsOf elements) bytes (omega (arith, h .size, length-words elements, length-elements file 1 (12 * k + 8))) board-words
-
-  board-canonical : AllCanonical (claimIn file) × AllCanonical (tapsIn file)
-  board-canonical = (
-    elements-canonical file 1 4 (λ i l. h .elements i (omega arith)),
-    elements-canonical file 13 (12 * batchesIn file + 4) (λ i l. rw (after-claim i) at (h .elements (4 + i) (omega arith))),
-  )
-    where
-      after-claim : (i : ℕ) → 1 + 3 * (4 + i) ≡ 13 + 3 * i
-      after-claim i = omega arith
 -- a packed board file unpacks to its taps and claim
 pub unpack-pack : (taps claim : List ℕ) (k : ℕ) → IsPermitted k → length taps ≡ 12 * k + 4 → AllCanonical taps → length claim ≡ 4 → AllCanonical claim
     → (unpackAnswer (fileOf taps claim k) (length taps) ≡ Accepted (digest claim)) × (tapsIn (fileOf taps claim k) ≡ taps)
 unpack-pack taps claim k p t ts c cs =
+    let file : List ℕ = fileOf taps claim k in
     let board = packed-board taps claim k p t ts c cs in (
       ap (unpackAnswer file) t ∙ unpack-returns file (12 * k + 4) (unpack-complete file k board) ∙ ap (λ s. Accepted (digest s)) (packed-claim taps claim k p t ts c cs),
       packed-taps taps claim k p t ts c cs,
+    )
 
 -- the same of whatever Pack accepts
 pub unpack-packed : (taps claim : List ℕ) (size : ℕ) → length claim ≡ 4 → packAnswer taps claim size ≡ answer.Accepted
@@ -129,6 +48,7 @@ unpack-packed taps claim size c e =
 -- an accepted file packs to the same bytes
 pub pack-unpack : (file : List ℕ) (size : ℕ) (d : Digest) → AllBytes file → unpackAnswer file size ≡ Accepted d
     → (packAnswer (tapsIn file) (claimOf d) (length file) ≡ answer.Accepted) × (packed (tapsIn file) (claimOf d) ≡ file)
+unfolding packed
 pack-unpack file size d bytes e =
     let r = returned file size d e in
     let h = unpack-accepted file size (r .0) .0 in
@@ -143,6 +63,7 @@ pack-unpack file size d bytes e =
         taps-canonical = canonical .1;
       }),
       rw (sym c, k-is) (board-packs file bytes h),
+    )
 
 -- so two accepted files that hold the same claim and taps are equal
 pub one-meaning : (f g : List ℕ) (m n : ℕ) (d : Digest) → AllBytes f → AllBytes g → unpackAnswer f m ≡ Accepted d → unpackAnswer g n ≡ Accepted d → tapsIn f ≡ tapsIn g → f ≡ g
@@ -152,6 +73,7 @@ one-meaning f g m n d bf bg ef eg t =
 -- what is accepted are the board files, into a destination of their 12k + 4 words
 pub accepted-board : (file : List ℕ) (size : ℕ) (d : Digest) → unpackAnswer file size ≡ Accepted d → IsBoard file (batchesIn file) × (size ≡ 12 * batchesIn file + 4) × (claimIn file ≡ claimOf d)
 accepted-board file size d e =
+    let r = returned file size d e in
     let h = unpack-accepted file size (r .0) in
     (h .0, h .1, claim-is file d (r .1))
 
