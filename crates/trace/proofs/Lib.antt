@@ -1,2 +1,3 @@
 pub mod RowKinds
 pub mod TraceCells
+pub mod WrittenRows
