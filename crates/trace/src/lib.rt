@@ -6,8 +6,8 @@ ghost use lib.ListN.{length, take};
 ghost use Rattle.words.specs.Words.{AllCanonical, CanonicalTo};
 ghost use Rattle.table.specs.Table.{IsTable};
 ghost use Rattle.hash.specs.Hash.{middleState, finalState, outputAt, chain};
-ghost use Rattle.trace.specs.Trace.{traceRow, trace};
-ghost use Rattle.trace.specs.Rows.{withRows};
+ghost use Rattle.trace.specs.Trace.{hashInput, traceRow, trace};
+ghost use Rattle.trace.specs.Rows.{withRows, Writable};
 ghost use Rattle.trace.specs.Answers.{buildAnswer, buildLeaves};
 use counts::BatchCount;
 use counts::BatchNumber;
@@ -40,7 +40,12 @@ fn write_row(destination: &mut [u64], row: RowNumber, cells: [u64; 12])
 }
 
 // The ten middle states of a hash as the rows from the given one on. Its final state.
-fn write_rounds(table: &[u64], input: [u64; 12], destination: &mut [u64], row: RowNumber) -> [u64; 12]
+fn write_rounds(
+    table: &[u64],
+    input: [u64; 12],
+    destination: &mut [u64],
+    row: RowNumber,
+) -> [u64; 12]
     requires { ⌜ IsTable (now table) × CanonicalTo 12 input × (row .0 < 2 ^ 31) × (12 * row .0 + 120 ≤ length (now destination)) ⌝ }
     ensures { λ r. ⌜ (r ≡ finalState (now (table .entry)) input) × (now (destination .exit) ≡ withRows (λ i. middleState (now (table .entry)) input (i - row .0)) (row .0) (row .0 + 10) (now (destination .entry))) ⌝ }
 {
@@ -57,16 +62,41 @@ fn write_rounds(table: &[u64], input: [u64; 12], destination: &mut [u64], row: R
     state
 }
 
-// The 32 rows of a batch, after a state that begins with the last output. The state that begins with the batch's output.
-fn write_batch(table: &[u64], taps: &[u64], batch: BatchNumber, last: [u64; 12], destination: &mut [u64]) -> [u64; 12]
-    requires { ⌜ IsTable (now table) × AllCanonical (now taps) × (batch .0 < 2 ^ 20) × (12 * batch .0 + 16 ≤ length (now taps)) × (384 * batch .0 + 384 ≤ length (now destination)) × (take 4 last ≡ outputAt (now table) (now taps) (3 * batch .0)) ⌝ }
-    ensures { λ r. ⌜ (take 4 r ≡ outputAt (now (table .entry)) (now (taps .entry)) (3 * batch .0 + 3)) × (now (destination .exit) ≡ withRows (traceRow (now (table .entry)) (now (taps .entry))) (32 * batch .0) (32 * batch .0 + 32) (now (destination .entry))) ⌝ }
+// The ten rows of hash `within` of the batch, after a state that begins with the last output. Its final state.
+fn write_hash(
+    table: &[u64],
+    taps: &[u64],
+    batch: BatchNumber,
+    within: usize,
+    last: [u64; 12],
+    destination: &mut [u64],
+) -> [u64; 12]
+    requires { ⌜ Writable (now table) (now taps) (batch .0) (now destination) × (within < 3) × (take 4 last ≡ outputAt (now table) (now taps) (3 * batch .0 + within)) ⌝ }
+    ensures { λ r. ⌜ (r ≡ finalState (now (table .entry)) (hashInput (now (table .entry)) (now (taps .entry)) (3 * batch .0 + within))) × (now (destination .exit) ≡ withRows (traceRow (now (table .entry)) (now (taps .entry))) (32 * batch .0 + (10 * within + 1)) (32 * batch .0 + (10 * within + 11)) (now (destination .entry))) ⌝ }
 {
-    let input = hash::input_of(batch.hash(0), last, taps);
-    write_row(destination, batch.row(0), input);
-    let first = write_rounds(table, input, destination, batch.row(1));
-    let second = write_rounds(table, hash::input_of(batch.hash(1), first, taps), destination, batch.row(11));
-    let third = write_rounds(table, hash::input_of(batch.hash(2), second, taps), destination, batch.row(21));
+    let input = hash::input_of(batch.hash(within), last, taps);
+    write_rounds(table, input, destination, batch.row(10 * within + 1))
+}
+
+// The 32 rows of the batch, after a state that begins with the last output. The final state of its third hash.
+fn write_batch(
+    table: &[u64],
+    taps: &[u64],
+    batch: BatchNumber,
+    last: [u64; 12],
+    destination: &mut [u64],
+) -> [u64; 12]
+    requires { ⌜ Writable (now table) (now taps) (batch .0) (now destination) × (take 4 last ≡ outputAt (now table) (now taps) (3 * batch .0)) ⌝ }
+    ensures { λ r. ⌜ (r ≡ finalState (now (table .entry)) (hashInput (now (table .entry)) (now (taps .entry)) (3 * batch .0 + 2))) × (now (destination .exit) ≡ withRows (traceRow (now (table .entry)) (now (taps .entry))) (32 * batch .0) (32 * batch .0 + 32) (now (destination .entry))) ⌝ }
+{
+    write_row(
+        destination,
+        batch.row(0),
+        hash::input_of(batch.hash(0), last, taps),
+    );
+    let first = write_hash(table, taps, batch, 0, last, destination);
+    let second = write_hash(table, taps, batch, 1, first, destination);
+    let third = write_hash(table, taps, batch, 2, second, destination);
     write_row(destination, batch.row(31), third);
     third
 }
