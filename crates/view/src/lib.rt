@@ -45,12 +45,20 @@ pub fn row_of(trace: &[u64], batch: BatchNumber, within: usize) -> &[u64]
     row(view(trace, batch), within)
 }
 
-// The cells of a row of the whole trace, read through the view of its batch.
+// Row `number` of the whole trace, through the view of its batch.
+pub fn trace_row(trace: &[u64], number: RowNumber) -> &[u64]
+    requires { ⌜ (number .0 < 2 ^ 37) × (12 * number .0 + 12 ≤ length (now trace)) ⌝ }
+    ensures { λ r. ⌜ now r ≡ row (now (trace .entry)) (number .0) ⌝ }
+{
+    row_of(trace, number.batch(), number.within())
+}
+
+// The twelve cells of that row, by value.
 pub fn cells(trace: &[u64], number: RowNumber) -> [u64; 12]
     requires { ⌜ (number .0 < 2 ^ 37) × (12 * number .0 + 12 ≤ length (now trace)) ⌝ }
     ensures { λ r. ⌜ r ≡ row (now (trace .entry)) (number .0) ⌝ }
 {
-    let lent = row_of(trace, number.batch(), number.within());
+    let lent = trace_row(trace, number);
     let mut out = [0u64; 12];
     let mut j: usize = 0;
     while j < 12 {

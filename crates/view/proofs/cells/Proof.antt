@@ -1,23 +1,15 @@
--- `view::cells` meets its contract: the cells passed are those of the row that the view hands out.
+-- `view::cells` meets its contract: the cells passed are those of the row that `trace_row` lends.
 -- Assumes nothing.
 use mathlib.Core.Path.{_≡_, refl, ap, _∙_}
-use mathlib.Core.List.{List}
-use Prim.Native.Nat.{ℕ, _+_, _-_, _*_, _/_, _%_, _≤_}
+use Prim.Native.Nat.{_-_, _≤_}
 use native.Mathlib.Omega.{arith}
 use lib.ListN.{length, length-set, replicate}
 use borrow.Author.Needs.{needs}
 use Rattle.lists.specs.Lists.{cell}
 use Rattle.lists.proofs.Tab.{filled, filled-none, filled-more, filled-all, tab-cell}
-use Rattle.constraints.specs.Constraints.{row}
 use Rattle.constraints.proofs.RowCells.{length-row}
 use Rattle.view.proofs.cells.Statement.{statement}
 use Rattle.view.proofs.cells.Tie as tie
-
--- the row of the whole trace is the one that its batch and its number within the batch say
-read-row : (t : List ℕ) (i b r : ℕ) {lent : List ℕ} → b ≡ i / 32 → r ≡ i % 32 → lent ≡ row t (32 * b + r) → lent ≡ row t i
-read-row t i b r p q l =
-    let e : 32 * b + r ≡ i = omega arith in
-    l ∙ ap (row t) e
 
 abbrev Inv-loop : tie.InvT-loop
 Inv-loop trace lent out₀ j₀ out j = (j ≤ 12) × (length lent ≡ 12) × (length out ≡ 12) × (out ≡ filled j (cell lent) out₀)
@@ -25,20 +17,13 @@ Inv-loop trace lent out₀ j₀ out j = (j ≤ 12) × (length lent ≡ 12) × (l
 abbrev μ-loop : tie.MeasureT-loop
 μ-loop trace lent out₀ j₀ out j = 12 - j
 
-batch-requires : tie.Need-batch-requires Inv-loop μ-loop
-batch-requires c κs = search needs
-
-within-requires : tie.Need-within-requires Inv-loop μ-loop
-within-requires c κs = search needs
-
-row-of-requires : tie.Need-row-of-requires Inv-loop μ-loop
-row-of-requires c κs = search needs
+trace-row-requires : tie.Need-trace-row-requires Inv-loop μ-loop
+trace-row-requires c κs = search needs
 
 loop-holds : tie.Need-loop-holds Inv-loop μ-loop
 loop-holds c =
-    let a = c .before .before .before .before in
-    let e = read-row (a .args .trace .now) (a .args .number .0) _ _ (c .before .before .batch .ensures) (c .before .within .ensures) (c .row-of .ensures) in
-    (omega arith, ap length e ∙ length-row (a .args .trace .now) (a .args .number .0) (a .pre .1), refl, filled-none _ _)
+    let a = c .before .before in
+    (omega arith, ap length (c .trace-row .ensures) ∙ length-row (a .args .trace .now) (a .args .number .0) (a .pre .1), refl, filled-none _ _)
 
 mul-out : tie.Need-mul-out Inv-loop μ-loop
 mul-out c = omega arith
@@ -65,16 +50,14 @@ loop-again c =
 
 returns : tie.Need-returns Inv-loop μ-loop
 returns c =
-    let a = c .before .before .before .before .before .before in
-    let r = c .before .before in
+    let r = c .before .before .trace-row in
     let l = c .before .loop in
-    let e = read-row (a .args .trace .now) (a .args .number .0) _ _ (r .before .before .batch .ensures) (r .before .within .ensures) (r .row-of .ensures) in
     let twelve : l .j ≡ 12 = omega arith in
     l .inv .3
-    ∙ ap (λ n. filled n (cell (r .row-of .result .now)) (replicate 12 0)) twelve
+    ∙ ap (λ n. filled n (cell (r .result .now)) (replicate 12 0)) twelve
     ∙ filled-all 12 _ (replicate 12 0) refl
-    ∙ tab-cell 12 (r .row-of .result .now) (l .inv .1)
-    ∙ e
+    ∙ tab-cell 12 (r .result .now) (l .inv .1)
+    ∙ r .ensures
 
 pub cells-spec : {M : Type 1} → statement M
 cells-spec =
@@ -82,9 +65,7 @@ cells-spec =
     (tie.spec
     Inv-loop
     μ-loop
-    batch-requires
-    within-requires
-    row-of-requires
+    trace-row-requires
     loop-holds
     mul-out
     shared-slice-read-out
