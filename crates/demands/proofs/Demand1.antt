@@ -44,5 +44,5 @@ demand-1 = record {
   build-keeps = λ T w old r e. ap (λ (a : Digested). digestedKept a (trace T w (length w / 12)) old) e;
   read-off-keeps = λ T t claim old r e. ap (λ (a : Checked). checkedKept a (readTaps T t (length t / 384)) old) e;
   pack-keeps = λ w claim old r e. ap (λ (a : Answer). answerKept a (packed w claim) old) e;
-  unpack-keeps = λ file old r e. ap (λ (a : Digested). digestedKept a (tapsIn file) old) e
+  unpack-keeps = λ file old r e. ap (λ (a : Digested). digestedKept a (tapsIn file) old) e;
 }
