@@ -2,7 +2,7 @@
 -- Assumes nothing.
 use mathlib.Core.Path.{_≡_, sym, ap, subst, _∙_}
 use mathlib.Core.List.{List}
-use Prim.Native.Nat.{ℕ, _-_, _≤_, _<_}
+use Prim.Native.Nat.{ℕ, _-_, _≤_}
 use native.Mathlib.Omega.{arith}
 use borrow.Author.Needs.{needs}
 use lib.ListN.{length, length-set}
@@ -12,9 +12,6 @@ use Rattle.field.specs.Field.{Canonical, mul}
 use Rattle.hash.specs.Powers.{products}
 use Rattle.hash.proofs.multiply.Statement.{statement}
 use Rattle.hash.proofs.multiply.Tie as tie
-use Rattle.hash.proofs.multiply.Reads as reads
-use Rattle.hash.proofs.multiply.Lts as lts
-use Rattle.field.proofs.Fp.mul.Reads as mul-reads
 
 -- a cell that is not yet passed is as it was
 unpassed : (j : ℕ) (f : ℕ → ℕ) (s l : List ℕ) → l ≡ filled j f s → cell l j ≡ cell s j
