@@ -1,31 +1,73 @@
 //! Check and Read-off: forward and back once a row.
+//!
+//! The trace stays in plain words. Two Montgomery products give the cube of a
+//! plain word divided by R^2, called thin here; forward and back are both thin,
+//! so they can be compared as they are.
 
 use crate::hash::permitted;
-use crate::montgomery::{canonical, cube, dot, from_word, short, to_word, P};
-use crate::table::{first_not_canonical, test, Cells, Table};
+use crate::montgomery::{canonical, cube, dot, short, thicken, thin, to_word, P};
+use crate::table::{first_not_canonical, test, Cells, Matrix, Table};
 use second::Refusal;
 
-/// A row of the trace in Montgomery form, below p.
-#[inline]
-fn load(trace: &[u64], row: usize) -> Cells {
-    let words = &trace[12 * row..12 * row + 12];
-    std::array::from_fn(|j| canonical(from_word(words[j])))
+/// The table as the walk needs it, all values below p.
+struct Walked {
+    m: Matrix,
+    inverse: Matrix,
+    /// The constants of the first steps, K_1, K_3, .., in plain words.
+    first: [Cells; 10],
+    /// Those of the second steps, K_2, K_4, .., thin.
+    second: [Cells; 10],
+    /// K_0, thin.
+    zero: Cells,
 }
 
-/// The first N columns of forward, below p.
-#[inline]
-fn forward<const N: usize>(table: &Table, cells: &Cells, round: usize) -> [u64; N] {
-    let cubed = cells.map(cube);
-    let k = &table.k[2 * round + 2];
-    std::array::from_fn(|i| canonical(short(dot(&table.m[i], &cubed, k[i]))))
+impl Walked {
+    fn convert(words: &[u64]) -> Walked {
+        let table = Table::convert(words);
+        let k = table.k.map(|row| row.map(to_word));
+        Walked {
+            m: table.m,
+            inverse: table.inverse,
+            first: std::array::from_fn(|round| k[2 * round + 1]),
+            second: std::array::from_fn(|round| k[2 * round + 2].map(thin)),
+            zero: k[0].map(thin),
+        }
+    }
 }
 
-/// Back of a row, below p.
-#[inline]
-fn back(table: &Table, cells: &Cells, round: usize) -> Cells {
-    let k = &table.k[2 * round + 1];
-    let start: Cells = std::array::from_fn(|j| cells[j] + P - k[j]);
-    std::array::from_fn(|i| canonical(cube(short(dot(&table.inverse[i], &start, 0)))))
+#[inline(always)]
+fn load(trace: &[u64], row: usize) -> &Cells {
+    trace[12 * row..12 * row + 12].try_into().expect("a row")
+}
+
+/// The first N columns of forward, thin.
+#[inline(always)]
+fn forward<const N: usize>(table: &Walked, cells: &Cells, round: usize) -> [u64; N] {
+    let mut cubed = *cells;
+    for cell in cubed.iter_mut() {
+        *cell = cube(*cell);
+    }
+    let k = &table.second[round];
+    let mut answer = [0; N];
+    for (i, cell) in answer.iter_mut().enumerate() {
+        *cell = canonical(short(dot(&table.m[i], &cubed, k[i])));
+    }
+    answer
+}
+
+/// Back of a row, thin.
+#[inline(always)]
+fn back(table: &Walked, cells: &Cells, round: usize) -> Cells {
+    let k = &table.first[round];
+    let mut start = *cells;
+    for (j, cell) in start.iter_mut().enumerate() {
+        *cell += P - k[j];
+    }
+    let mut answer = [0; 12];
+    for (i, cell) in answer.iter_mut().enumerate() {
+        *cell = canonical(cube(short(dot(&table.inverse[i], &start, 0))));
+    }
+    answer
 }
 
 /// a + b, below p.
@@ -61,60 +103,50 @@ impl Walk {
         })
     }
 
-    /// Row 0 of a batch: 1 to 4 and 9 to 20. Answers row 1.
+    /// Row 0 of a batch: 1 to 4 and 9 to 20.
     #[inline]
-    fn first_row(&mut self, table: &Table, trace: &[u64], row: usize) -> Result<Cells, Refusal> {
+    fn first_row(&mut self, table: &Walked, trace: &[u64], row: usize) -> Result<(), Refusal> {
         let cells = load(trace, row);
         self.equal(row, 1, &cells[8..], &[0; 4])?;
-        let next = load(trace, row + 1);
-        let start: Cells = std::array::from_fn(|j| sum(cells[j], table.k[0][j]));
-        self.equal(row, 9, &start, &back(table, &next, 0))?;
-        Ok(next)
+        let back = back(table, load(trace, row + 1), 0);
+        let start: Cells = std::array::from_fn(|j| sum(thin(cells[j]), table.zero[j]));
+        self.equal(row, 9, &start, &back)
     }
 
     /// Rows 10 and 20 of a batch: 5 to 8 and 21 to 24. Answers the tap that
     /// enters here.
     #[inline]
-    fn entry(
-        &mut self,
-        table: &Table,
-        row: usize,
-        cells: &Cells,
-        next: &Cells,
-    ) -> Result<[u64; 4], Refusal> {
-        let k = &table.k[0];
-        let back = back(table, next, 0);
-        self.equal(row, 5, &back[8..], &k[8..])?;
-        let output: [u64; 4] = forward(table, cells, 9);
-        let left: [u64; 4] = std::array::from_fn(|j| sum(output[j], k[j]));
+    fn entry(&mut self, table: &Walked, trace: &[u64], row: usize) -> Result<[u64; 4], Refusal> {
+        let back = back(table, load(trace, row + 1), 0);
+        self.equal(row, 5, &back[8..], &table.zero[8..])?;
+        let output: [u64; 4] = forward(table, load(trace, row), 9);
+        let left: [u64; 4] = std::array::from_fn(|j| sum(output[j], table.zero[j]));
         self.equal(row, 21, &left, &back[..4])?;
-        Ok(std::array::from_fn(|j| to_word(back[4 + j] + P - k[4 + j])))
+        let tap = std::array::from_fn(|j| thicken(back[4 + j] + P - table.zero[4 + j]));
+        Ok(tap)
     }
 
-    /// Rows 1 to 31 of a batch, but for 31's own tests.
+    /// Rows 1 to 30 of a batch.
     #[inline]
     fn rows(
         &mut self,
-        table: &Table,
+        table: &Walked,
         trace: &[u64],
         first: usize,
-        row_1: Cells,
         mut tap: impl FnMut(&[u64]),
     ) -> Result<(), Refusal> {
-        let mut cells = row_1;
         for row in 1..30 {
-            let next = load(trace, first + row + 1);
+            let at = first + row;
             if row % 10 == 0 {
-                tap(&self.entry(table, first + row, &cells, &next)?);
+                tap(&self.entry(table, trace, at)?);
             } else {
-                let forward: Cells = forward(table, &cells, (row - 1) % 10);
-                let back = back(table, &next, row % 10);
-                self.equal(first + row, 21, &forward, &back)?;
+                let forward: Cells = forward(table, load(trace, at), (row - 1) % 10);
+                let back = back(table, load(trace, at + 1), row % 10);
+                self.equal(at, 21, &forward, &back)?;
             }
-            cells = next;
         }
-        let last = load(trace, first + 31);
-        let forward: Cells = forward(table, &cells, 9);
+        let forward: Cells = forward(table, load(trace, first + 30), 9);
+        let last = load(trace, first + 31).map(thin);
         self.equal(first + 30, 33, &forward, &last)
     }
 }
@@ -127,14 +159,14 @@ fn walk(
     claim: &[u64],
     mut tap: impl FnMut(&[u64]),
 ) -> Result<u64, Refusal> {
-    let table = Table::convert(table);
+    let table = Walked::convert(table);
     let rows = trace.len() / 12;
     let mut walk = Walk { passed: 0 };
     tap(&trace[..4]);
     for first in (0..rows).step_by(32) {
-        let row_1 = walk.first_row(&table, trace, first)?;
+        walk.first_row(&table, trace, first)?;
         tap(&trace[12 * first + 4..12 * first + 8]);
-        walk.rows(&table, trace, first, row_1, &mut tap)?;
+        walk.rows(&table, trace, first, &mut tap)?;
         let last = first + 31;
         let output = &trace[12 * last..12 * last + 4];
         if last + 1 < rows {

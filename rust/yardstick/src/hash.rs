@@ -12,9 +12,12 @@ fn rounds(table: &Table, input: &Cells, mut see: impl FnMut(&Cells)) -> Cells {
         for cell in state.iter_mut() {
             *cell = root(*cell);
         }
-        let middle = table.step(&state, 2 * round + 1);
-        see(&middle);
-        state = table.step(&middle.map(cube), 2 * round + 2);
+        state = table.step(&state, 2 * round + 1);
+        see(&state);
+        for cell in state.iter_mut() {
+            *cell = cube(*cell);
+        }
+        state = table.step(&state, 2 * round + 2);
     }
     state
 }

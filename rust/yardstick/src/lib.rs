@@ -12,11 +12,11 @@ mod table;
 pub use constraints::{check, read_off};
 pub use hash::{build, hash};
 
-/// a times b, for words below p.
+/// a times b, for words below p. Only b is brought into the form, so the answer
+/// comes out of it again.
 #[inline]
 pub fn product(a: u64, b: u64) -> u64 {
-    let short = montgomery::mul(a, b); // one factor R is lost
-    montgomery::canonical(montgomery::from_word(short))
+    montgomery::canonical(montgomery::mul(a, montgomery::from_word(b)))
 }
 
 /// The cube root, for a word below p.

@@ -12,13 +12,16 @@ const P_INVERSE: u64 = 2u64.wrapping_sub(P);
 pub const ONE: u64 = ((1u128 << 64) % P as u128) as u64;
 /// R squared: the factor that brings a word into the form.
 const R_SQUARED: u64 = ((ONE as u128 * ONE as u128) % P as u128) as u64;
+/// R cubed, and one over R.
+const R_CUBED: u64 = ((R_SQUARED as u128 * ONE as u128) % P as u128) as u64;
+const R_INVERSE: u64 = reduce(1);
 /// (2p - 1)/3
 const ROOT_EXPONENT: u64 = (2 * P - 1) / 3;
 
 /// t divided by R, modulo p: below t / R + p, and above 0. The low halves of t
 /// and m p are equal, so there is no borrow between them.
 #[inline(always)]
-pub fn reduce(t: u128) -> u64 {
+pub const fn reduce(t: u128) -> u64 {
     let m = (t as u64).wrapping_mul(P_INVERSE);
     let high = (m as u128 * P as u128) >> 64;
     (t >> 64) as u64 + P - high as u64
@@ -52,6 +55,18 @@ pub fn from_word(word: u64) -> u64 {
 #[inline(always)]
 pub fn to_word(x: u64) -> u64 {
     canonical(reduce(x as u128))
+}
+
+/// A word below 2p divided by R^2, below p.
+#[inline(always)]
+pub fn thin(word: u64) -> u64 {
+    canonical(mul(word, R_INVERSE))
+}
+
+/// The word below p that a thin value below 2p stands for.
+#[inline(always)]
+pub fn thicken(x: u64) -> u64 {
+    canonical(mul(x, R_CUBED))
 }
 
 #[inline(always)]

@@ -63,9 +63,13 @@ impl Table {
     }
 
     /// M times cells plus K_number, short.
-    #[inline]
+    #[inline(always)]
     pub fn step(&self, cells: &Cells, number: usize) -> Cells {
         let k = &self.k[number];
-        std::array::from_fn(|i| short(dot(&self.m[i], cells, k[i])))
+        let mut answer = [0; 12];
+        for i in 0..12 {
+            answer[i] = short(dot(&self.m[i], cells, k[i]));
+        }
+        answer
     }
 }
