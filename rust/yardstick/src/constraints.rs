@@ -5,8 +5,8 @@
 //! so they can be compared as they are.
 
 use crate::hash::permitted;
-use crate::montgomery::{canonical, cube, dot, short, thicken, thin, to_word, P};
-use crate::table::{first_not_canonical, test, Cells, Matrix, Table};
+use crate::montgomery::{canonical, cube, dot, short, thicken, thin, P};
+use crate::table::{first_not_canonical, inverse, k, m, test, Cells, Matrix};
 use second::Refusal;
 
 /// The table as the walk needs it, all values below p.
@@ -22,15 +22,14 @@ struct Walked {
 }
 
 impl Walked {
+    /// From an accepted table.
     fn convert(words: &[u64]) -> Walked {
-        let table = Table::convert(words);
-        let k = table.k.map(|row| row.map(to_word));
         Walked {
-            m: table.m,
-            inverse: table.inverse,
-            first: std::array::from_fn(|round| k[2 * round + 1]),
-            second: std::array::from_fn(|round| k[2 * round + 2].map(thin)),
-            zero: k[0].map(thin),
+            m: m(words),
+            inverse: inverse(words),
+            first: std::array::from_fn(|round| k(words, 2 * round + 1)),
+            second: std::array::from_fn(|round| k(words, 2 * round + 2).map(thin)),
+            zero: k(words, 0).map(thin),
         }
     }
 }

@@ -16,9 +16,8 @@ pub fn test(words: &[u64]) -> Result<(), Refusal> {
         return Err(Refusal::TableWord { index });
     }
     let one = canonical(reduce(1));
-    let m = matrix(&words[..144]);
-    let inverse = matrix(&words[144..288]);
-    let columns: Matrix = std::array::from_fn(|j| inverse.map(|row| row[j]));
+    let m = matrix(words, 0);
+    let columns: Matrix = std::array::from_fn(|j| std::array::from_fn(|i| words[144 + 12 * i + j]));
     for (i, row) in m.iter().enumerate() {
         for (j, column) in columns.iter().enumerate() {
             let expected = if i == j { one } else { 0 };
@@ -37,28 +36,47 @@ pub fn first_not_canonical(words: &[u64]) -> Option<u64> {
     found.map(|index| index as u64)
 }
 
-fn cells(words: &[u64]) -> Cells {
-    words.try_into().expect("twelve words")
+/// Twelve words from `at` on.
+pub fn cells(words: &[u64], at: usize) -> Cells {
+    words[at..at + 12].try_into().expect("twelve words")
 }
 
-fn matrix(words: &[u64]) -> Matrix {
-    std::array::from_fn(|i| cells(&words[12 * i..12 * i + 12]))
+fn matrix(words: &[u64], at: usize) -> Matrix {
+    std::array::from_fn(|i| cells(words, at + 12 * i))
 }
 
-/// An accepted table in Montgomery form, all values below p.
+/// K_number in plain words.
+pub fn k(words: &[u64], number: usize) -> Cells {
+    cells(words, 288 + 12 * number)
+}
+
+/// Cells in Montgomery form, below p.
+fn form(cells: Cells) -> Cells {
+    cells.map(|word| canonical(from_word(word)))
+}
+
+/// M in Montgomery form.
+pub fn m(words: &[u64]) -> Matrix {
+    matrix(words, 0).map(form)
+}
+
+/// The stored inverse in Montgomery form.
+pub fn inverse(words: &[u64]) -> Matrix {
+    matrix(words, 144).map(form)
+}
+
+/// The table as a hash needs it, in Montgomery form.
 pub struct Table {
     pub m: Matrix,
-    pub inverse: Matrix,
     pub k: [Cells; 21],
 }
 
 impl Table {
+    /// From an accepted table.
     pub fn convert(words: &[u64]) -> Table {
-        let form = |row: Cells| row.map(|word| canonical(from_word(word)));
         Table {
-            m: matrix(&words[..144]).map(form),
-            inverse: matrix(&words[144..288]).map(form),
-            k: std::array::from_fn(|i| form(cells(&words[288 + 12 * i..300 + 12 * i]))),
+            m: m(words),
+            k: std::array::from_fn(|number| form(k(words, number))),
         }
     }
 
@@ -67,8 +85,8 @@ impl Table {
     pub fn step(&self, cells: &Cells, number: usize) -> Cells {
         let k = &self.k[number];
         let mut answer = [0; 12];
-        for i in 0..12 {
-            answer[i] = short(dot(&self.m[i], cells, k[i]));
+        for (i, cell) in answer.iter_mut().enumerate() {
+            *cell = short(dot(&self.m[i], cells, k[i]));
         }
         answer
     }
