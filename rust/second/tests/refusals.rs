@@ -169,6 +169,20 @@ fn check_and_read_off_1_2_4_7_8_9_10_11() {
     }
 }
 
+/// The product is M times the stored inverse, cells taken row by row. Under S
+/// row 4 of M picks row 3 of the inverse; the other product would differ first
+/// at row 3, column 4.
+#[test]
+fn first_cell_unlike_the_identity() {
+    let mut table = s();
+    table[144 + 12 * 3 + 5] = 1;
+    let refused = Err(Refusal::InverseCell { cell: 12 * 4 + 5 });
+    assert_eq!(hash(&table, [0; 8]), refused);
+    table[144 + 12 * 2 + 7] = 1;
+    let refused = Err(Refusal::InverseCell { cell: 12 * 3 + 7 });
+    assert_eq!(hash(&table, [0; 8]), refused);
+}
+
 #[test]
 fn pack_5_8_9_6() {
     let mut bad_word = vec![0; 16];

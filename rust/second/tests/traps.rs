@@ -131,6 +131,26 @@ fn the_last_row_compared_with_row_0() {
     }
 }
 
+/// The known days' single cells once more, in the second batch.
+#[test]
+fn the_second_batch_waved_through() {
+    let cases = [
+        ((32, 0), (31, 45)),
+        ((32, 3), (31, 48)),
+        ((32, 8), (32, 1)),
+        ((32, 4), (32, 13)),
+        ((43, 5), (43, 26)),
+        ((43, 9), (42, 6)),
+        ((63, 5), (62, 38)),
+    ];
+    for ((row, column), place) in cases {
+        let mut trace = vec![0; 768];
+        trace[12 * row + column] = 1;
+        assert_eq!(failed_at(check(&z(), &trace, [0; 4])), place);
+    }
+    assert_eq!(failed_at(check(&z(), &[0; 768], [0, 1, 0, 0])), (63, 50));
+}
+
 #[test]
 fn a_product_that_overflows_64_bits() {
     assert_eq!(mul(1 << 31, 1 << 31), 2305842923314348031);
