@@ -1,6 +1,7 @@
 //! Board files and the program's input (document 01, "The board file").
 
 use crate::cases::{damage, first_of, join, ClearCase, UnpackCase};
+use crate::corners;
 use crate::random::Random;
 use crate::tables::{good, singular, Good};
 use crate::taps::{lent_destination, list};
@@ -8,7 +9,8 @@ use crate::traces::with_faults;
 use second::field::{add, P};
 use second::Refusal;
 
-const KIND: u32 = 1 << 30;
+/// One in the two bits of a word's kind.
+pub const KIND: u32 = 1 << 30;
 
 /// The 32-bit words of a file, by division.
 fn words_of(k: usize, claim: &[u64], taps: &[u64]) -> Vec<u32> {
@@ -20,7 +22,7 @@ fn words_of(k: usize, claim: &[u64], taps: &[u64]) -> Vec<u32> {
 }
 
 /// The three words of an element below 2^90.
-fn element_words(element: u128) -> [u32; 3] {
+pub fn element_words(element: u128) -> [u32; 3] {
     let unit = KIND as u128;
     [
         KIND + (element / (unit * unit)) as u32,
@@ -32,6 +34,13 @@ fn element_words(element: u128) -> [u32; 3] {
 /// The bytes of a file.
 pub fn bytes_of(k: usize, claim: &[u64], taps: &[u64]) -> Vec<u8> {
     bytes(&words_of(k, claim, taps))
+}
+
+/// The program's input: a raw table, then a file.
+pub fn input_of(raw: &[u64], file: &[u8]) -> Vec<u8> {
+    let mut input: Vec<u8> = raw.iter().flat_map(|word| word.to_le_bytes()).collect();
+    input.extend(file);
+    input
 }
 
 fn bytes(words: &[u32]) -> Vec<u8> {
@@ -178,7 +187,8 @@ fn damage_elements(
     first.map(|(_, _, refusal)| *refusal)
 }
 
-/// Unpack: 12 (below 4), word 0's 13 then 14, 12, 8, then each element.
+/// Unpack: 12 (below 4), word 0's 13 then 14, 12, 8, then each element. The
+/// corner cases and `n` others.
 pub fn unpack_cases(seed: u64, n: usize) -> Vec<UnpackCase> {
     let mut random = Random::new(seed);
     let make = |number| {
@@ -210,7 +220,9 @@ pub fn unpack_cases(seed: u64, n: usize) -> Vec<UnpackCase> {
             taps,
         }
     };
-    (0..n).map(make).collect()
+    let mut cases = corners::unpack(seed);
+    cases.extend((0..n).map(make));
+    cases
 }
 
 /// A raw table as lent to the program.
@@ -252,7 +264,7 @@ fn wrong_claim(random: &mut Random, k: usize, claim: &mut [u64; 4]) -> Refusal {
 }
 
 /// The program's input and line: both lengths come first, then the table, the
-/// file, and the claim.
+/// file, and the claim. The corner cases and `n` others.
 pub fn clear_cases(seed: u64, n: usize) -> Vec<ClearCase> {
     let mut random = Random::new(seed);
     let make = |number| {
@@ -274,8 +286,7 @@ pub fn clear_cases(seed: u64, n: usize) -> Vec<ClearCase> {
         let fails = wrong.then(|| wrong_claim(&mut random, k, &mut claim));
         let file = lent_file(&mut random, &words_of(k, &claim, &taps), damaged);
         let refusal = first_of(&[table.refusal, file.before, file.after, fails]);
-        let mut input: Vec<u8> = table.words.iter().flat_map(|w| w.to_le_bytes()).collect();
-        input.extend(file.bytes);
+        let mut input = input_of(&table.words, &file.bytes);
         if number % 16 == 15 {
             let length = outer_length(&mut random);
             input.resize(length, random.word() as u8);
@@ -287,7 +298,9 @@ pub fn clear_cases(seed: u64, n: usize) -> Vec<ClearCase> {
             line,
         }
     };
-    (0..n).map(make).collect()
+    let mut cases = corners::clear(seed);
+    cases.extend((0..n).map(make));
+    cases
 }
 
 /// A length that the program answers without reading further.

@@ -1,12 +1,13 @@
 //! Inputs for comparing one implementation with another, damaged input above
 //! all.
 //!
-//! For each operation there is a kind of case and a function that makes `n` of
-//! them from a seed; the same seed makes the same cases, so whoever uses them
-//! prints it. Each case knows from how it was made what must be answered: the
+//! For each operation there is a kind of case and a function that makes its
+//! corner cases and `n` random ones from a seed; the same seed makes the same
+//! cases, so whoever uses them prints it. Each case knows from how it was made what must be answered: the
 //! refusal, or none. Nothing here asks an implementation for that.
 
 pub mod cases;
+pub mod corners;
 pub mod files;
 pub mod random;
 pub mod tables;

@@ -6,6 +6,7 @@
 //! what Prepare must write is known.
 
 use crate::cases::{damage, first_of, join, other_length, PrepareCase};
+use crate::corners;
 use crate::random::Random;
 use second::field::{add, mul, reciprocal, sub, P};
 use second::Refusal;
@@ -147,7 +148,7 @@ pub fn s() -> Good {
 
 /// How M may look. In all but the dense ones many cells of M and of its inverse
 /// are zero, so that a change in one column does not reach all others.
-const SHAPES: [&str; 8] = [
+pub const SHAPES: [&str; 8] = [
     "identity",
     "permutation",
     "scaled permutation",
@@ -222,11 +223,16 @@ pub fn good(random: &mut Random) -> Good {
         3..=6 => dense(random),
         _ => {
             let shape = random.pick(&SHAPES);
-            let (name, k) = constants(random);
-            let name = format!("{shape}, {name}");
-            Good::new(&name, &matrices(random, shape), &k)
+            of_shape(random, shape)
         }
     }
+}
+
+/// An accepted table of this shape.
+pub fn of_shape(random: &mut Random, shape: &str) -> Good {
+    let (name, k) = constants(random);
+    let name = format!("{shape}, {name}");
+    Good::new(&name, &matrices(random, shape), &k)
 }
 
 /// An accepted table without structure.
@@ -405,7 +411,7 @@ pub fn first_unlike_identity(words: &[u64]) -> Option<usize> {
     None
 }
 
-/// Prepare: 1, 8, 2, 3.
+/// Prepare: 1, 8, 2, 3. The corner cases and `n` others.
 pub fn prepare_cases(seed: u64, n: usize) -> Vec<PrepareCase> {
     let mut random = Random::new(seed);
     let make = |number| {
@@ -444,5 +450,7 @@ pub fn prepare_cases(seed: u64, n: usize) -> Vec<PrepareCase> {
             prepared: good.prepared,
         }
     };
-    (0..n).map(make).collect()
+    let mut cases = corners::prepare(seed);
+    cases.extend((0..n).map(make));
+    cases
 }

@@ -4,6 +4,7 @@
 use crate::cases::{
     damage, first_of, join, other_length, BuildCase, ChainCase, HashCase, PackCase,
 };
+use crate::corners;
 use crate::files::bytes_of;
 use crate::random::Random;
 use crate::tables::{good, lent, LentTable};
@@ -12,7 +13,7 @@ use second::Refusal;
 
 /// Lengths of lists that are not 12k + 4 with k permitted. 4, 40, 64, 76 and
 /// 24580 are 12k + 4 with k = 0, 3, 5, 6 and 2048.
-const LENGTHS: [usize; 16] = [
+pub const LENGTHS: [usize; 16] = [
     0, 1, 3, 4, 8, 12, 15, 17, 27, 29, 40, 64, 76, 12291, 12293, 24580,
 ];
 
@@ -96,7 +97,7 @@ fn lent_table(random: &mut Random, damaged: bool) -> LentTable {
     lent(random, &good, damaged)
 }
 
-/// Hash: 1, 2, 4, 6.
+/// Hash: 1, 2, 4, 6. The corner cases and `n` others.
 pub fn hash_cases(seed: u64, n: usize) -> Vec<HashCase> {
     let mut random = Random::new(seed);
     let make = |number| {
@@ -115,10 +116,12 @@ pub fn hash_cases(seed: u64, n: usize) -> Vec<HashCase> {
             refusal: first_of(&[table.refusal, refusal]),
         }
     };
-    (0..n).map(make).collect()
+    let mut cases = corners::hash(seed);
+    cases.extend((0..n).map(make));
+    cases
 }
 
-/// Chain: 1, 2, 4, 5, 6.
+/// Chain: 1, 2, 4, 5, 6. The corner cases and `n` others.
 pub fn chain_cases(seed: u64, n: usize) -> Vec<ChainCase> {
     let mut random = Random::new(seed);
     let make = |number| {
@@ -132,10 +135,12 @@ pub fn chain_cases(seed: u64, n: usize) -> Vec<ChainCase> {
             refusal: first_of(&[table.refusal, list.length, list.word]),
         }
     };
-    (0..n).map(make).collect()
+    let mut cases = corners::chain(seed);
+    cases.extend((0..n).map(make));
+    cases
 }
 
-/// Build: 1, 2, 4, 5, 8, 6.
+/// Build: 1, 2, 4, 5, 8, 6. The corner cases and `n` others.
 pub fn build_cases(seed: u64, n: usize) -> Vec<BuildCase> {
     let mut random = Random::new(seed);
     let make = |number| {
@@ -152,10 +157,12 @@ pub fn build_cases(seed: u64, n: usize) -> Vec<BuildCase> {
             refusal: first_of(&[table.refusal, list.length, refusal, list.word]),
         }
     };
-    (0..n).map(make).collect()
+    let mut cases = corners::build(seed);
+    cases.extend((0..n).map(make));
+    cases
 }
 
-/// Pack: 5, 8, 9, 6.
+/// Pack: 5, 8, 9, 6. The corner cases and `n` others.
 pub fn pack_cases(seed: u64, n: usize) -> Vec<PackCase> {
     let mut random = Random::new(seed);
     let make = |number| {
@@ -180,5 +187,7 @@ pub fn pack_cases(seed: u64, n: usize) -> Vec<PackCase> {
             file,
         }
     };
-    (0..n).map(make).collect()
+    let mut cases = corners::pack(seed);
+    cases.extend((0..n).map(make));
+    cases
 }

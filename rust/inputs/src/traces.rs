@@ -20,6 +20,7 @@
 //! - 49 to 52: the claim is the last output plus something.
 
 use crate::cases::{damage, first_of, join, CheckCase, ReadOffCase};
+use crate::corners;
 use crate::random::Random;
 use crate::tables::{dense, good, lent, Good};
 use crate::taps::{lent_claim, lent_destination, list, some_k};
@@ -457,7 +458,7 @@ fn sample_rows(random: &mut Random, constraint: usize, k: usize) -> Vec<usize> {
 
 /// Lengths of traces that are not 384k with k permitted; 1152, 1920 and 786432
 /// are 384k with k = 3, 5 and 2048.
-const LENGTHS: [usize; 12] = [0, 1, 12, 32, 372, 383, 385, 767, 769, 1152, 1920, 786432];
+pub const LENGTHS: [usize; 12] = [0, 1, 12, 32, 372, 383, 385, 767, 769, 1152, 1920, 786432];
 
 /// What of a call is damaged.
 struct Damaged {
@@ -514,8 +515,8 @@ fn lent_case(random: &mut Random, number: usize, damaged: Damaged) -> ReadOffCas
     }
 }
 
-/// Check: 1, 2, 4, 7, 9, 10, 11. Of the single damages every second is a
-/// constraint that fails.
+/// Check: 1, 2, 4, 7, 9, 10, 11. The corner cases and `n` others; of the single
+/// damages every second is a constraint that fails.
 pub fn check_cases(seed: u64, n: usize) -> Vec<CheckCase> {
     let mut random = Random::new(seed);
     let make = |number| {
@@ -537,10 +538,12 @@ pub fn check_cases(seed: u64, n: usize) -> Vec<CheckCase> {
             refusal: case.refusal,
         }
     };
-    (0..n).map(make).collect()
+    let mut cases = corners::check(seed);
+    cases.extend((0..n).map(make));
+    cases
 }
 
-/// Read-off: 1, 2, 4, 7, 8, 9, 10, 11.
+/// Read-off: 1, 2, 4, 7, 8, 9, 10, 11. The corner cases and `n` others.
 pub fn read_off_cases(seed: u64, n: usize) -> Vec<ReadOffCase> {
     let mut random = Random::new(seed);
     let make = |number| {
@@ -555,5 +558,7 @@ pub fn read_off_cases(seed: u64, n: usize) -> Vec<ReadOffCase> {
         };
         lent_case(&mut random, number, damaged)
     };
-    (0..n).map(make).collect()
+    let mut cases = corners::read_off(seed);
+    cases.extend((0..n).map(make));
+    cases
 }
