@@ -92,6 +92,30 @@ pub struct ClearCase {
     pub line: String,
 }
 
+/// 2 at this index.
+pub fn table_word(index: usize) -> Refusal {
+    let index = index as u64;
+    Refusal::TableWord { index }
+}
+
+/// 6 at this index.
+pub fn tap_word(index: usize) -> Refusal {
+    let index = index as u64;
+    Refusal::TapWord { index }
+}
+
+/// 9 at this index.
+pub fn claim_word(index: usize) -> Refusal {
+    let index = index as u64;
+    Refusal::ClaimWord { index }
+}
+
+/// 10 at this index.
+pub fn trace_word(index: usize) -> Refusal {
+    let index = index as u64;
+    Refusal::TraceWord { index }
+}
+
 /// Which of N things are damaged in case `number`: of eight cases two are
 /// honest, four have one thing damaged, each in turn, and two have any of them.
 pub fn damage<const N: usize>(random: &mut Random, number: usize) -> [bool; N] {

@@ -1,6 +1,6 @@
 //! Board files and the program's input (document 01, "The board file").
 
-use crate::cases::{damage, first_of, join, ClearCase, UnpackCase};
+use crate::cases::{damage, first_of, join, table_word, ClearCase, UnpackCase};
 use crate::corners;
 use crate::random::Random;
 use crate::tables::{good, singular, Good};
@@ -101,26 +101,15 @@ fn lent_file(random: &mut Random, honest: &[u32], damaged: Damaged) -> LentFile 
     let mut names = vec![];
     let after = damage_elements(random, &mut words, damaged, &mut names);
     let mut order = [None; 4];
-    let mut cut_or_more = 0;
+    let mut more = 0;
     if damaged.length {
         order[3] = Some(Refusal::FileLength);
-        if random.one_in(3) {
-            let other = random.pick(&[1, 2, 4, 8, 16, 32, 512, 1024]);
-            words[0] = if other == words[0] { 64 } else { other };
-            names.push(format!("k = {} in that length", words[0]));
-        } else {
-            cut_or_more = random.pick(&[-144, -12, -4, -3, -2, -1, 1, 2, 3, 4, 12, 144]);
-            names.push(format!("{cut_or_more} bytes"));
-        }
+        more = damage_length(random, &mut words[0]);
+        names.push(format!("k = {}, {more} bytes more", words[0]));
     }
     if damaged.head {
         order[2] = Some(Refusal::Value { word: 0 });
-        if random.one_in(2) {
-            words[0] |= 1 << (16 + random.below(14));
-        } else {
-            let not_permitted = [0, 3, 5, 6, 7, 12, 1023, 1025, 2048, 4096, 32768, 65535];
-            words[0] = random.pick(&not_permitted);
-        }
+        damage_head(random, &mut words[0]);
         names.push(format!("word 0 is {:08x}", words[0]));
     }
     if damaged.kind {
@@ -129,10 +118,8 @@ fn lent_file(random: &mut Random, honest: &[u32], damaged: Damaged) -> LentFile 
         names.push(String::from("word 0 of another kind"));
     }
     let mut bytes = bytes(&words);
-    bytes.resize(
-        bytes.len().wrapping_add_signed(cut_or_more),
-        random.word() as u8,
-    );
+    let length = bytes.len().wrapping_add_signed(more);
+    bytes.resize(length, random.word() as u8);
     if damaged.cut {
         order[0] = Some(Refusal::FileLength);
         bytes.truncate(random.below(4));
@@ -143,6 +130,26 @@ fn lent_file(random: &mut Random, honest: &[u32], damaged: Damaged) -> LentFile 
         bytes,
         before: first_of(&order),
         after,
+    }
+}
+
+/// Another permitted k in the same length, or so many bytes more or fewer.
+fn damage_length(random: &mut Random, head: &mut u32) -> isize {
+    if random.one_in(3) {
+        let other = random.pick(&[1, 2, 4, 8, 16, 32, 512, 1024]);
+        *head = if other == *head { 64 } else { other };
+        0
+    } else {
+        random.pick(&[-144, -12, -4, -3, -2, -1, 1, 2, 3, 4, 12, 144])
+    }
+}
+
+/// A spare bit, or a k that is not permitted.
+fn damage_head(random: &mut Random, head: &mut u32) {
+    if random.one_in(2) {
+        *head |= 1 << (16 + random.below(14));
+    } else {
+        *head = random.pick(&[0, 3, 5, 6, 7, 12, 1023, 1025, 2048, 4096, 32768, 65535]);
     }
 }
 
@@ -245,7 +252,7 @@ fn lent_raw(random: &mut Random, good: &Good, damaged: bool) -> LentRaw {
         }
         if lent.refusal.is_none() || random.one_in(4) {
             let index = random.spoil(&mut lent.words);
-            lent.refusal = Some(Refusal::TableWord { index });
+            lent.refusal = Some(table_word(index));
         }
     }
     lent

@@ -3,8 +3,10 @@
 //!
 //! For each operation there is a kind of case and a function that makes its
 //! corner cases and `n` random ones from a seed; the same seed makes the same
-//! cases, so whoever uses them prints it. Each case knows from how it was made what must be answered: the
-//! refusal, or none. Nothing here asks an implementation for that.
+//! cases, so whoever uses them prints it. Each case knows from how it was made
+//! what must be answered: the refusal, or none. Nothing here asks an
+//! implementation for that; of `second` only the field and the names of the
+//! refusals are used.
 
 pub mod cases;
 pub mod corners;

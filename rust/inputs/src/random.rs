@@ -116,13 +116,13 @@ impl Random {
 
     /// Puts one to three words that are not canonical into a list of canonical
     /// ones and answers the lowest index of them.
-    pub fn spoil(&mut self, words: &mut [u64]) -> u64 {
+    pub fn spoil(&mut self, words: &mut [u64]) -> usize {
         let mut lowest = words.len();
         for _ in 0..1 + self.below(3) {
             let place = self.place(words.len());
             words[place] = self.not_canonical();
             lowest = lowest.min(place);
         }
-        lowest as u64
+        lowest
     }
 }

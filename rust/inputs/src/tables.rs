@@ -5,7 +5,7 @@
 //! kept by the opposite steps on columns. So no elimination is needed here, and
 //! what Prepare must write is known.
 
-use crate::cases::{damage, first_of, join, other_length, PrepareCase};
+use crate::cases::{damage, first_of, join, other_length, table_word, PrepareCase};
 use crate::corners;
 use crate::random::Random;
 use second::field::{add, mul, reciprocal, sub, P};
@@ -352,7 +352,7 @@ fn wrong_word(random: &mut Random, good: &Good) -> LentTable {
     LentTable {
         name: format!("table word {index} not canonical"),
         words,
-        refusal: Some(Refusal::TableWord { index }),
+        refusal: Some(table_word(index)),
     }
 }
 
@@ -428,7 +428,7 @@ pub fn prepare_cases(seed: u64, n: usize) -> Vec<PrepareCase> {
         if word {
             let index = random.spoil(&mut raw);
             spoilt = format!("word {index} not canonical");
-            order[2] = Some(Refusal::TableWord { index });
+            order[2] = Some(table_word(index));
         }
         let mut lent = 540;
         if destination {

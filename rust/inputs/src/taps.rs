@@ -2,7 +2,8 @@
 //! that take them.
 
 use crate::cases::{
-    damage, first_of, join, other_length, BuildCase, ChainCase, HashCase, PackCase,
+    claim_word, damage, first_of, join, other_length, tap_word, BuildCase, ChainCase, HashCase,
+    PackCase,
 };
 use crate::corners;
 use crate::files::bytes_of;
@@ -53,7 +54,7 @@ fn lent_list(random: &mut Random, length: bool, word: bool) -> LentList {
     if word {
         let index = random.spoil(&mut lent.words);
         lent.name += &format!(", tap word {index} not canonical");
-        lent.word = Some(Refusal::TapWord { index });
+        lent.word = Some(tap_word(index));
     }
     if length {
         let count = random.pick(&LENGTHS);
@@ -89,7 +90,7 @@ pub fn lent_claim(
         return (lent, None);
     }
     let index = random.spoil(&mut lent);
-    (lent, Some(Refusal::ClaimWord { index }))
+    (lent, Some(claim_word(index)))
 }
 
 fn lent_table(random: &mut Random, damaged: bool) -> LentTable {
@@ -107,7 +108,7 @@ pub fn hash_cases(seed: u64, n: usize) -> Vec<HashCase> {
         let mut refusal = None;
         if word {
             let index = random.spoil(&mut words);
-            refusal = Some(Refusal::TapWord { index });
+            refusal = Some(tap_word(index));
         }
         HashCase {
             name: join(&[&table.name, if word { "word not canonical" } else { "" }]),

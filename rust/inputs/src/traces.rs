@@ -19,7 +19,7 @@
 //! - 45 to 48: the next row 0 takes the output plus something.
 //! - 49 to 52: the claim is the last output plus something.
 
-use crate::cases::{damage, first_of, join, CheckCase, ReadOffCase};
+use crate::cases::{damage, first_of, join, trace_word, CheckCase, ReadOffCase};
 use crate::corners;
 use crate::random::Random;
 use crate::tables::{dense, good, lent, Good};
@@ -488,7 +488,7 @@ fn lent_case(random: &mut Random, number: usize, damaged: Damaged) -> ReadOffCas
     let mut name = day.name;
     if damaged.word {
         let index = random.spoil(&mut trace);
-        word = Some(Refusal::TraceWord { index });
+        word = Some(trace_word(index));
         name += &format!(", trace word {index} not canonical");
     }
     if damaged.length {

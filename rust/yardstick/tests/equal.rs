@@ -1,4 +1,5 @@
-//! The yardstick answers what `second` answers.
+//! The yardstick answers what `second` answers. Its refusals are compared in the
+//! tests of `inputs`, case by case.
 
 use second::field::P;
 
@@ -131,80 +132,5 @@ fn altered_traces() {
         let answer = second::check(&table, &trace, claim);
         assert!(answer.is_err(), "{cell}");
         assert_eq!(yardstick::check(&table, &trace, claim), answer);
-    }
-}
-
-/// Wrong lengths, words not canonical, a wrong inverse, alone and together.
-#[test]
-fn refusals() {
-    let mut random = Random(15);
-    let table = random.table();
-    let taps = random.canonicals(28);
-    let mut trace = vec![0; 768];
-    let claim = second::build(&table, &taps, &mut trace).expect("builds");
-    let mut numbers = [0; 12];
-    for _ in 0..2000 {
-        let (mut table, mut taps) = (table.clone(), taps.clone());
-        let (mut trace, mut claim) = (trace.clone(), claim);
-        let mut hit = |one_in: u64| random.word().is_multiple_of(one_in);
-        let damage: [bool; 6] = std::array::from_fn(|_| hit(5));
-        let lengths: [bool; 4] = std::array::from_fn(|_| hit(12));
-        let mut spoil = |words: &mut [u64]| {
-            let at = random.word() as usize % words.len();
-            words[at] = random.word() | P;
-        };
-        if damage[0] {
-            spoil(&mut table);
-        }
-        if damage[1] {
-            spoil(&mut taps);
-        }
-        if damage[2] {
-            spoil(&mut trace);
-        }
-        if damage[3] {
-            spoil(&mut claim);
-        }
-        if damage[4] {
-            table[144 + random.word() as usize % 144] ^= 1;
-        }
-        if damage[5] {
-            trace[random.word() as usize % 768] ^= 1;
-        }
-        if lengths[0] {
-            table.pop();
-        }
-        if lengths[1] {
-            taps.truncate(4 * (random.word() as usize % 7));
-        }
-        if lengths[2] {
-            trace.truncate(384 * (random.word() as usize % 2));
-        }
-        let extra = usize::from(lengths[3]);
-
-        let words: [u64; 8] = std::array::from_fn(|i| if i < 4 { claim[i] } else { 0 });
-        let hashed = second::hash(&table, words);
-        assert_eq!(yardstick::hash(&table, words), hashed);
-
-        let (mut one, mut two) = (vec![7; 768 + extra], vec![7; 768 + extra]);
-        let built = second::build(&table, &taps, &mut one);
-        assert_eq!(yardstick::build(&table, &taps, &mut two), built);
-        assert_eq!(one, two);
-
-        let checked = second::check(&table, &trace, claim);
-        assert_eq!(yardstick::check(&table, &trace, claim), checked);
-
-        let (mut one, mut two) = (vec![7; 28 + extra], vec![7; 28 + extra]);
-        let read = second::read_off(&table, &trace, claim, &mut one);
-        let other = yardstick::read_off(&table, &trace, claim, &mut two);
-        assert_eq!(other, read);
-        assert_eq!(one, two);
-
-        for refusal in [hashed.err(), built.err(), checked.err(), read.err()] {
-            numbers[refusal.map_or(0, |refusal| refusal.number()) as usize] += 1;
-        }
-    }
-    for number in [0, 1, 2, 4, 5, 6, 7, 8, 9, 10, 11] {
-        assert!(numbers[number] > 10, "{number} seen {numbers:?}");
     }
 }
