@@ -2,11 +2,12 @@
 -- Bits 0 to 5 hold the refusal's number, 0 for acceptance; bits 6 to 11 the constraint; bits 12 to 35 the row;
 -- bits 36 to 63 the index, or the tests. Each part is cut to its bits; proofs/Theorems.antt shows that no answer loses anything by that.
 -- Assumes nothing.
-use mathlib.Core.Bool.{_||_}
+use mathlib.Core.Bool.{Bool, _||_}
 use mathlib.Core.List.{List, [], _∷_}
 use Prim.Native.Nat.{ℕ, _+_, _*_, _/_, _%_, _^_}
 use lib.Dec.{eqb}
 use Rattle.lists.specs.Lists.{choose}
+use Rattle.refusals.specs.Refusals.{told}
 use Rattle.refusals.specs.declared.Refusal.{Refusal}
 use Rattle.refusals.specs.declared.Refusal.the-variants.{TableLength, TableWord, NoInverse, WrongInverse, TapLength, TapWord, TraceLength, DestinationLength, ClaimWord, TraceWord, Constraint, FileLength, WrongKind, WrongValue}
 use Rattle.refusals.specs.declared.Answer.{Answer}
@@ -66,15 +67,27 @@ rowIn c = c / 2 ^ 12 % 2 ^ 24
 abbrev pub valueIn : ℕ → ℕ
 valueIn c = c / 2 ^ 36
 
--- the refusals that come with an index: 2, 4, 6, 9, 10, 13, 14
-abbrev pub indexed : ℕ → ℕ → List ℕ
-indexed number c =
-    choose (eqb number 2 || (eqb number 4 || (eqb number 6 || (eqb number 9 || (eqb number 10 || (eqb number 13 || eqb number 14))))))
-    (number ∷ valueIn c ∷ [])
-    (number ∷ [])
+-- acceptance, and the refusals that come with an index
+abbrev pub indexed : ℕ → Bool
+indexed number = eqb number 0 || (eqb number 2 || (eqb number 4 || (eqb number 6 || (eqb number 9 || (eqb number 10 || (eqb number 13 || eqb number 14))))))
 
--- the number and the values of a refusal, from its code
+-- the number, and then the values that come with it
 unfoldable pub decode : ℕ → List ℕ
 decode c =
     choose (eqb (numberIn c) 11) (11 ∷ rowIn c ∷ constraintIn c ∷ valueIn c ∷ [])
-    (indexed (numberIn c) c)
+    (choose (indexed (numberIn c)) (numberIn c ∷ valueIn c ∷ [])
+    (numberIn c ∷ []))
+
+-- ---- what an answer says: 0 for acceptance and the tests walked, none where the operation has no tests; or the refusal
+
+abbrev pub answerTold : Answer → List ℕ
+answerTold answer.Accepted = 0 ∷ 0 ∷ []
+answerTold (answer.Refused r) = told r
+
+abbrev pub digestedTold : Digested → List ℕ
+digestedTold (digested.Accepted d) = 0 ∷ 0 ∷ []
+digestedTold (digested.Refused r) = told r
+
+abbrev pub checkedTold : Checked → List ℕ
+checkedTold (checked.Accepted tests) = 0 ∷ tests ∷ []
+checkedTold (checked.Refused r) = told r

@@ -3,10 +3,12 @@
 ghost use mathlib.Core.Path.{_≡_};
 ghost use mathlib.Core.List.{[], _∷_};
 ghost use lib.ListN.{length};
-ghost use Rattle.export.specs.Code.{code, codeOf, answerCode, digestedCode};
+ghost use Rattle.checker.specs.Answers.{checkAnswer};
+ghost use Rattle.export.specs.Code.{code, codeOf, answerCode, digestedCode, checkedCode};
 ghost use Rattle.export.specs.Calls.{Told, PrepareCall, hashCall, noRoom, chainCall, PackCall, UnpackCall};
 use counts::BatchCount;
 use refusals::Answer;
+use refusals::Checked;
 use refusals::Digested;
 use refusals::Refusal;
 
@@ -84,6 +86,15 @@ fn digested_code(answer: Digested) -> u64
     }
 }
 
+fn checked_code(answer: Checked) -> u64
+    ensures { λ r. ⌜ r ≡ checkedCode answer ⌝ }
+{
+    match answer {
+        Checked::Accepted(tests) => indexed(0, tests),
+        Checked::Refused(r) => code_of(r),
+    }
+}
+
 // The code of the answer; an accepted digest is written to the output.
 fn hand_over(answer: Digested, output: &mut [u64]) -> u64
     requires { ⌜ length (now output) ≡ 4 ⌝ }
@@ -158,6 +169,21 @@ pub extern "C" fn lemoncolumn_chain(table: &[u64], taps: &[u64], output: &mut [u
         return no_room(table, taps);
     }
     hand_over(hash::chain(table, taps), output)
+}
+
+// Check: 1, 2, 4, 7, 9, 10, 11.
+#[no_mangle]
+pub extern "C" fn lemoncolumn_check(
+    table: &[u64],
+    trace: &[u64],
+    c0: u64,
+    c1: u64,
+    c2: u64,
+    c3: u64,
+) -> u64
+    ensures { λ r. ⌜ r ≡ checkedCode (checkAnswer (now (table .entry)) (now (trace .entry)) (c0 ∷ c1 ∷ c2 ∷ c3 ∷ [])) ⌝ }
+{
+    checked_code(checker::check(table, trace, [c0, c1, c2, c3]))
 }
 
 // Pack: 5, 8, 9, 6.
