@@ -16,12 +16,14 @@ use Rattle.refusals.specs.declared.Answer.the-variants as answer
 use Rattle.refusals.specs.declared.Digest.{Digest}
 use Rattle.refusals.specs.declared.Digested.{Digested}
 use Rattle.refusals.specs.declared.Digested.the-variants.{Accepted, Refused}
+use Rattle.refusals.specs.declared.Checked.{Checked}
+use Rattle.refusals.specs.declared.Checked.the-variants as checked
 use Rattle.refusals.specs.Refusals.{digestedAfter, digestedKept}
 use Rattle.table.specs.Table.{tableTest}
 use Rattle.hash.specs.Answers.{forBatches}
 use Rattle.board.specs.Board.{unpackAnswer}
 use Rattle.board.proofs.Cases.{unpack-accepted, returned}
-use Rattle.export.specs.Code.{codeOf, answerCode, digestedCode}
+use Rattle.export.specs.Code.{code, codeOf, answerCode, digestedCode, checkedCode}
 use Rattle.export.specs.Calls.{intoFour, Told, noRoom}
 
 -- ---- the code of an answer that was found to be one or the other
@@ -40,6 +42,14 @@ digested-accepted a d e = rw e
 pub digested-refused : (a : Digested) (r : Refusal) → a ≡ Refused r → codeOf r ≡ digestedCode a
 unfolding digestedCode
 digested-refused a r e = rw e
+
+pub checked-accepted : (a : Checked) (tests : ℕ) → a ≡ checked.Accepted tests → code 0 0 0 tests ≡ checkedCode a
+unfolding checkedCode
+checked-accepted a tests e = rw e
+
+pub checked-refused : (a : Checked) (r : Refusal) → a ≡ checked.Refused r → codeOf r ≡ checkedCode a
+unfolding checkedCode
+checked-refused a r e = rw e
 
 -- ---- a digest and its destination
 pub four-words : (old : List ℕ) (a b c d : ℕ) → length old ≡ 4 → set (set (set (set old 0 a) 1 b) 2 c) 3 d ≡ a ∷ b ∷ c ∷ d ∷ []
