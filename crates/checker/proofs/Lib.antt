@@ -3,3 +3,4 @@ pub mod SpanLaws
 pub mod WalkSteps
 pub mod Holding
 pub mod AnswerLaws
+pub mod Theorems

@@ -11,7 +11,7 @@ use counts::RowNumber;
 use field::Fp;
 
 // The cells of the row.
-fn cells(trace: &[u64], row: RowNumber) -> [u64; 12]
+pub fn cells(trace: &[u64], row: RowNumber) -> [u64; 12]
     requires { ⌜ HasRow (now trace) (row .0) ⌝ }
     ensures { λ r. ⌜ (r ≡ cells-of (now (trace .entry)) (row .0)) × CanonicalTo 12 r ⌝ }
 {
