@@ -113,7 +113,11 @@ no-list-refuses file = go (unpackAnswer file 0) refl
     go (Refused r) e = (r, refl)
     go (Accepted d) e = absurd (omega (arith, unpack-accepted file 0 (returned file 0 d e .0) .1))
 
--- a refusal keeps the list; lending none of it adds none to it
+-- a refusal keeps what was there
+pub kept : (a b : Digested) (new old : List ℕ) → a ≡ b → Refuses b → old ≡ digestedKept a new old
+kept a b new old e f = rw (e ∙ f .1)
+
+-- also where no word of it was lent
 pub list-kept : (a b : Digested) (new part old : List ℕ) → a ≡ b → Refuses b → length part ≡ 0 → part ++ old ≡ digestedKept a new old
-list-kept a b new [] old e f h = rw (e ∙ f .1)
+list-kept a b new [] old e f h = kept a b new old e f
 list-kept a b new (x ∷ part) old e f h = absurd (omega arith)

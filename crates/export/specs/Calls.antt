@@ -4,7 +4,7 @@
 -- Assumes nothing.
 use mathlib.Core.List.{List, [], _∷_}
 use mathlib.Core.Path.{_≡_}
-use Prim.Native.Nat.{ℕ}
+use Prim.Native.Nat.{ℕ, _/_}
 use lib.Dec.{eqb}
 use lib.ListN.{length}
 use Rattle.lists.specs.Lists.{choose}
@@ -13,11 +13,15 @@ use Rattle.refusals.specs.declared.Refusal.the-variants.{DestinationLength}
 use Rattle.refusals.specs.declared.Answer.{Answer}
 use Rattle.refusals.specs.declared.Digested.{Digested}
 use Rattle.refusals.specs.declared.Digested.the-variants.{Accepted, Refused}
-use Rattle.refusals.specs.Refusals.{answerKept, digestedAfter, digestedKept}
+use Rattle.refusals.specs.Refusals.{answerKept, digestedAfter, digestedKept, checkedKept}
 use Rattle.table.specs.Table.{tableTest, Prepares}
 use Rattle.hash.specs.Answers.{forBatches, hashAnswer, chainAnswer}
+use Rattle.trace.specs.Trace.{trace}
+use Rattle.trace.specs.Answers.{buildAnswer}
+use Rattle.constraints.specs.ReadOff.{readTaps}
+use Rattle.readoff.specs.Answers.{readOffAnswer}
 use Rattle.board.specs.Board.{packAnswer, packed, unpackAnswer, tapsIn}
-use Rattle.export.specs.Code.{answerCode, digestedCode}
+use Rattle.export.specs.Code.{answerCode, digestedCode, checkedCode}
 
 -- ---- a digest, and its destination
 
@@ -54,6 +58,19 @@ noRoom T w = digestedAfter (tableTest T) (forBatches (tapBatches (length w)) (λ
 -- Chain: 1, 2, 4, 5, 8, 6
 unfoldable pub chainCall : List ℕ → List ℕ → ℕ → Digested
 chainCall T w size = intoFour size (chainAnswer T w) (noRoom T w)
+
+-- Build: 1, 2, 4, 5, 8, 6; both destinations are tested at 8
+unfoldable pub buildCall : List ℕ → List ℕ → ℕ → ℕ → Digested
+buildCall T w rows size = intoFour size (buildAnswer T w rows) (noRoom T w)
+
+pub record BuildCall (T w : List ℕ) (code : ℕ) (old new output output′ : List ℕ) : Type 0 where
+  pub told : Told (buildCall T w (length old) (length output)) code output output′
+  pub rows : new ≡ digestedKept (buildCall T w (length old) (length output)) (trace T w (length w / 12)) old
+
+-- Read-off: 1, 2, 4, 7, 8, 9, 10, 11
+pub record ReadOffCall (T t claim : List ℕ) (code : ℕ) (taps taps′ : List ℕ) : Type 0 where
+  pub coded : code ≡ checkedCode (readOffAnswer T t claim (length taps))
+  pub list : taps′ ≡ checkedKept (readOffAnswer T t claim (length taps)) (readTaps T t (length t / 384)) taps
 
 -- Pack: 5, 8, 9, 6
 pub record PackCall (taps claim old : List ℕ) (code : ℕ) (new : List ℕ) : Type 0 where

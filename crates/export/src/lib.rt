@@ -5,7 +5,7 @@ ghost use mathlib.Core.List.{[], _∷_};
 ghost use lib.ListN.{length};
 ghost use Rattle.checker.specs.Answers.{checkAnswer};
 ghost use Rattle.export.specs.Code.{code, codeOf, answerCode, digestedCode, checkedCode};
-ghost use Rattle.export.specs.Calls.{Told, PrepareCall, hashCall, noRoom, chainCall, PackCall, UnpackCall};
+ghost use Rattle.export.specs.Calls.{Told, PrepareCall, hashCall, noRoom, chainCall, BuildCall, ReadOffCall, PackCall, UnpackCall};
 use counts::BatchCount;
 use refusals::Answer;
 use refusals::Checked;
@@ -171,6 +171,22 @@ pub extern "C" fn lemoncolumn_chain(table: &[u64], taps: &[u64], output: &mut [u
     hand_over(hash::chain(table, taps), output)
 }
 
+// Build: 1, 2, 4, 5, 8, 6.
+#[no_mangle]
+pub extern "C" fn lemoncolumn_build(
+    table: &[u64],
+    taps: &[u64],
+    trace: &mut [u64],
+    output: &mut [u64],
+) -> u64
+    ensures { λ r. ⌜ BuildCall (now (table .entry)) (now (taps .entry)) r (now (trace .entry)) (now (trace .exit)) (now (output .entry)) (now (output .exit)) ⌝ }
+{
+    if output.len() != 4 {
+        return no_room(table, taps);
+    }
+    hand_over(trace::build(table, taps, trace), output)
+}
+
 // Check: 1, 2, 4, 7, 9, 10, 11.
 #[no_mangle]
 pub extern "C" fn lemoncolumn_check(
@@ -184,6 +200,22 @@ pub extern "C" fn lemoncolumn_check(
     ensures { λ r. ⌜ r ≡ checkedCode (checkAnswer (now (table .entry)) (now (trace .entry)) (c0 ∷ c1 ∷ c2 ∷ c3 ∷ [])) ⌝ }
 {
     checked_code(checker::check(table, trace, [c0, c1, c2, c3]))
+}
+
+// Read-off: 1, 2, 4, 7, 8, 9, 10, 11.
+#[no_mangle]
+pub extern "C" fn lemoncolumn_read_off(
+    table: &[u64],
+    trace: &[u64],
+    c0: u64,
+    c1: u64,
+    c2: u64,
+    c3: u64,
+    taps: &mut [u64],
+) -> u64
+    ensures { λ r. ⌜ ReadOffCall (now (table .entry)) (now (trace .entry)) (c0 ∷ c1 ∷ c2 ∷ c3 ∷ []) r (now (taps .entry)) (now (taps .exit)) ⌝ }
+{
+    checked_code(readoff::read_off(table, trace, [c0, c1, c2, c3], taps))
 }
 
 // Pack: 5, 8, 9, 6.

@@ -1,4 +1,7 @@
-//! The functions of the proved library, as include/lemoncolumn.h declares them.
+//! The functions of the proved library, as include/lemoncolumn.h declares them,
+//! for who wants to lend memory that is no slice. Each pointer is valid for the
+//! length after it, and what a call writes overlaps nothing else lent to it;
+//! nothing more is asked. [`crate::decode`] reads what they return.
 
 extern "C" {
     pub fn lemoncolumn_prepare(

@@ -5,13 +5,13 @@
 //! may be lent. Words are unsigned 64-bit numbers; the library tests that they
 //! are canonical, that is, below [`P`].
 
-mod calls;
+pub mod calls;
 mod refusal;
 
-pub use refusal::Refusal;
+pub use refusal::{decode, Refusal};
 
 use calls::*;
-use refusal::{accepted, value};
+use refusal::accepted;
 
 /// The prime of the field.
 pub const P: u64 = (1 << 61) + 20 * (1 << 32) + 1;
@@ -82,6 +82,67 @@ pub fn chain(table: &[u64], taps: &[u64]) -> Result<[u64; 4], Refusal> {
         )
     };
     accepted(code).map(|()| output)
+}
+
+/// Writes the trace of a list of taps; answers the output of its chain.
+pub fn build(table: &[u64], taps: &[u64], trace: &mut [u64]) -> Result<[u64; 4], Refusal> {
+    let mut output = [0; 4];
+    let code = unsafe {
+        lemoncolumn_build(
+            table.as_ptr(),
+            table.len(),
+            taps.as_ptr(),
+            taps.len(),
+            trace.as_mut_ptr(),
+            trace.len(),
+            output.as_mut_ptr(),
+            output.len(),
+        )
+    };
+    accepted(code).map(|()| output)
+}
+
+/// Tests a trace against a claim; answers the number of tests walked.
+pub fn check(table: &[u64], trace: &[u64], claim: [u64; 4]) -> Result<u64, Refusal> {
+    let [a, b, c, d] = claim;
+    let code = unsafe {
+        lemoncolumn_check(
+            table.as_ptr(),
+            table.len(),
+            trace.as_ptr(),
+            trace.len(),
+            a,
+            b,
+            c,
+            d,
+        )
+    };
+    decode(code)
+}
+
+/// The same, and writes the taps of an accepted trace.
+pub fn read_off(
+    table: &[u64],
+    trace: &[u64],
+    claim: [u64; 4],
+    taps: &mut [u64],
+) -> Result<u64, Refusal> {
+    let [a, b, c, d] = claim;
+    let code = unsafe {
+        lemoncolumn_read_off(
+            table.as_ptr(),
+            table.len(),
+            trace.as_ptr(),
+            trace.len(),
+            a,
+            b,
+            c,
+            d,
+            taps.as_mut_ptr(),
+            taps.len(),
+        )
+    };
+    decode(code)
 }
 
 /// Writes the board file of a list of taps and a claim.

@@ -43,18 +43,15 @@ pub enum Refusal {
     WrongValue { word: u64 },
 }
 
-/// Bits 36 to 63: the index, or the tests.
-pub fn value(code: u64) -> u64 {
-    code >> 36
-}
-
-/// Acceptance, or the refusal in the code.
-pub fn accepted(code: u64) -> Result<(), Refusal> {
+/// Reads the number that a call returns: the tests walked, 0 for a call that
+/// has none, or the refusal. Bits 0 to 5 are the refusal's number, bits 6 to 11
+/// the constraint, bits 12 to 35 the row, bits 36 to 63 the index or the tests.
+pub fn decode(code: u64) -> Result<u64, Refusal> {
     let constraint = code >> 6 & 0x3f;
     let row = code >> 12 & 0xff_ffff;
-    let value = value(code);
+    let value = code >> 36;
     Err(match code & 0x3f {
-        0 => return Ok(()),
+        0 => return Ok(value),
         1 => Refusal::TableLength,
         2 => Refusal::TableWord { index: value },
         3 => Refusal::NoInverse,
@@ -75,6 +72,11 @@ pub fn accepted(code: u64) -> Result<(), Refusal> {
         14 => Refusal::WrongValue { word: value },
         _ => unreachable!("no refusal has this number"),
     })
+}
+
+/// Acceptance, or the refusal.
+pub(crate) fn accepted(code: u64) -> Result<(), Refusal> {
+    decode(code).map(|_| ())
 }
 
 impl Refusal {
