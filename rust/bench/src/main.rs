@@ -5,7 +5,8 @@
 //!     cargo run --release --offline -p bench
 //!
 //! The implementations take turns, many times over, and the shortest time of
-//! each counts: what else the machine does lengthens some turns of each.
+//! each counts, in the thread's own time: what else the machine does lengthens
+//! some turns of each.
 
 mod field;
 mod operations;

@@ -1,6 +1,30 @@
 //! Times of several ways to do one thing, taken in turn.
 
-use std::time::{Duration, Instant};
+use std::time::Duration;
+
+/// The kernel's `struct timespec`, and its clock of this thread's own time:
+/// what the processor spends on others does not count.
+#[repr(C)]
+struct Timespec {
+    seconds: i64,
+    nanoseconds: i64,
+}
+const THREAD_TIME: i32 = 3;
+
+extern "C" {
+    fn clock_gettime(clock: i32, time: *mut Timespec) -> i32;
+}
+
+fn now() -> Duration {
+    let mut time = Timespec {
+        seconds: 0,
+        nanoseconds: 0,
+    };
+    // SAFETY: `time` is there to be written.
+    let status = unsafe { clock_gettime(THREAD_TIME, &mut time) };
+    assert_eq!(status, 0, "no clock of the thread's own time");
+    Duration::new(time.seconds as u64, time.nanoseconds as u32)
+}
 
 /// The shortest stretch that is timed at once.
 const STRETCH: Duration = Duration::from_millis(2);
@@ -35,11 +59,11 @@ impl<'a> Way<'a> {
     }
 
     fn time(&mut self, runs: usize) -> Duration {
-        let start = Instant::now();
+        let start = now();
         for _ in 0..runs {
             (self.run)();
         }
-        start.elapsed()
+        now() - start
     }
 }
 
@@ -51,9 +75,9 @@ fn ratio(one: Duration, other: Duration) -> f64 {
 pub fn times(ways: &mut [Way]) -> Vec<f64> {
     let runs: Vec<usize> = ways.iter_mut().map(Way::calibrate).collect();
     let mut best = vec![f64::INFINITY; ways.len()];
-    let start = Instant::now();
+    let start = now();
     let mut turns = 0;
-    while turns < TURNS || start.elapsed() < TIME {
+    while turns < TURNS || now() - start < TIME {
         for (number, way) in ways.iter_mut().enumerate() {
             let time = way.time(runs[number]).as_secs_f64() * 1e9;
             let unit = time / (runs[number] as f64 * way.units);
