@@ -1,6 +1,6 @@
 // Elements of the board file, three words each (document 01, "The board file"). An index counts words of the file, from word 0.
 ghost use mathlib.Core.Path.{_≡_};
-ghost use Prim.Native.Nat.{ℕ, _+_, _*_, _^_, _≤_, _<_};
+ghost use Prim.Native.Nat.{ℕ, _+_, _*_, _≤_, _<_};
 ghost use lib.ListN.{length};
 ghost use lib.Seq.{sets};
 ghost use Rattle.field.specs.Field.{P};
@@ -11,14 +11,17 @@ use fileword::Word;
 use refusals::Answer;
 use refusals::Refusal;
 
+// A word's payload, 2^30 - 1.
+const PAYLOAD: u64 = 0x3fff_ffff;
+
 // The element becomes the three words from `index` on.
 pub fn write(element: u64, index: usize, destination: &mut [u8])
     requires { ⌜ 4 * index + 12 ≤ length (now destination) ⌝ }
     ensures { λ _. ⌜ now (destination .exit) ≡ sets (now (destination .entry)) (4 * index) (bytesOf (elementWords element)) ⌝ }
 {
     let high = (element >> 60) as u32;
-    let middle = ((element >> 30) & 0x3fff_ffff) as u32;
-    let low = (element & 0x3fff_ffff) as u32;
+    let middle = ((element >> 30) & PAYLOAD) as u32;
+    let low = (element & PAYLOAD) as u32;
     Word::join(1, high).write(index, destination);
     Word::join(2, middle).write(index + 1, destination);
     Word::join(3, low).write(index + 2, destination);

@@ -10,19 +10,12 @@ ghost use Rattle.hash.specs.Hash.{plus};
 use counts::RowNumber;
 use field::Fp;
 
-// The cells of the row.
+// The cells of the row, read through the view of its batch.
 pub fn cells(trace: &[u64], row: RowNumber) -> [u64; 12]
     requires { ⌜ HasRow (now trace) (row .0) ⌝ }
     ensures { λ r. ⌜ (r ≡ cells-of (now (trace .entry)) (row .0)) × CanonicalTo 12 r ⌝ }
 {
-    let start = row.start();
-    let mut out = [0u64; 12];
-    let mut j: usize = 0;
-    while j < 12 {
-        out[j] = trace[start + j];
-        j += 1;
-    }
-    out
+    view::cells(trace, row)
 }
 
 // The round whose middle state the row holds: rows 1 to 10, 11 to 20, 21 to 30 are rounds 0 to 9.
