@@ -1,9 +1,9 @@
--- `checker::is_middle` meets its contract.
+-- `rowtests::is_middle` meets its contract.
 -- Assumes nothing.
 use borrow.Author.Needs.{needs}
 use borrow.Author.Tests.{le-leb, lt-leb}
-use Rattle.checker.proofs.is_middle.Statement.{statement}
-use Rattle.checker.proofs.is_middle.Tie as tie
+use Rattle.rowtests.proofs.is_middle.Statement.{statement}
+use Rattle.rowtests.proofs.is_middle.Tie as tie
 
 within-requires : tie.Need-within-requires
 within-requires c κs = search needs
