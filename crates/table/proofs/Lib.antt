@@ -1,3 +1,4 @@
 pub mod Parts
 pub mod Tested
+pub mod Prepared
 pub mod Theorems

@@ -1,26 +1,32 @@
 -- What the table test and Prepare promise (document 01, "The table").
 -- Assumes nothing.
 use Prim.Native.Nat.{ℕ, _+_, _*_, _/_, _%_, _≤_, _<_}
-use mathlib.Core.Path.{_≡_, refl, sym, ap₂, _∙_}
-use mathlib.Core.Bool.{false}
+use mathlib.Core.Path.{_≡_, refl, sym, ap, ap₂, _∙_, subst}
+use mathlib.Core.Bool.{Bool, true, false}
+use mathlib.Core.Logic.{_↔_, ⊎-elim}
 use mathlib.Core.List.{List}
 use native.Mathlib.Decide.{ℕ-discrete}
 use native.Mathlib.Omega.{arith}
-use borrow.Author.Tests.{eq-eqb, eqb-true, not-false}
-use lib.ListN.{length}
-use Rattle.lists.specs.Lists.{cell}
-use Rattle.lists.proofs.First.{none-first}
-use Rattle.field.specs.Field.{Canonical}
+use borrow.Author.Tests.{eq-eqb, eqb-true, eqb-false, not-true, not-false}
+use lib.Dec.{eqb}
+use lib.ListN.{length, take}
+use Rattle.lists.specs.Lists.{choose, cell, first}
+use Rattle.lists.proofs.First.{IsFirst, is-first, none-first}
+use Rattle.field.specs.Field.{P, Canonical}
 use Rattle.words.specs.Words.{AllCanonical, firstBad}
-use Rattle.words.proofs.Laws.{all-good, good-all}
-use Rattle.matrix.specs.Matrix.{product, identity, Inverse, entry, times}
-use Rattle.matrix.proofs.Dichotomy.{other-side}
+use Rattle.words.proofs.Laws.{within, bad-at, good-before, all-good, good-all}
+use Rattle.matrix.specs.Matrix.{product, identity, Inverse, Kernel, entry, times}
+use Rattle.matrix.proofs.Dichotomy.{Invertible, dichotomy, other-side, not-both}
 use Rattle.matrix.proofs.States.{times-undo, times-redo}
+use Rattle.inverse.proofs.Inversion.{inverse-only, listed, listed-inverse}
 use Rattle.refusals.specs.declared.Refusal.{Refusal}
+use Rattle.refusals.specs.declared.Refusal.the-variants.{TableLength, TableWord, NoInverse, WrongInverse, DestinationLength}
+use Rattle.refusals.specs.declared.Answer.{Answer}
 use Rattle.refusals.specs.declared.Answer.the-variants.{Accepted, Refused}
-use Rattle.table.specs.Table.{matrixOf, inverseOf, constant, unlike, firstUnlike, tableTest, IsTable}
+use Rattle.table.specs.Table.{matrixOf, inverseOf, constant, unlike, firstUnlike, tableTest, IsTable, RawInverse, prepared, rawTest, Prepares, accepts, no-inverse, refuses}
 use Rattle.table.proofs.Parts as parts
 use Rattle.table.proofs.Tested as tested
+use Rattle.table.proofs.Prepared as prep
 
 not-refused : (r : Refusal) → Refused r ≡ Accepted → ⊥
 not-refused r e = let z : _≡_ {A = ℕ} 0 1 = cc in omega arith
@@ -43,23 +49,79 @@ identity-like : (t : List ℕ) → Inverse 12 (entry (matrixOf t)) (entry (inver
 unfolding unlike Inverse
 identity-like t h c l = rw (eq-eqb _ _ (h (c / 12) (c % 12) (omega arith) (omega arith)))
 
-pub test-sound : (t : List ℕ) → tableTest t ≡ Accepted → IsTable t
-test-sound t e = with-size (ℕ-discrete (length t) 540)
-  where
-    with-cells : (size : length t ≡ 540) → firstBad t ≡ 540 → Dec (firstUnlike t ≡ 144) → IsTable t
-    with-cells size good (yes u) = record { size = size; canonical = good-all t (good ∙ sym size); inverse = like-identity t u }
-    with-cells size good (no u) = absurd (not-refused _ (tested.wrong-cell t size good _ refl u ∙ e))
-
-    with-words : (size : length t ≡ 540) → Dec (firstBad t ≡ 540) → IsTable t
-    with-words size (yes b) = with-cells size b (ℕ-discrete (firstUnlike t) 144)
-    with-words size (no b) = absurd (not-refused _ (tested.wrong-word t size _ refl b ∙ e))
-
-    with-size : Dec (length t ≡ 540) → IsTable t
-    with-size (yes s) = with-words s (ℕ-discrete (firstBad t) 540)
-    with-size (no s) = absurd (not-refused _ (tested.wrong-length t s ∙ e))
-
 pub test-complete : (t : List ℕ) → IsTable t → tableTest t ≡ Accepted
 test-complete t h = sym (tested.accepted t (h .size) (all-good t (h .canonical) ∙ h .size) (tested.passes t (identity-like t (h .inverse))))
+
+-- ---- the places of its refusals
+
+-- 2: the lowest index of a word that is not canonical
+pub record FirstWord (t : List ℕ) (i : ℕ) : Type 0 where
+  pub size : length t ≡ 540
+  pub within : i < 540
+  pub bad : P ≤ cell t i
+  pub before : (j : ℕ) → j < i → Canonical (cell t j)
+
+-- 4: the first cell, row by row, in which M times the stored inverse is unlike the identity
+pub record FirstCell (t : List ℕ) (c : ℕ) : Type 0 where
+  pub size : length t ≡ 540
+  pub canonical : AllCanonical t
+  pub within : c < 144
+  pub other : product 12 (entry (matrixOf t)) (entry (inverseOf t)) (c / 12) (c % 12) ≡ identity (c / 12) (c % 12) → ⊥
+  pub before : (d : ℕ) → d < c → product 12 (entry (matrixOf t)) (entry (inverseOf t)) (d / 12) (d % 12) ≡ identity (d / 12) (d % 12)
+
+-- the answer of the test, by cases
+pub data Answers (t : List ℕ) : Answer → Type 0 where
+  accepted : IsTable t → Answers t Accepted
+  length-refused : (length t ≡ 540 → ⊥) → Answers t (Refused TableLength)
+  word-refused : (i : ℕ) → FirstWord t i → Answers t (Refused (TableWord i))
+  cell-refused : (c : ℕ) → FirstCell t c → Answers t (Refused (WrongInverse c))
+
+first-word : (t : List ℕ) → length t ≡ 540 → (firstBad t ≡ 540 → ⊥) → FirstWord t (firstBad t)
+first-word t size b = record { size = size; within = omega (arith, within t); bad = bad-at t (omega (arith, within t)); before = good-before t }
+
+first-cell : (t : List ℕ) → length t ≡ 540 → firstBad t ≡ 540 → (firstUnlike t ≡ 144 → ⊥) → FirstCell t (firstUnlike t)
+unfolding firstUnlike unlike
+first-cell t size good u = record { size = size; canonical = good-all t (good ∙ sym size); within = below; other = eqb-false _ _ (not-true _ (first-is .found below)); before = λ d l. eqb-true _ _ (not-false _ (first-is .before d l)) }
+  where
+    first-is : IsFirst 144 (unlike t) (first 144 (unlike t))
+    first-is = is-first 144 (unlike t)
+
+    below : first 144 (unlike t) < 144
+    below = omega (arith, first-is .within)
+
+pub test-answers : (t : List ℕ) → Answers t (tableTest t)
+test-answers t = with-size (ℕ-discrete (length t) 540)
+  where
+    with-cells : (size : length t ≡ 540) → firstBad t ≡ 540 → Dec (firstUnlike t ≡ 144) → Answers t (tableTest t)
+    with-cells size good (yes u) = subst (Answers t) (tested.accepted t size good u) (accepted (record { size = size; canonical = good-all t (good ∙ sym size); inverse = like-identity t u }))
+    with-cells size good (no u) = subst (Answers t) (tested.wrong-cell t size good _ refl u) (cell-refused _ (first-cell t size good u))
+
+    with-words : (size : length t ≡ 540) → Dec (firstBad t ≡ 540) → Answers t (tableTest t)
+    with-words size (yes b) = with-cells size b (ℕ-discrete (firstUnlike t) 144)
+    with-words size (no b) = subst (Answers t) (tested.wrong-word t size _ refl b) (word-refused _ (first-word t size b))
+
+    with-size : Dec (length t ≡ 540) → Answers t (tableTest t)
+    with-size (yes s) = with-words s (ℕ-discrete (firstBad t) 540)
+    with-size (no s) = subst (Answers t) (tested.wrong-length t s) (length-refused s)
+
+pub test-sound : (t : List ℕ) → tableTest t ≡ Accepted → IsTable t
+test-sound t = go (tableTest t) (test-answers t)
+  where
+    go : (a : Answer) → Answers t a → a ≡ Accepted → IsTable t
+    go a (accepted h) e = h
+    go a (length-refused h) e = absurd (not-refused _ e)
+    go a (word-refused i h) e = absurd (not-refused _ e)
+    go a (cell-refused c h) e = absurd (not-refused _ e)
+
+-- only Prepare returns 3
+pub test-never-3 : (t : List ℕ) → tableTest t ≡ Refused NoInverse → ⊥
+test-never-3 t = go (tableTest t) (test-answers t)
+  where
+    go : (a : Answer) → Answers t a → a ≡ Refused NoInverse → ⊥
+    go a (accepted h) e = let q : _≡_ {A = ℕ} 0 1 = cc in omega arith
+    go a (length-refused h) e = let q : _≡_ {A = ℕ} 0 1 = cc in omega arith
+    go a (word-refused i h) e = let q : _≡_ {A = ℕ} 0 1 = cc in omega arith
+    go a (cell-refused c h) e = let q : _≡_ {A = ℕ} 0 1 = cc in omega arith
 
 -- ---- what an accepted table holds
 module _ (t : List ℕ) (h : IsTable t) where
@@ -94,3 +156,111 @@ module _ (t : List ℕ) (h : IsTable t) where
 
   pub undo-mix : (s : List ℕ) → length s ≡ 12 → ((i : ℕ) → i < 12 → Canonical (cell s i)) → times (inverseOf t) (times (matrixOf t) s) ≡ s
   undo-mix = times-redo (matrixOf t) (inverseOf t) (h .inverse)
+
+-- ---- Prepare
+
+-- its tests give no other answers than these
+raw-answers : (raw : List ℕ) (room : ℕ) (Q : Answer → Type 0) → Q Accepted → Q (Refused TableLength) → Q (Refused DestinationLength) → ((b : ℕ) → Q (Refused (TableWord b))) → Q (rawTest raw room)
+unfolding rawTest
+raw-answers raw room Q q1 q2 q3 q4 = go (eqb (length raw) 396) (eqb room 540) (eqb (firstBad raw) 396)
+  where
+    go : (x y z : Bool) → Q (choose x (choose y (choose z Accepted (Refused (TableWord (firstBad raw)))) (Refused DestinationLength)) (Refused TableLength))
+    go false y z = q2
+    go true false z = q3
+    go true true false = q4 (firstBad raw)
+    go true true true = q1
+
+raw-not-3 : (raw : List ℕ) (room : ℕ) → rawTest raw room ≡ Refused NoInverse → ⊥
+raw-not-3 raw room = raw-answers raw room (λ a. a ≡ Refused NoInverse → ⊥) (λ e. let z : _≡_ {A = ℕ} 0 1 = cc in omega arith) (λ e. let z : _≡_ {A = ℕ} 0 1 = cc in omega arith) (λ e. let z : _≡_ {A = ℕ} 0 1 = cc in omega arith) (λ b e. let z : _≡_ {A = ℕ} 0 1 = cc in omega arith)
+
+raw-not-4 : (raw : List ℕ) (room c : ℕ) → rawTest raw room ≡ Refused (WrongInverse c) → ⊥
+raw-not-4 raw room c = raw-answers raw room (λ a. a ≡ Refused (WrongInverse c) → ⊥) (λ e. let z : _≡_ {A = ℕ} 0 1 = cc in omega arith) (λ e. let z : _≡_ {A = ℕ} 0 1 = cc in omega arith) (λ e. let z : _≡_ {A = ℕ} 0 1 = cc in omega arith) (λ b e. let z : _≡_ {A = ℕ} 0 1 = cc in omega arith)
+
+-- what they let through
+pub record RawTable (raw : List ℕ) (room : ℕ) : Type 0 where
+  pub size : length raw ≡ 396
+  pub room-fits : room ≡ 540
+  pub canonical : AllCanonical raw
+
+pub raw-sound : (raw : List ℕ) (room : ℕ) → rawTest raw room ≡ Accepted → RawTable raw room
+raw-sound raw room e = with-size (ℕ-discrete (length raw) 396)
+  where
+    with-words : length raw ≡ 396 → room ≡ 540 → Dec (firstBad raw ≡ 396) → RawTable raw room
+    with-words size fits (yes b) = record { size = size; room-fits = fits; canonical = good-all raw (b ∙ sym size) }
+    with-words size fits (no b) = absurd (not-refused _ (sym (prep.wrong-word raw room size fits _ refl b) ∙ e))
+
+    with-room : length raw ≡ 396 → Dec (room ≡ 540) → RawTable raw room
+    with-room size (yes f) = with-words size f (ℕ-discrete (firstBad raw) 396)
+    with-room size (no f) = absurd (not-refused _ (sym (prep.wrong-room raw room size f) ∙ e))
+
+    with-size : Dec (length raw ≡ 396) → RawTable raw room
+    with-size (yes s) = with-room s (ℕ-discrete room 540)
+    with-size (no s) = absurd (not-refused _ (sym (prep.wrong-length raw room s) ∙ e))
+
+pub raw-complete : (raw : List ℕ) (room : ℕ) → RawTable raw room → rawTest raw room ≡ Accepted
+raw-complete raw room h = prep.raw-accepted raw room (h .size) (h .room-fits) (all-good raw (h .canonical) ∙ h .size)
+
+prepared-table : (raw n : List ℕ) (room : ℕ) → RawTable raw room → RawInverse raw n → IsTable (prepared raw n)
+prepared-table raw n room r h = record { size = prep.length-prepared raw n (r .size) (h .size); canonical = prep.prepared-canonical raw n (r .size) (h .size) (r .canonical) (h .canonical); inverse = inverse }
+  where
+    inverse : Inverse 12 (entry (matrixOf (prepared raw n))) (entry (inverseOf (prepared raw n)))
+    inverse = rw (prep.matrix-prepared raw n (r .size) (h .size), prep.inverse-prepared raw n (r .size) (h .size)) (h .inverse)
+
+-- a table that Prepare wrote is accepted
+pub prepared-accepted : (raw old new : List ℕ) → Prepares raw old Accepted new → tableTest new ≡ Accepted
+prepared-accepted raw old new h = go Accepted new h refl
+  where
+    go : (a : Answer) (s : List ℕ) → Prepares raw old a s → a ≡ Accepted → tableTest s ≡ Accepted
+    go a s (accepts n t i) e = test-complete (prepared raw n) (prepared-table raw n (length old) (raw-sound raw (length old) t) i)
+    go a s (no-inverse t k) e = absurd (not-refused _ e)
+    go a s (refuses r t) e = absurd (not-refused _ e)
+
+-- there is an answer for any raw table and destination
+pub prepares-some : (raw old : List ℕ) → (a : Answer) × ((s : List ℕ) × Prepares raw old a s)
+prepares-some raw old = go (rawTest raw (length old)) refl
+  where
+    found : rawTest raw (length old) ≡ Accepted → Invertible 12 (entry (take 144 raw)) → (a : Answer) × ((s : List ℕ) × Prepares raw old a s)
+    found e h = (Accepted, (prepared raw (listed (h .matrix)), accepts (listed (h .matrix)) e (listed-inverse (take 144 raw) h)))
+
+    go : (a : Answer) → rawTest raw (length old) ≡ a → (b : Answer) × ((s : List ℕ) × Prepares raw old b s)
+    go (Refused r) e = (Refused r, (old, refuses r e))
+    go Accepted e = ⊎-elim (found e) (λ (k : Kernel 12 (entry (take 144 raw))). (Refused NoInverse, (old, no-inverse e k))) (dichotomy 12 (entry (take 144 raw)))
+
+-- a refusal leaves the destination as it was
+pub refused-kept : (raw old new : List ℕ) (r : Refusal) → Prepares raw old (Refused r) new → new ≡ old
+refused-kept raw old new r h = go (Refused r) new h refl
+  where
+    go : (a : Answer) (s : List ℕ) → Prepares raw old a s → a ≡ Refused r → s ≡ old
+    go a s (accepts n t i) e = absurd (not-refused _ (sym e))
+    go a s (no-inverse t k) e = refl
+    go a s (refuses q t) e = refl
+
+-- answer and content are determined
+pub prepares-unique : (raw old : List ℕ) (a b : Answer) (s t : List ℕ) → Prepares raw old a s → Prepares raw old b t → (a ≡ b) × (s ≡ t)
+prepares-unique raw old a b s t (accepts n e h) (accepts m f g) = (refl, ap (prepared raw) (inverse-only (take 144 raw) n m h g))
+prepares-unique raw old a b s t (accepts n e h) (no-inverse f k) = absurd (not-both 12 (entry (take 144 raw)) (entry n) (h .inverse) k)
+prepares-unique raw old a b s t (accepts n e h) (refuses r f) = absurd (not-refused r (sym f ∙ e))
+prepares-unique raw old a b s t (no-inverse e k) (accepts n f h) = absurd (not-both 12 (entry (take 144 raw)) (entry n) (h .inverse) k)
+prepares-unique raw old a b s t (no-inverse e k) (no-inverse f l) = (refl, refl)
+prepares-unique raw old a b s t (no-inverse e k) (refuses r f) = absurd (not-refused r (sym f ∙ e))
+prepares-unique raw old a b s t (refuses r e) (accepts n f h) = absurd (not-refused r (sym e ∙ f))
+prepares-unique raw old a b s t (refuses r e) (no-inverse f k) = absurd (not-refused r (sym e ∙ f))
+prepares-unique raw old a b s t (refuses r e) (refuses q f) = (sym e ∙ f, refl)
+
+-- 3 exactly where the tests accept and M takes some non-zero column to all zeros
+pub no-inverse-exact : (raw old new : List ℕ) (a : Answer) → Prepares raw old a new → (a ≡ Refused NoInverse) ↔ ((rawTest raw (length old) ≡ Accepted) × Kernel 12 (entry (take 144 raw)))
+no-inverse-exact raw old new a h = (to a new h, λ g. prepares-unique raw old a (Refused NoInverse) new old h (no-inverse (g .0) (g .1)) .0)
+  where
+    to : (b : Answer) (s : List ℕ) → Prepares raw old b s → b ≡ Refused NoInverse → (rawTest raw (length old) ≡ Accepted) × Kernel 12 (entry (take 144 raw))
+    to b s (accepts n t i) e = absurd (not-refused _ (sym e))
+    to b s (no-inverse t k) e = (t, k)
+    to b s (refuses r t) e = absurd (raw-not-3 raw (length old) (t ∙ e))
+
+-- Prepare never returns 4
+pub never-4 : (raw old new : List ℕ) (c : ℕ) → Prepares raw old (Refused (WrongInverse c)) new → ⊥
+never-4 raw old new c h = go (Refused (WrongInverse c)) new h refl
+  where
+    go : (a : Answer) (s : List ℕ) → Prepares raw old a s → a ≡ Refused (WrongInverse c) → ⊥
+    go a s (accepts n t i) e = not-refused _ (sym e)
+    go a s (no-inverse t k) e = let z : _≡_ {A = ℕ} 0 1 = cc in omega arith
+    go a s (refuses r t) e = raw-not-4 raw (length old) c (t ∙ e)

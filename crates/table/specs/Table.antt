@@ -9,6 +9,7 @@ use lib.ListN.{length, take, drop}
 use Rattle.lists.specs.Lists.{choose, first}
 use Rattle.words.specs.Words.{AllCanonical, firstBad}
 use Rattle.matrix.specs.Matrix.{entry, product, identity, Inverse, Kernel}
+use Rattle.inverse.specs.Inversion.{IsInverse}
 use Rattle.refusals.specs.declared.Refusal.{Refusal}
 use Rattle.refusals.specs.declared.Refusal.the-variants.{TableLength, TableWord, NoInverse, WrongInverse, DestinationLength}
 use Rattle.refusals.specs.declared.Answer.{Answer}
@@ -50,15 +51,13 @@ pub record IsTable (t : List ℕ) : Type 0 where
 
 -- ---- the raw table: 396 words, M, then K_0 to K_20. Prepare: 1, 8, 2, 3
 
--- the inverse of the raw table's M, which it determines
-pub record RawInverse (raw n : List ℕ) : Type 0 where
-  pub size : length n ≡ 144
-  pub canonical : AllCanonical n
-  pub inverse : Inverse 12 (entry (take 144 raw)) (entry n)
+-- n is the inverse of the raw table's M, which determines it
+abbrev pub RawInverse : List ℕ → List ℕ → Type 0
+RawInverse raw n = IsInverse (take 144 raw) n
 
 -- M, its inverse, then K
 abbrev pub prepared : List ℕ → List ℕ → List ℕ
-prepared raw n = take 144 raw ++ n ++ drop 144 raw
+prepared raw n = take 144 raw ++ (n ++ drop 144 raw)
 
 -- what Prepare refuses before it looks for an inverse
 unfoldable pub rawTest : List ℕ → ℕ → Answer

@@ -5,7 +5,7 @@ ghost use lib.ListN.{length};
 ghost use Rattle.lists.specs.Lists.{cell, tab};
 ghost use Rattle.words.specs.Words.{AllCanonical};
 ghost use Rattle.matrix.specs.Matrix.{entry, timesColumn};
-ghost use Rattle.table.specs.Table.{unlike, firstUnlike, tableTest};
+ghost use Rattle.table.specs.Table.{unlike, firstUnlike, tableTest, prepared, Prepares};
 use field::Fp;
 use refusals::Answer;
 use refusals::Refusal;
@@ -81,5 +81,50 @@ pub fn test(table: &[u64]) -> Answer
     if cell != 144 {
         return Answer::Refused(Refusal::WrongInverse(cell));
     }
+    Answer::Accepted
+}
+
+// Word t of the prepared table: M, its inverse n, then K.
+fn prepared_word(raw: &[u64], n: &[u64; 144], t: usize) -> u64
+    requires { ⌜ (length (now raw) ≡ 396) × (length (now n) ≡ 144) × (t < 540) ⌝ }
+    ensures { λ r. ⌜ r ≡ cell (prepared (now (raw .entry)) (now (n .entry))) t ⌝ }
+{
+    if t < 144 {
+        return raw[t];
+    }
+    let u = t - 144;
+    if u < 144 { n[u] } else { raw[u] }
+}
+
+fn write(raw: &[u64], n: &[u64; 144], destination: &mut [u64])
+    requires { ⌜ (length (now raw) ≡ 396) × (length (now n) ≡ 144) × (length (now destination) ≡ 540) ⌝ }
+    ensures { λ _. ⌜ now (destination .exit) ≡ prepared (now (raw .entry)) (now (n .entry)) ⌝ }
+{
+    let mut t: usize = 0;
+    while t < 540 {
+        destination[t] = prepared_word(raw, n, t);
+        t += 1;
+    }
+}
+
+// Prepare: 1, 8, 2, 3. The inverse is found in an array of its own, so that a refusal leaves the destination as it was.
+pub fn prepare(raw: &[u64], destination: &mut [u64]) -> Answer
+    ensures { λ r. ⌜ Prepares (now (raw .entry)) (now (destination .entry)) r (now (destination .exit)) ⌝ }
+{
+    if raw.len() != 396 {
+        return Answer::Refused(Refusal::TableLength);
+    }
+    if destination.len() != 540 {
+        return Answer::Refused(Refusal::DestinationLength);
+    }
+    let bad = words::first_bad(raw);
+    if bad != 396 {
+        return Answer::Refused(Refusal::TableWord(bad));
+    }
+    let mut n = [0u64; 144];
+    if !inverse::invert(&raw[..144], &mut n) {
+        return Answer::Refused(Refusal::NoInverse);
+    }
+    write(raw, &n, destination);
     Answer::Accepted
 }

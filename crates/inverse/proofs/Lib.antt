@@ -1,0 +1,4 @@
+pub mod Elimination
+pub mod Rows
+pub mod Steps
+pub mod Inversion

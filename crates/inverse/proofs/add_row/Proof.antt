@@ -1,0 +1,108 @@
+-- `inverse::add_row` meets its contract: the words passed are written, and the rest is as it was.
+-- Assumes nothing.
+use Prim.Native.Nat.{_-_, _≤_}
+use mathlib.Core.Path.{sym, ap, ap₂, _∙_}
+use native.Mathlib.Omega.{arith}
+use Rattle.field.specs.Field.{add, mul}
+use Rattle.inverse.specs.Elimination.{RowSet, addedRow}
+use Rattle.inverse.proofs.Rows.{row-none, row-more, row-end, row-next, row-other, next-canonical, other-canonical}
+use borrow.Author.Needs.{needs}
+use Rattle.inverse.proofs.add_row.Statement.{statement}
+use Rattle.inverse.proofs.add_row.Tie as tie
+
+abbrev Inv-loop : tie.InvT-loop
+Inv-loop w₀ r j c l₀ w l =
+    (l ≤ 24) × RowSet w₀ w r l (addedRow w₀ r j c)
+
+abbrev μ-loop : tie.MeasureT-loop
+μ-loop w₀ r j c l₀ w l =
+    24 - l
+
+loop-holds : tie.Need-loop-holds Inv-loop μ-loop
+loop-holds c =
+    (omega arith, row-none _ _ _)
+
+mul-t : tie.Need-mul-t Inv-loop μ-loop
+mul-t c = search needs
+
+add-t : tie.Need-add-t Inv-loop μ-loop
+add-t c = search needs
+
+mul-t9 : tie.Need-mul-t9 Inv-loop μ-loop
+mul-t9 c = search needs
+
+add-t11 : tie.Need-add-t11 Inv-loop μ-loop
+add-t11 c = search needs
+
+mul-t12 : tie.Need-mul-t12 Inv-loop μ-loop
+mul-t12 c = search needs
+
+element-copy-out-t15 : tie.Need-element-copy-out-t15 Inv-loop μ-loop
+element-copy-out-t15 c = omega arith
+
+mul-requires : tie.Need-mul-requires Inv-loop μ-loop
+mul-requires c κs =
+    let s = c .before .before .before in
+    let v = c .before .before .loop in
+    (s .pre .3, other-canonical _ _ _ _ _ (s .pre .4) (v .inv .1) _ _ (s .pre .1) (c .before .loop-test .taken) (λ e. s .pre .2 (sym e)))
+
+mul-t9-2 : tie.Need-mul-t9-2 Inv-loop μ-loop
+mul-t9-2 c = search needs
+
+element-copy-out-t15-2 : tie.Need-element-copy-out-t15-2 Inv-loop μ-loop
+element-copy-out-t15-2 c = omega arith
+
+add-requires : tie.Need-add-requires Inv-loop μ-loop
+add-requires c κs =
+    let s = c .before .before .before .before .before in
+    let v = c .before .before .before .before .loop in
+    (next-canonical _ _ _ _ _ (s .pre .4) (s .pre .0) (c .before .before .before .loop-test .taken) (v .inv .1), c .before .mul .ensures .1)
+
+mul-w : tie.Need-mul-w Inv-loop μ-loop
+mul-w c = search needs
+
+element-write-w : tie.Need-element-write-w Inv-loop μ-loop
+element-write-w c = omega arith
+
+add-l : tie.Need-add-l Inv-loop μ-loop
+add-l c = search needs
+
+loop-less : tie.Need-loop-less Inv-loop μ-loop
+loop-less c = search needs
+
+loop-again : tie.Need-loop-again Inv-loop μ-loop
+loop-again c =
+    let s = c .before .before .before .before .before .before in
+    let v = c .before .before .before .before .before .loop in
+    let t = c .before .before .before .before .loop-test .taken in
+    let here = row-next _ _ _ _ _ (s .pre .0) t (v .inv .1) in
+    let there = row-other _ _ _ _ _ (v .inv .1) _ _ (s .pre .1) t (λ e. s .pre .2 (sym e)) in
+    (omega arith, row-more _ _ _ _ _ _ (s .pre .4 .size) (s .pre .0) t (v .inv .1) (c .add .ensures .0 ∙ ap₂ add here (c .before .before .mul .ensures .0 ∙ ap (mul (s .args .c)) there)))
+
+returns : tie.Need-returns Inv-loop μ-loop
+returns c =
+    row-end _ _ _ _ _ (omega arith) (c .before .loop .inv .1)
+
+pub add-row-spec : {M : Type 1} → statement M
+add-row-spec =
+    tie.close
+    (tie.spec
+    Inv-loop
+    μ-loop
+    loop-holds
+    mul-t
+    add-t
+    mul-t9
+    add-t11
+    mul-t12
+    element-copy-out-t15
+    mul-requires
+    mul-t9-2
+    element-copy-out-t15-2
+    add-requires
+    mul-w
+    element-write-w
+    add-l
+    loop-less
+    loop-again
+    returns)

@@ -1,0 +1,56 @@
+-- `inverse::clear` meets its contract: the rows passed have 0 in the column, but for row j.
+-- Assumes nothing.
+use Prim.Native.Nat.{_+_, _-_, _≤_}
+use mathlib.Core.Path.{sym, subst}
+use mathlib.Core.Logic.{⊎-elim}
+use native.Mathlib.Omega.{arith}
+use Rattle.inverse.proofs.Steps.{Cleared, cleared-none, cleared-same, cleared-more, cleared-all}
+use borrow.Author.Needs.{needs}
+use Rattle.inverse.proofs.clear.Statement.{statement}
+use Rattle.inverse.proofs.clear.Tie as tie
+
+abbrev Inv-loop : tie.InvT-loop
+Inv-loop w₀ j i₀ w i =
+    (i ≤ 12) × Cleared w₀ w j i
+
+abbrev μ-loop : tie.MeasureT-loop
+μ-loop w₀ j i₀ w i =
+    12 - i
+
+loop-holds : tie.Need-loop-holds Inv-loop μ-loop
+loop-holds c =
+    (omega arith, cleared-none _ _ (c .pre .1) (c .pre .2))
+
+clear-word-requires : tie.Need-clear-word-requires Inv-loop μ-loop
+clear-word-requires c κs =
+    let s = c .before .before .before .before in
+    (c .before .before .loop-test .taken, s .pre .0, c .before .if1 .taken, c .before .before .before .loop .inv .1 .reduces .reduced .working)
+
+add-i : tie.Need-add-i Inv-loop μ-loop
+add-i c = search needs
+
+loop-less : tie.Need-loop-less Inv-loop μ-loop
+loop-less c = search needs
+
+loop-again : tie.Need-loop-again Inv-loop μ-loop
+loop-again c =
+    let s = c .before .before .before in
+    let v = c .before .before .loop in
+    let t = c .before .loop-test .taken in (
+      omega arith,
+      ⊎-elim
+          (λ a. subst (λ y. Cleared (s .args .w .now) y (s .args .j) (v .i + 1)) (sym (a .3)) (cleared-more _ _ _ _ _ (s .pre .0) t (v .inv .1) (a .0 .taken) (a .2 .ensures)))
+          (λ a. subst (λ y. Cleared (s .args .w .now) y (s .args .j) (v .i + 1)) (sym (a .1)) (cleared-same _ _ _ _ (v .inv .1) (a .0 .left)))
+          (c .if1 .came),
+    )
+
+returns : tie.Need-returns Inv-loop μ-loop
+returns c =
+    let s = c .before .before in
+    let v = c .before .loop in
+    cleared-all _ _ _ (s .pre .0) (subst (λ y. Cleared (s .args .w .now) (v .w) (s .args .j) y) (omega arith) (v .inv .1))
+
+pub clear-spec : {M : Type 1} → statement M
+clear-spec =
+    tie.close
+    (tie.spec Inv-loop μ-loop loop-holds clear-word-requires add-i loop-less loop-again returns)
