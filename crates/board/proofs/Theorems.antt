@@ -45,12 +45,12 @@ module _ (taps claim : List ℕ) (k : ℕ) (permitted : IsPermitted k) (t : leng
   count = length-append claim taps ∙ omega arith
 
   pub packed-board : IsBoard (fileOf taps claim k) k
-  packed-board = record
-    { permitted = permitted
-    ; word = files.file-first taps claim k (permitted .high) all
-    ; size = files.file-length taps claim k c t
-    ; elements = λ i h. read-accepted (fileOf taps claim k) 1 (claim ++ taps) all (files.file-word taps claim k (permitted .high) all) i (omega (arith, count))
-    }
+  packed-board = record {
+    permitted = permitted;
+    word = files.file-first taps claim k (permitted .high) all;
+    size = files.file-length taps claim k c t;
+    elements = λ i h. read-accepted (fileOf taps claim k) 1 (claim ++ taps) all (files.file-word taps claim k (permitted .high) all) i (omega (arith, count));
+  }
 
   -- the claim, then the taps, are what is read
   parts : claimIn (fileOf taps claim k) ++ tapsIn (fileOf taps claim k) ≡ claim ++ taps
@@ -112,10 +112,10 @@ module _ (file : List ℕ) (bytes : AllBytes file) (h : IsBoard file (batchesIn 
 
   board-canonical : AllCanonical (claimIn file) × AllCanonical (tapsIn file)
   unfolding claimIn tapsIn
-  board-canonical =
-    ( elements-canonical file 1 4 (λ i l. h .elements i (omega arith))
-    , elements-canonical file 13 (12 * batchesIn file + 4) (λ i l. rw (after-claim i) at (h .elements (4 + i) (omega arith)))
-    )
+  board-canonical = (
+    elements-canonical file 1 4 (λ i l. h .elements i (omega arith)),
+    elements-canonical file 13 (12 * batchesIn file + 4) (λ i l. rw (after-claim i) at (h .elements (4 + i) (omega arith))),
+  )
     where
       after-claim : (i : ℕ) → 1 + 3 * (4 + i) ≡ 13 + 3 * i
       after-claim i = omega arith
@@ -137,15 +137,15 @@ pack-unpack file size d bytes e =
     let h = unpack-accepted file size (r .0) .0 in
     let c = claim-is file d (r .1) in
     let canonical = board-canonical file bytes h in
-    let k-is : length (tapsIn file) / 12 ≡ batchesIn file = omega (arith, taps-length file) in
-    ( pack-complete (tapsIn file) (claimOf d) (length file) (batchesIn file) (record
-      { permitted = h .permitted
-      ; taps-size = taps-length file
-      ; size-is = h .size
-      ; claim-canonical = rw c at (canonical .0)
-      ; taps-canonical = canonical .1
-      })
-    , rw (sym c, k-is) (board-packs file bytes h)
+    let k-is : length (tapsIn file) / 12 ≡ batchesIn file = omega (arith, taps-length file) in (
+      pack-complete (tapsIn file) (claimOf d) (length file) (batchesIn file) (record {
+        permitted = h .permitted;
+        taps-size = taps-length file;
+        size-is = h .size;
+        claim-canonical = rw c at (canonical .0);
+        taps-canonical = canonical .1;
+      }),
+      rw (sym c, k-is) (board-packs file bytes h),
     )
 
 -- so two accepted files that hold the same claim and taps are equal

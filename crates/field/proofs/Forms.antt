@@ -7,7 +7,7 @@ use native.Mathlib.Omega.{arith}
 use lib.Dec.{lit<, lit≤}
 use lib.Pow.{shr-lt}
 use Rattle.field.specs.Field.{P, mul}
-use Rattle.field.specs.Montgomery.{Short, element}
+use Rattle.field.specs.Montgomery.{Short, element, timesWord, enterWord}
 use Rattle.field.proofs.Modular.{mul-mod-l, mul-mod-r}
 
 -- numbers that differ by multiples of m
@@ -106,3 +106,32 @@ leave-law v x e =
 
 pub element-lt : (v : ℕ) → element v < P
 element-lt v = mod-lt (v * 288230397626548624) (omega arith)
+
+-- ---- the laws of `timesWord`
+module _ (a b : ℕ) (ha : Short a) (hb : Short b) where
+  factor : ℕ
+  factor = a * b % 2 ^ 64 * 16140900978596511745 % 2 ^ 64
+
+  off-small : factor * P / 2 ^ 64 < P
+  unfolding factor
+  off-small = factor-small factor (mod-lt (a * b % 2 ^ 64 * 16140900978596511745) (lit< tt))
+
+  pub times-element : element (timesWord a b) ≡ mul (element a) (element b)
+  unfolding factor timesWord
+  times-element = times-law a b (a * b % 2 ^ 64) factor (factor * P / 2 ^ 64) (timesWord a b) refl refl refl (restored (a * b / 2 ^ 64) (factor * P / 2 ^ 64) off-small)
+    where
+      restored : (h u : ℕ) → u < P → ((h + P) - u) + u ≡ h + P
+      restored h u l = omega arith
+
+  pub times-short : Short (timesWord a b)
+  unfolding factor timesWord
+  times-short = low (a * b / 2 ^ 64) (factor * P / 2 ^ 64) (upper-small a b ha hb)
+    where
+      low : (h u : ℕ) → h < P → (h + P) - u < 2 * P
+      low h u l = omega arith
+
+pub enter-element : (x : ℕ) → x < P → element (enterWord x) ≡ x
+enter-element x h = enter-law x (enterWord x) h (times-element x 2288261904184696897 (omega arith) (omega arith))
+
+pub enter-short : (x : ℕ) → x < P → Short (enterWord x)
+enter-short x h = times-short x 2288261904184696897 (omega arith) (omega arith)

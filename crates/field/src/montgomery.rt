@@ -2,7 +2,7 @@
 // Words of the form are short: below 2p, which saves the last subtraction.
 ghost use mathlib.Core.Path.{_≡_};
 ghost use Rattle.field.specs.Field.{P, Canonical, mul};
-ghost use Rattle.field.specs.Montgomery.{Short, element};
+ghost use Rattle.field.specs.Montgomery.{Short, element, timesWord, enterWord};
 use super::Fp;
 
 // 2^64 mod p, which stands for 1
@@ -17,7 +17,7 @@ const INVERSE: u64 = 16140900978596511745;
 // The product of the elements that a and b stand for. The lower words of a * b and of factor * p are equal.
 pub fn times(a: u64, b: u64) -> u64
     requires { ⌜ Short a × Short b ⌝ }
-    ensures { λ r. ⌜ (element r ≡ mul (element a) (element b)) × Short r ⌝ }
+    ensures { λ r. ⌜ (r ≡ timesWord a b) × (element r ≡ mul (element a) (element b)) × Short r ⌝ }
 {
     let factor = wide::low(wide::low(a, b), INVERSE);
     wide::high(a, b) + Fp::P - wide::high(factor, Fp::P)
@@ -26,7 +26,7 @@ pub fn times(a: u64, b: u64) -> u64
 // The word that stands for the element x.
 pub fn enter(x: u64) -> u64
     requires { ⌜ Canonical x ⌝ }
-    ensures { λ r. ⌜ (element r ≡ x) × Short r ⌝ }
+    ensures { λ r. ⌜ (r ≡ enterWord x) × (element r ≡ x) × Short r ⌝ }
 {
     times(x, SQUARE)
 }

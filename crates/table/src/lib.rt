@@ -45,9 +45,11 @@ fn is_unlike(table: &[u64], c: usize) -> bool
     requires { ⌜ (length (now table) ≡ 540) × AllCanonical (now table) × (c < 144) ⌝ }
     ensures { λ r. ⌜ r ≡ unlike (now (table .entry)) c ⌝ }
 {
+    let m = &table[0..144];
+    let n = &table[144..288];
     let row = c / 12;
     let k = c % 12;
-    let value = dot(&table[..144], row, column(&table[144..288], k));
+    let value = dot(m, row, column(n, k));
     if row == k { value != 1 } else { value != 0 }
 }
 

@@ -52,7 +52,7 @@ power-times-power-times-requires : (t : ℕ) → power-times-lts.Need-power-time
   power-times-below t,
   power-times.Post,
 ) (power-times-at t) power-times.Post
-power-times-power-times-requires t c κs = (omega arith, (c .before .before .before .pre .1 .0, c .before .times .ensures .1))
+power-times-power-times-requires t c κs = (omega arith, (c .before .before .before .pre .1 .0, c .before .times .ensures .2))
 
 power-times-returns-2 : (t : ℕ) → power-times-lts.Need-returns-2 (
   times-reads.Asked,
@@ -62,7 +62,7 @@ power-times-returns-2 : (t : ℕ) → power-times-lts.Need-returns-2 (
 ) (power-times-at t) power-times.Post
 power-times-returns-2 t c =
     let a = c .before .before .before .before .args in
-    (times-even (element (a .acc)) (element (a .x)) (a .e) _ _ (omega arith) (omega arith) (c .before .before .times .ensures .0) (c .power-times .ensures .0), c .power-times .ensures .1)
+    (times-even (element (a .acc)) (element (a .x)) (a .e) _ _ (omega arith) (omega arith) (c .before .before .times .ensures .1) (c .power-times .ensures .0), c .power-times .ensures .1)
 
 power-times-times-requires-2 : (t : ℕ) → power-times-lts.Need-times-requires-2 (
   times-reads.Asked,
@@ -78,7 +78,7 @@ power-times-power-times-requires-2 : (t : ℕ) → power-times-lts.Need-power-ti
   power-times-below t,
   power-times.Post,
 ) (power-times-at t) power-times.Post
-power-times-power-times-requires-2 t c κs = (omega arith, (c .times2 .ensures .1, c .before .before .times .ensures .1))
+power-times-power-times-requires-2 t c κs = (omega arith, (c .times2 .ensures .2, c .before .before .times .ensures .2))
 
 power-times-returns-3 : (t : ℕ) → power-times-lts.Need-returns-3 (
   times-reads.Asked,
@@ -88,7 +88,7 @@ power-times-returns-3 : (t : ℕ) → power-times-lts.Need-returns-3 (
 ) (power-times-at t) power-times.Post
 power-times-returns-3 t c =
     let a = c .before .before .before .before .before .args in
-    (times-odd (element (a .acc)) (element (a .x)) (a .e) _ _ _ (omega arith) (omega arith) (c .before .times2 .ensures .0) (c .before .before .before .times .ensures .0) (c .power-times2 .ensures .0), c .power-times2 .ensures .1)
+    (times-odd (element (a .acc)) (element (a .x)) (a .e) _ _ _ (omega arith) (omega arith) (c .before .times2 .ensures .1) (c .before .before .before .times .ensures .1) (c .power-times2 .ensures .0), c .power-times2 .ensures .1)
 
 pub +power-times-spec : {M : Type 1} → statement M
 +power-times-spec = close μ-power-times λ t. power-times-lts.spec (

@@ -1,6 +1,6 @@
 -- `table::is_unlike` meets its contract: the row of M times the column of the stored inverse is the cell of the product.
 -- Assumes nothing.
-use mathlib.Core.Path.{_≡_, sym}
+use mathlib.Core.Path.{_≡_}
 use native.Mathlib.Omega.{arith}
 use Rattle.table.specs.Table.{matrixOf, inverseOf}
 use Rattle.table.proofs.Parts.{length-matrix, matrix-canonical, inverse-canonical, length-inverse}
@@ -9,20 +9,23 @@ use borrow.Author.Needs.{needs}
 use Rattle.table.proofs.is_unlike.Statement.{statement}
 use Rattle.table.proofs.is_unlike.Tie as tie
 
-slice-aggregate-dot : tie.Need-slice-aggregate-dot
-unfolding matrixOf
-slice-aggregate-dot c =
-    let t = c .before .before .args .table .now in
-    sym (length-matrix t (c .before .before .pre .0))
+sub-m : tie.Need-sub-m
+sub-m c = search needs
 
-sub-column : tie.Need-sub-column
-sub-column c = search needs
+part-m-start : tie.Need-part-m-start
+part-m-start c = search needs
 
-part-column-start : tie.Need-part-column-start
-part-column-start c = search needs
+part-m-end : tie.Need-part-m-end
+part-m-end c = search needs
 
-part-column-end : tie.Need-part-column-end
-part-column-end c = search needs
+sub-n : tie.Need-sub-n
+sub-n c = search needs
+
+part-n-start : tie.Need-part-n-start
+part-n-start c = search needs
+
+part-n-end : tie.Need-part-n-end
+part-n-end c = search needs
 
 column-requires : tie.Need-column-requires
 column-requires c κs = search needs
@@ -54,10 +57,12 @@ pub is-unlike-spec : {M : Type 1} → statement M
 is-unlike-spec =
     tie.close
     (tie.spec
-    slice-aggregate-dot
-    sub-column
-    part-column-start
-    part-column-end
+    sub-m
+    part-m-start
+    part-m-end
+    sub-n
+    part-n-start
+    part-n-end
     column-requires
     dot-requires
     returns

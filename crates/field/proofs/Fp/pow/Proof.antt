@@ -20,7 +20,7 @@ leave-requires c κs = search needs
 returns : tie.Need-returns
 returns c =
     let a = c .before .before .before .args in
-    (c .leave .ensures .0 ∙ c .before .power-times .ensures .0 ∙ ap (λ x. mul 1 (power x (a .exponent))) (c .before .before .enter .ensures .0) ∙ one-times (a .self .0) (a .exponent) (omega arith), c .leave .ensures .1)
+    (c .leave .ensures .0 ∙ c .before .power-times .ensures .0 ∙ ap (λ x. mul 1 (power x (a .exponent))) (c .before .before .enter .ensures .1) ∙ one-times (a .self .0) (a .exponent) (omega arith), c .leave .ensures .1)
 
 pub pow-spec : {M : Type 1} → statement M
 pow-spec = tie.close (tie.spec enter-requires power-times-requires leave-requires returns)

@@ -17,12 +17,12 @@ times-requires c κs = search needs
 returns : tie.Need-returns
 returns c =
     let t = c .before .times in
-    (sym (mod-eq-of-lt (c .if1 .taken)) ∙ leave-law (c .before .before .args .v) (t .result) (t .ensures .0), c .if1 .taken)
+    (sym (mod-eq-of-lt (c .if1 .taken)) ∙ leave-law (c .before .before .args .v) (t .result) (t .ensures .1), c .if1 .taken)
 
 returns-2 : tie.Need-returns-2
 returns-2 c =
     let t = c .before .times in
-    (sym (mod-unique P (t .result) (t .result - P) 1 (omega arith) (omega (arith, t .ensures .1))) ∙ leave-law (c .before .before .args .v) (t .result) (t .ensures .0), omega (arith, t .ensures .1))
+    (sym (mod-unique P (t .result) (t .result - P) 1 (omega arith) (omega (arith, t .ensures .2))) ∙ leave-law (c .before .before .args .v) (t .result) (t .ensures .1), omega (arith, t .ensures .2))
 
 pub leave-spec : {M : Type 1} → statement M
 leave-spec = tie.close (tie.spec times-requires returns returns-2)

@@ -1,0 +1,72 @@
+-- `roots::leave` meets its contract: the cells passed are filled.
+-- Assumes nothing.
+use mathlib.Core.Path.{_≡_, refl, _∙_}
+use Prim.Native.Nat.{ℕ, _-_, _≤_}
+use native.Mathlib.Omega.{arith}
+use borrow.Author.Needs.{needs}
+use lib.ListN.{length, length-set, replicate}
+use Rattle.lists.specs.Lists.{cell}
+use Rattle.lists.proofs.Tab.{filled, filled-none, filled-more, filled-all}
+use Rattle.field.specs.Montgomery.{element}
+use Rattle.roots.specs.Cells.{elements}
+use Rattle.roots.proofs.leave.Statement.{statement}
+use Rattle.roots.proofs.leave.Tie as tie
+
+abbrev Inv-loop : tie.InvT-loop
+Inv-loop v out₀ j₀ out j = (j ≤ 12) × (length out ≡ 12) × (out ≡ filled j (λ i. element (cell v i)) out₀)
+
+abbrev μ-loop : tie.MeasureT-loop
+μ-loop v out₀ j₀ out j = 12 - j
+
+loop-holds : tie.Need-loop-holds Inv-loop μ-loop
+loop-holds c = (omega arith, refl, filled-none _ _)
+
+mul-leave : tie.Need-mul-leave Inv-loop μ-loop
+mul-leave c = search needs
+
+array-read-leave : tie.Need-array-read-leave Inv-loop μ-loop
+array-read-leave c = search needs
+
+leave-requires : tie.Need-leave-requires Inv-loop μ-loop
+leave-requires c κs = c .before .before .pre (c .before .loop .j) (omega arith)
+
+mul-out : tie.Need-mul-out Inv-loop μ-loop
+mul-out c = search needs
+
+array-write-out : tie.Need-array-write-out Inv-loop μ-loop
+array-write-out c = search needs
+
+add-j : tie.Need-add-j Inv-loop μ-loop
+add-j c = search needs
+
+loop-less : tie.Need-loop-less Inv-loop μ-loop
+loop-less c = search needs
+
+loop-again : tie.Need-loop-again Inv-loop μ-loop
+loop-again c =
+    let l = c .before .before .loop in
+    (omega arith, simp length-set (l .inv .1), filled-more _ (l .j) _ _ (l .out) (omega arith) (c .leave .ensures .0) (l .inv .2))
+
+returns : tie.Need-returns Inv-loop μ-loop
+unfolding elements
+returns c =
+    let l = c .before .loop in
+    let e : l .j ≡ 12 = omega arith in
+    l .inv .2 ∙ rw e (filled-all 12 _ (replicate 12 0) refl)
+
+pub leave-spec : {M : Type 1} → statement M
+leave-spec =
+    tie.close
+    (tie.spec
+    Inv-loop
+    μ-loop
+    loop-holds
+    mul-leave
+    array-read-leave
+    leave-requires
+    mul-out
+    array-write-out
+    add-j
+    loop-less
+    loop-again
+    returns)
