@@ -1,11 +1,11 @@
 -- What Pack and Unpack answer, case by case in the order of their tests, and what acceptance says.
 -- Assumes nothing.
-use mathlib.Core.Path.{_≡_, refl, sym, ap, _∙_}
-use mathlib.Core.Bool.{Bool, true, false}
+use mathlib.Core.Path.{_≡_, refl, ap, _∙_}
+use mathlib.Core.Bool.{true, false}
 use mathlib.Core.List.{List}
 use Prim.Native.Nat.{ℕ, _+_, _*_, _/_, _<_, _≤_}
 use native.Mathlib.Omega.{arith}
-use borrow.Author.Tests.{eq-eqb, ne-eqb, eqb-true, le-leb, lt-leb, leb-true}
+use borrow.Author.Tests.{eq-eqb, ne-eqb, eqb-true, le-leb, lt-leb}
 use lib.Dec.{eqb, leb}
 use lib.ListN.{length}
 use Rattle.words.specs.Words.{AllCanonical, firstBad}
@@ -16,16 +16,15 @@ use Rattle.counts.specs.declared.BatchCount.the-variants as count
 use Rattle.counts.proofs.Laws.{permitted-sound, permitted-complete, tap-sound, tap-complete}
 use Rattle.fileword.specs.Words.{kindOf, wordAt}
 use Rattle.elements.specs.Elements.{unless, elementsTest}
-use Rattle.elements.proofs.Tests.{IsElement, passed, after, each-accepted, all-accepted}
-use Rattle.refusals.specs.Refusals.{answerAfter, digestedAfter, digest}
+use Rattle.elements.proofs.Tests.{passed, after, each-accepted, all-accepted}
+use Rattle.refusals.specs.Refusals.{digestedAfter, digest}
 use Rattle.refusals.specs.declared.Refusal.{Refusal}
 use Rattle.refusals.specs.declared.Refusal.the-variants.{TapLength, TapWord, DestinationLength, ClaimWord, FileLength, WrongKind, WrongValue}
 use Rattle.refusals.specs.declared.Answer.{Answer}
 use Rattle.refusals.specs.declared.Answer.the-variants.{Accepted, Refused}
 use Rattle.refusals.specs.declared.Digest.{Digest}
-use Rattle.refusals.specs.declared.Digested.{Digested}
 use Rattle.refusals.specs.declared.Digested.the-variants as digested
-use Rattle.board.specs.Board.{countWord, fileSize, counted, packAnswer, countIn, spareIn, batchesIn, claimIn, countTest, unpackTest, unpackAnswer}
+use Rattle.board.specs.Board.{countWord, fileSize, counted, packAnswer, countIn, spareIn, batchesIn, claimIn, countTest, unpackTest, unpackAnswer, IsBoard}
 
 -- ---- Pack
 pub pack-length : (taps claim : List ℕ) (size : ℕ) → tapBatches (length taps) ≡ count.Refused → packAnswer taps claim size ≡ Refused TapLength
@@ -143,13 +142,6 @@ module _ (file : List ℕ) (size : ℕ) where
         pub unpack-elements : size ≡ 12 * batchesIn file + 4 → unpackTest file size ≡ elementsTest file 1 (12 * batchesIn file + 8)
         unfolding unpackTest
         unpack-elements s = rw (le-leb _ _ h, e, eq-eqb _ _ l, eq-eqb _ _ s)
-
--- the bytes are a board file of k batches
-pub record IsBoard (file : List ℕ) (k : ℕ) : Type 0 where
-  pub permitted : IsPermitted k
-  pub word : wordAt file 0 ≡ countWord k
-  pub size : length file ≡ fileSize k
-  pub elements : (i : ℕ) → i < 12 * k + 8 → IsElement file (1 + 3 * i)
 
 pub unpack-accepted : (file : List ℕ) (size : ℕ) → unpackTest file size ≡ Accepted → IsBoard file (batchesIn file) × (size ≡ 12 * batchesIn file + 4)
 unfolding unpackTest batchesIn

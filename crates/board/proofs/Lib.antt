@@ -1,3 +1,4 @@
 pub mod Cases
 pub mod Files
+pub mod Round
 pub mod Theorems

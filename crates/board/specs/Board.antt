@@ -1,20 +1,22 @@
 -- The board file: what Pack writes, and what Unpack finds (document 01, "The board file", "What is turned back").
 -- Assumes nothing.
-use mathlib.Core.List.{List, _∷_, _++_}
-use Prim.Native.Nat.{ℕ, _+_, _*_, _/_, _%_, _^_}
+use mathlib.Core.Path.{_≡_}
+use mathlib.Core.List.{List, [], _∷_, _++_}
+use Prim.Native.Nat.{ℕ, _+_, _*_, _/_, _%_, _^_, _≤_, _<_}
 use lib.Dec.{eqb, leb}
 use lib.ListN.{length}
 use Rattle.words.specs.Words.{firstBad}
-use Rattle.counts.specs.Counts.{permitted, tapBatches}
+use Rattle.counts.specs.Counts.{IsPermitted, permitted, tapBatches}
 use Rattle.counts.specs.declared.BatchCount.{BatchCount}
 use Rattle.counts.specs.declared.BatchCount.the-variants as count
 use Rattle.fileword.specs.Words.{joined, kindOf, payloadOf, wordAt, bytesOf}
-use Rattle.elements.specs.Elements.{wordsOf, elementsAt, unless, elementsTest}
+use Rattle.elements.specs.Elements.{wordsOf, elementsAt, unless, elementsTest, IsElement}
 use Rattle.refusals.specs.Refusals.{answerAfter, digestedAfter, digest}
 use Rattle.refusals.specs.declared.Refusal.{Refusal}
 use Rattle.refusals.specs.declared.Refusal.the-variants.{TapLength, TapWord, DestinationLength, ClaimWord, FileLength, WrongKind, WrongValue}
 use Rattle.refusals.specs.declared.Answer.{Answer}
 use Rattle.refusals.specs.declared.Answer.the-variants.{Accepted, Refused}
+use Rattle.refusals.specs.declared.Digest.{Digest}
 use Rattle.refusals.specs.declared.Digested.{Digested}
 use Rattle.refusals.specs.declared.Digested.the-variants as digested
 
@@ -90,3 +92,26 @@ unpackTest file size =
 -- the claim is returned
 unfoldable pub unpackAnswer : List ℕ → ℕ → Digested
 unpackAnswer file size = digestedAfter (unpackTest file size) (digested.Accepted (digest (claimIn file)))
+
+-- the four words of a claim that is returned
+abbrev pub claimOf : Digest → List ℕ
+claimOf d = d .0 ∷ d .1 ∷ d .2 ∷ d .3 ∷ []
+
+-- ---- what acceptance says: the bytes are a board file of k batches
+pub record IsBoard (file : List ℕ) (k : ℕ) : Type 0 where
+  pub permitted : IsPermitted k
+  pub word : wordAt file 0 ≡ countWord k
+  pub size : length file ≡ fileSize k
+  pub elements : (i : ℕ) → i < 12 * k + 8 → IsElement file (1 + 3 * i)
+
+-- what Unpack has found when it comes to the value of element i, counted from the claim's first
+pub record ReadTo (file : List ℕ) (size i : ℕ) : Type 0 where
+  pub four : 4 ≤ length file
+  pub count : countTest (wordAt file 0) ≡ Accepted
+  pub bytes : length file ≡ fileSize (batchesIn file)
+  pub room : size ≡ 12 * batchesIn file + 4
+  pub within : i < 12 * batchesIn file + 8
+  pub before : (n : ℕ) → n < i → IsElement file (1 + 3 * n)
+  pub high : kindOf (wordAt file (1 + 3 * i)) ≡ 1
+  pub middle : kindOf (wordAt file (1 + 3 * i + 1)) ≡ 2
+  pub low : kindOf (wordAt file (1 + 3 * i + 2)) ≡ 3

@@ -1,4 +1,5 @@
 // Pack and Unpack (document 01, "The board file"). Neither hashes.
+// The claim's four elements begin at words 1, 4, 7 and 10, the taps' at word 13.
 ghost use mathlib.Core.Path.{_≡_};
 ghost use Prim.Native.Nat.{_+_, _*_, _≤_};
 ghost use lib.ListN.{length};

@@ -2,7 +2,7 @@
 -- Assumes nothing.
 use mathlib.Core.Path.{_≡_, refl, sym, ap, ap₂, _∙_}
 use mathlib.Core.List.{List, [], _∷_, _++_}
-use Prim.Native.Nat.{ℕ, zero, suc, _+_, _*_, _/_, _%_, _^_, _<_, _≤_}
+use Prim.Native.Nat.{ℕ, suc, _+_, _*_, _/_, _%_, _^_, _<_, _≤_}
 use native.Mathlib.Nat.{mod-eq-of-lt}
 use native.Mathlib.Numerals.{add-one}
 use native.Mathlib.Omega.{arith}
@@ -11,7 +11,6 @@ use lib.ListN.{length, take}
 use lib.Pow.{shr-shr}
 use lib.Seq.{sets, take-suc, length-take-le}
 use Rattle.lists.specs.Lists.{cell}
-use Rattle.field.specs.Field.{P}
 use Rattle.fileword.specs.Words.{joined, kindOf, payloadOf, wordBytes, wordAt, each, bytesOf}
 use Rattle.fileword.proofs.Shifts.{above}
 use Rattle.fileword.proofs.Each.{each-append, length-each, cell-each}
@@ -36,7 +35,12 @@ pub spell-words : (a b c : ℕ) → kindOf a ≡ 1 → kindOf b ≡ 2 → kindOf
 spell-words a b c ha hb hc =
     ap₂ _∷_ (omega arith) (ap₂ _∷_ (omega arith) (ap (λ w. w ∷ []) (omega arith)))
 
--- an element of 2^64 or more has a first payload above 15
+-- three words of a file spell the element there
+pub read-three : (file : List ℕ) (j a b c x : ℕ) → a ≡ wordAt file j → b ≡ wordAt file (j + 1) → c ≡ wordAt file (j + 2) → x ≡ elementOf a b c → x ≡ elementAt file j
+unfolding elementAt
+read-three file j a b c x p q r e = e ∙ rw (p, q, r)
+
+-- a first payload above 15 makes an element of 2^64 or more
 pub no-word : (file : List ℕ) (j : ℕ) → 16 ≤ payloadOf (wordAt file j) → 2 ^ 64 ≤ elementAt file j
 unfolding elementAt
 no-word file j h = omega arith

@@ -2,18 +2,17 @@
 -- Assumes nothing.
 use mathlib.Core.Path.{_≡_, refl, sym, ap, _∙_}
 use mathlib.Core.List.{List, [], _∷_, _++_}
-use Prim.Native.Nat.{ℕ, zero, suc, _+_, _*_, _/_, _%_, _^_, _<_, _≤_}
+use Prim.Native.Nat.{ℕ, zero, suc, _+_, _*_, _/_, _%_, _^_, _<_}
 use native.Mathlib.Nat.{mod-lt}
 use native.Mathlib.Omega.{arith}
 use lib.ListN.{length}
-use Rattle.lists.specs.Lists.{cell, tab}
+use Rattle.lists.specs.Lists.{cell}
 use Rattle.lists.proofs.Tab.{length-tab, cell-tab, tab-ext, tab-unique, tab-add}
 use Rattle.field.specs.Field.{P}
 use Rattle.words.specs.Words.{AllCanonical}
-use Rattle.fileword.specs.Words.{joined, kindOf, wordAt}
-use Rattle.elements.specs.Elements.{elementWords, wordsOf, elementAt, elementsAt}
-use Rattle.elements.proofs.Laws.{words-spell, spell-words, length-words, cell-words}
-use Rattle.elements.proofs.Tests.{IsElement}
+use Rattle.fileword.specs.Words.{joined, wordAt}
+use Rattle.elements.specs.Elements.{elementWords, wordsOf, elementAt, elementsAt, IsElement}
+use Rattle.elements.proofs.Laws.{words-spell, spell-words, cell-words}
 
 -- ---- one element
 

@@ -6,8 +6,6 @@ use mathlib.Core.List.{List}
 use Prim.Native.Nat.{ℕ, zero, suc, _+_, _*_, _-_, _<_, _≤_}
 use native.Mathlib.Omega.{arith}
 use borrow.Author.Tests.{eq-eqb, ne-eqb, eqb-true, lt-ltb, le-ltb, ltb-true}
-use lib.Dec.{eqb, ltb}
-use Rattle.lists.specs.Lists.{choose}
 use Rattle.field.specs.Field.{P}
 use Rattle.fileword.specs.Words.{kindOf, wordAt}
 use Rattle.refusals.specs.Refusals.{answerAfter}
@@ -15,14 +13,7 @@ use Rattle.refusals.specs.declared.Refusal.{Refusal}
 use Rattle.refusals.specs.declared.Refusal.the-variants.{WrongKind, WrongValue}
 use Rattle.refusals.specs.declared.Answer.{Answer}
 use Rattle.refusals.specs.declared.Answer.the-variants.{Accepted, Refused}
-use Rattle.elements.specs.Elements.{elementAt, unless, elementTest, elementsTest}
-
--- the words from j on are those of a canonical element
-pub record IsElement (file : List ℕ) (j : ℕ) : Type 0 where
-  pub high : kindOf (wordAt file j) ≡ 1
-  pub middle : kindOf (wordAt file (j + 1)) ≡ 2
-  pub low : kindOf (wordAt file (j + 2)) ≡ 3
-  pub value : elementAt file j < P
+use Rattle.elements.specs.Elements.{elementAt, unless, elementTest, elementsTest, IsElement}
 
 -- a test that was passed, and what follows it
 pub passed : (b : Bool) (r : Refusal) (rest : Answer) → unless b r rest ≡ Accepted → (b ≡ true) × (rest ≡ Accepted)

@@ -1,11 +1,12 @@
 -- An element of the board file, and what reading one finds (document 01, "The board file", "What is turned back").
 -- Assumes nothing.
+use mathlib.Core.Path.{_≡_}
 use mathlib.Core.Bool.{Bool}
 use mathlib.Core.List.{List, [], _∷_}
 use Prim.Native.Nat.{ℕ, zero, suc, _+_, _*_, _/_, _%_, _^_}
 use lib.Dec.{eqb, ltb}
 use Rattle.lists.specs.Lists.{choose, tab}
-use Rattle.field.specs.Field.{P}
+use Rattle.field.specs.Field.{P, Canonical}
 use Rattle.fileword.specs.Words.{joined, kindOf, payloadOf, wordAt, each}
 use Rattle.refusals.specs.Refusals.{answerAfter}
 use Rattle.refusals.specs.declared.Refusal.{Refusal}
@@ -54,3 +55,10 @@ elementTest file j =
 unfoldable pub elementsTest : List ℕ → ℕ → ℕ → Answer
 elementsTest file j zero = Accepted
 elementsTest file j (suc n) = answerAfter (elementTest file j) (elementsTest file (j + 3) n)
+
+-- what acceptance says: the words from j on are those of a canonical element
+pub record IsElement (file : List ℕ) (j : ℕ) : Type 0 where
+  pub high : kindOf (wordAt file j) ≡ 1
+  pub middle : kindOf (wordAt file (j + 1)) ≡ 2
+  pub low : kindOf (wordAt file (j + 2)) ≡ 3
+  pub value : Canonical (elementAt file j)

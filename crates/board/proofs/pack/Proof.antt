@@ -9,7 +9,7 @@ use Rattle.counts.specs.declared.BatchCount.the-variants.{Permitted}
 use Rattle.counts.proofs.Laws.{tap-sound}
 use Rattle.refusals.specs.declared.Refusal.the-variants.{ClaimWord, TapWord}
 use Rattle.refusals.specs.declared.Answer.the-variants.{Refused}
-use Rattle.board.specs.Board.{fileOf, packed}
+use Rattle.board.specs.Board.{packed}
 use Rattle.board.proofs.Cases.{pack-length, pack-destination, pack-claim, pack-tap, pack-accepts}
 use borrow.Author.Needs.{needs}
 use Rattle.board.proofs.pack.Statement.{statement}

@@ -1,6 +1,6 @@
 -- `board::test_count` meets its contract: the kind, the spare bits, then k.
 -- Assumes nothing.
-use mathlib.Core.Path.{_≡_, sym, ap, _∙_}
+use mathlib.Core.Path.{sym, ap, _∙_}
 use Prim.Native.Nat.{_/_, _^_}
 use Rattle.counts.specs.Counts.{permitted}
 use Rattle.board.proofs.Cases.{count-kind, count-spare, count-value, count-accepts}

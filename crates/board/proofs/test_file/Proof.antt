@@ -2,7 +2,6 @@
 -- Assumes nothing.
 use mathlib.Core.Path.{_≡_, sym, ap, _∙_}
 use Prim.Native.Nat.{_+_, _*_}
-use native.Mathlib.Omega.{arith}
 use Rattle.fileword.specs.Words.{wordAt}
 use Rattle.board.specs.Board.{countIn, batchesIn, countTest, fileSize}
 use Rattle.refusals.specs.declared.Answer.the-variants.{Accepted}

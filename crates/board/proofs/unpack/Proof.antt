@@ -1,6 +1,6 @@
 -- `board::unpack` meets its contract: nothing is written before the whole file is accepted.
 -- Assumes nothing.
-use mathlib.Core.Path.{_≡_, refl, sym, ap, _∙_}
+use mathlib.Core.Path.{_≡_, sym, _∙_}
 use Prim.Native.Nat.{ℕ, _+_, _*_, _≤_, _<_}
 use native.Mathlib.Omega.{arith}
 use lib.Dec.{lit<}
@@ -8,9 +8,9 @@ use lib.ListN.{length}
 use Rattle.lists.specs.Lists.{tab}
 use Rattle.field.specs.Field.{P}
 use Rattle.elements.specs.Elements.{elementAt, elementsAt}
-use Rattle.refusals.specs.declared.Digested.the-variants.{Accepted, Refused}
-use Rattle.board.specs.Board.{batchesIn, claimIn, tapsIn}
-use Rattle.board.proofs.Cases.{IsBoard, unpack-accepted, unpack-returns, unpack-refuses}
+use Rattle.refusals.specs.declared.Digested.the-variants.{Refused}
+use Rattle.board.specs.Board.{batchesIn, claimIn, tapsIn, IsBoard}
+use Rattle.board.proofs.Cases.{unpack-accepted, unpack-returns, unpack-refuses}
 use borrow.Author.Needs.{needs}
 use Rattle.board.proofs.unpack.Statement.{statement}
 use Rattle.board.proofs.unpack.Tie as tie

@@ -1,9 +1,9 @@
 -- `elements::read` meets its contract: an element below p has a first payload below 16.
 -- Assumes nothing.
-use mathlib.Core.Path.{_≡_, ap, _∙_}
 use native.Mathlib.Omega.{arith}
 use borrow.Author.Needs.{needs}
 use Rattle.elements.specs.Elements.{elementAt}
+use Rattle.elements.proofs.Laws.{read-three}
 use Rattle.elements.proofs.read.Statement.{statement}
 use Rattle.elements.proofs.read.Tie as tie
 
@@ -27,8 +27,10 @@ unfolding elementAt
 value-requires c κs = omega arith
 
 returns : tie.Need-returns
-unfolding elementAt
-returns c = cc
+returns c =
+    let third = c .before in
+    let second = third .before in
+    read-three _ _ _ _ _ _ (second .before .read .ensures) (second .read2 .ensures) (third .read3 .ensures) (c .value .ensures)
 
 pub read-spec : {M : Type 1} → statement M
 read-spec =

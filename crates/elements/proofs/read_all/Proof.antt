@@ -1,9 +1,8 @@
 -- `elements::read_all` meets its contract: the destination is filled from the front.
 -- Assumes nothing.
-use mathlib.Core.Path.{_≡_, refl, sym, ap, _∙_}
-use Prim.Native.Nat.{ℕ, _+_, _*_, _-_, _≤_}
+use mathlib.Core.Path.{_≡_, refl, _∙_}
+use Prim.Native.Nat.{_+_, _*_, _-_, _≤_}
 use native.Mathlib.Omega.{arith}
-use borrow.Author.Needs.{needs}
 use lib.ListN.{length, length-set}
 use Rattle.lists.proofs.Tab.{filled, filled-none, filled-more, filled-all}
 use Rattle.elements.specs.Elements.{elementAt, elementsAt}

@@ -2,13 +2,12 @@
 -- Assumes nothing.
 use mathlib.Core.Path.{_≡_, sym, ap, _∙_}
 use mathlib.Core.List.{List}
-use Prim.Native.Nat.{ℕ, _+_, _≤_}
+use Prim.Native.Nat.{ℕ, _+_}
 use native.Mathlib.Omega.{arith}
 use borrow.Author.Needs.{needs}
-use Rattle.field.specs.Field.{P}
 use Rattle.fileword.specs.Words.{kindOf, payloadOf, wordAt}
-use Rattle.elements.specs.Elements.{elementOf, elementAt}
-use Rattle.elements.proofs.Laws.{no-word}
+use Rattle.elements.specs.Elements.{elementAt}
+use Rattle.elements.proofs.Laws.{read-three, no-word}
 use Rattle.elements.proofs.Tests.{accepts, wrong-high, wrong-middle, wrong-low, too-large}
 use Rattle.elements.proofs.test.Statement.{statement}
 use Rattle.elements.proofs.test.Tie as tie
@@ -36,8 +35,11 @@ three-kinds c =
     (sym (first-kind (one .before)) ∙ one .if1 .left, sym (second-kind (two .before)) ∙ two .if2 .left, sym (third-kind (c .before)) ∙ c .if3 .left)
 
 value-is : (c : tie.After-value) → c .value .result ≡ elementAt (start (c .before .before .before) .args .file .now) (start (c .before .before .before) .args .index)
-unfolding elementAt
-value-is c = cc
+value-is c =
+    let three = c .before .before .before in
+    let two = three .before .before .before in
+    let one = two .before .before .before in
+    read-three _ _ _ _ _ _ (one .before .before .read .ensures) (two .before .before .read2 .ensures) (three .before .before .read3 .ensures) (c .value .ensures)
 
 read-requires : tie.Need-read-requires
 read-requires c κs = search needs

@@ -1,10 +1,9 @@
 -- `elements::test_all` meets its contract: what is left to test decides, and each element that is accepted leaves the rest.
 -- Assumes nothing.
-use mathlib.Core.Path.{_≡_, refl, sym, ap, _∙_}
-use Prim.Native.Nat.{ℕ, _+_, _*_, _-_, _≤_}
+use mathlib.Core.Path.{_≡_, sym, _∙_}
+use Prim.Native.Nat.{_+_, _*_, _-_, _≤_}
 use native.Mathlib.Omega.{arith}
 use borrow.Author.Needs.{needs}
-use Rattle.refusals.specs.Refusals.{answerAfter}
 use Rattle.elements.specs.Elements.{elementsTest}
 use Rattle.elements.proofs.Tests.{tests-none, tests-on, tests-stop}
 use Rattle.elements.proofs.test_all.Statement.{statement}
