@@ -57,7 +57,7 @@ fn roots(s: [u64; 12]) -> [u64; 12]
 }
 
 // Every cell cubed.
-fn cubes(s: [u64; 12]) -> [u64; 12]
+pub fn cubes(s: [u64; 12]) -> [u64; 12]
     requires { ⌜ CanonicalTo 12 s ⌝ }
     ensures { λ r. ⌜ r ≡ cubes s ⌝ }
 {

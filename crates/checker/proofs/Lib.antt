@@ -1,0 +1,5 @@
+pub mod Lines
+pub mod SpanLaws
+pub mod WalkSteps
+pub mod Holding
+pub mod AnswerLaws

@@ -1,0 +1,86 @@
+-- The cells of a row of a lent trace, and of its forward and back, as loops fill them in.
+-- Assumes nothing.
+use mathlib.Core.Path.{_≡_, refl, sym, ap, ap₂, _∙_, subst}
+use mathlib.Core.Bool.{true, false}
+use mathlib.Core.List.{List}
+use Prim.Native.Nat.{ℕ, _+_, _*_, _≤_, _<_}
+use native.Mathlib.Nat.{mod-lt}
+use native.Mathlib.Omega.{arith}
+use native.Mathlib.Decide.{decLt}
+use lib.ListN.{length, take, replicate, length-take, List·getD-eq-default}
+use lib.Seq.{getD-take}
+use Rattle.lists.specs.Lists.{cell, tab}
+use Rattle.lists.proofs.Tab.{filled, filled-all, filled-before, filled-after, length-filled, cell-tab, tab-ext, tab-unique}
+use Rattle.field.specs.Field.{P, Canonical, add, sub}
+use Rattle.words.specs.Words.{CanonicalTo}
+use Rattle.matrix.specs.Matrix.{times}
+use Rattle.table.specs.Table.{inverseOf, constant}
+use Rattle.table.proofs.Parts.{cell-constant}
+use Rattle.hash.specs.Hash.{plus, cubes, secondStep}
+use Rattle.hash.proofs.States.{state-cell, secondStep-state}
+use Rattle.constraints.specs.Constraints.{row, round, entering, forward, minus, backStep, back}
+use Rattle.constraints.proofs.RowCells.{cell-row, length-row}
+use Rattle.rows.specs.Lent.{HasRow}
+
+module _ (t : List ℕ) (i : ℕ) (h : HasRow t i) where
+  pub row-canonical : CanonicalTo 12 (row t i)
+  row-canonical j l = subst Canonical (sym (cell-row t i j l)) (h .canonical (12 * i + j) (omega (arith, h .inside)))
+
+  pub row-filled : (start : ℕ) → start ≡ 12 * i → (out : List ℕ) (m : ℕ) → m ≡ 12 → out ≡ filled m (λ n. cell t (start + n)) (replicate 12 0) → out ≡ row t i
+  row-filled start s out m q e =
+      e
+      ∙ ap (λ x. filled x (λ n. cell t (start + n)) (replicate 12 0)) q
+      ∙ filled-all 12 _ (replicate 12 0) refl
+      ∙ tab-ext 12 (λ n. cell t (start + n)) (λ n. cell t (12 * i + n)) (λ n l. ap (λ x. cell t (x + n)) s)
+      ∙ sym (tab-unique 12 (row t i) (λ n. cell t (12 * i + n)) (length-row t i (h .inside)) (λ n l. cell-row t i n l))
+
+-- a cell of minus, from the words
+pub minus-canonical : (s k : List ℕ) → CanonicalTo 12 (minus s k)
+unfolding minus
+minus-canonical s k j l = subst Canonical (sym (cell-tab 12 (λ n. sub (cell s n) (cell k n)) j l)) (mod-lt _ (omega arith))
+
+pub minus-filled : (T s : List ℕ) (n start : ℕ) → start ≡ 288 + 12 * n → (out : List ℕ) (m : ℕ) → m ≡ 12 → out ≡ filled m (λ j. sub (cell s j) (cell T (start + j))) (replicate 12 0) → out ≡ minus s (constant T n)
+unfolding minus
+minus-filled T s n start e out m q f =
+    f
+    ∙ ap (λ x. filled x (λ j. sub (cell s j) (cell T (start + j))) (replicate 12 0)) q
+    ∙ filled-all 12 _ (replicate 12 0) refl
+    ∙ tab-ext 12 (λ j. sub (cell s j) (cell T (start + j))) (λ j. sub (cell s j) (cell (constant T n) j)) (λ j l. ap (sub (cell s j)) (ap (λ x. cell T (x + j)) e ∙ sym (cell-constant T n j l)))
+
+-- K_0 added in columns 0 to 3 only: the others are as they were
+pub entering-filled : (T s : List ℕ) → length s ≡ 12 → CanonicalTo 12 s → (out : List ℕ) (m : ℕ) → m ≡ 4 → out ≡ filled m (λ j. add (cell s j) (cell T (288 + j))) s → out ≡ plus s (take 4 (constant T 0))
+unfolding plus
+entering-filled T s size low out m q f =
+    f
+    ∙ ap (λ x. filled x sum s) q
+    ∙ tab-unique 12 (filled 4 sum s) (λ j. add (cell s j) (cell (take 4 (constant T 0)) j)) (length-filled 4 sum s (omega arith) ∙ size) (λ j l. same j l (decLt j 4))
+  where
+    sum : ℕ → ℕ
+    sum j = add (cell s j) (cell T (288 + j))
+
+    same : (j : ℕ) → j < 12 → Dec (j < 4) → cell (filled 4 sum s) j ≡ add (cell s j) (cell (take 4 (constant T 0)) j)
+    same j l (yes h) =
+        filled-before 4 sum s j h ∙ ap (add (cell s j)) (sym (getD-take 4 (constant T 0) j 0 h ∙ cell-constant T 0 j l))
+    same j l (no h) =
+        let z : cell (take 4 (constant T 0)) j ≡ 0 = List·getD-eq-default (take 4 (constant T 0)) 0 {n = j} (omega (arith, length-take 4 (constant T 0))) in
+        filled-after 4 sum s j (omega arith) ∙ omega (arith, z, low j l)
+
+-- ---- forward and back from their parts
+module _ (T t : List ℕ) (i : ℕ) {r : ℕ} (q : r ≡ round i) {s : List ℕ} (at-row : s ≡ row t i) where
+  second-made : {n : List ℕ} → n ≡ secondStep T r s → n ≡ secondStep T (round i) (row t i)
+  second-made e = e ∙ ap₂ (secondStep T) q at-row
+
+  pub forward-plain : entering i ≡ false → {n : List ℕ} → n ≡ secondStep T r s → n ≡ forward T t i
+  unfolding forward
+  forward-plain b e = rw b (second-made e)
+
+  pub forward-entering : entering i ≡ true → {n : List ℕ} → n ≡ secondStep T r s → {out : List ℕ} → out ≡ plus n (take 4 (constant T 0)) → out ≡ forward T t i
+  unfolding forward
+  forward-entering b e f = rw b (f ∙ ap (λ x. plus x (take 4 (constant T 0))) (second-made e))
+
+  pub back-made : {l m out : List ℕ} → l ≡ minus s (constant T (2 * r + 1)) → m ≡ times (inverseOf T) l → out ≡ cubes m → out ≡ back T t i
+  unfolding back backStep
+  back-made e f g = g ∙ ap cubes (f ∙ ap (times (inverseOf T)) (e ∙ ap₂ (λ x n. minus x (constant T (2 * n + 1))) at-row q))
+
+pub second-canonical : (T : List ℕ) (r : ℕ) (s : List ℕ) {n : List ℕ} → n ≡ secondStep T r s → CanonicalTo 12 n
+second-canonical T r s e j l = subst (λ x. Canonical (cell x j)) (sym e) (state-cell (secondStep-state T r s) j)

@@ -1,0 +1,93 @@
+// Forward and back of a row of a lent trace (document 01, "The 52 constraints").
+ghost use mathlib.Core.Path.{_≡_};
+ghost use Prim.Native.Nat.{_<_, _≤_};
+ghost use Rattle.words.specs.Words.{CanonicalTo};
+ghost use Rattle.table.specs.Table.{IsTable, constant};
+ghost use Rattle.constraints.specs.Constraints.{row as cells-of, within, round, entering, forward, minus, back};
+ghost use Rattle.rows.specs.Lent.{HasRow};
+ghost use lib.ListN.{take};
+ghost use Rattle.hash.specs.Hash.{plus};
+use counts::RowNumber;
+use field::Fp;
+
+// The cells of the row.
+fn cells(trace: &[u64], row: RowNumber) -> [u64; 12]
+    requires { ⌜ HasRow (now trace) (row .0) ⌝ }
+    ensures { λ r. ⌜ (r ≡ cells-of (now (trace .entry)) (row .0)) × CanonicalTo 12 r ⌝ }
+{
+    let start = row.start();
+    let mut out = [0u64; 12];
+    let mut j: usize = 0;
+    while j < 12 {
+        out[j] = trace[start + j];
+        j += 1;
+    }
+    out
+}
+
+// The round whose middle state the row holds: rows 1 to 10, 11 to 20, 21 to 30 are rounds 0 to 9.
+fn round_of(row: RowNumber) -> usize
+    requires { ⌜ 1 ≤ within (row .0) ⌝ }
+    ensures { λ r. ⌜ (r ≡ round (row .0)) × (r < 10) ⌝ }
+{
+    (row.within() - 1) % 10
+}
+
+// The cells less K_n.
+pub fn less_constant(table: &[u64], n: usize, s: [u64; 12]) -> [u64; 12]
+    requires { ⌜ IsTable (now table) × (n < 21) × CanonicalTo 12 s ⌝ }
+    ensures { λ r. ⌜ (r ≡ minus s (constant (now (table .entry)) n)) × CanonicalTo 12 r ⌝ }
+{
+    let start = 288 + 12 * n;
+    let mut out = [0u64; 12];
+    let mut j: usize = 0;
+    while j < 12 {
+        out[j] = Fp(s[j]).sub(Fp(table[start + j])).0;
+        j += 1;
+    }
+    out
+}
+
+// Rows 10 and 20 of a batch, after which a new tap enters.
+pub fn is_entering(row: RowNumber) -> bool
+    ensures { λ r. ⌜ r ≡ entering (row .0) ⌝ }
+{
+    let within = row.within();
+    within == 10 || within == 20
+}
+
+// The state plus K_0 in columns 0 to 3 only, as at rows 10 and 20.
+fn plus_entering(table: &[u64], s: [u64; 12]) -> [u64; 12]
+    requires { ⌜ IsTable (now table) × CanonicalTo 12 s ⌝ }
+    ensures { λ r. ⌜ r ≡ plus s (take 4 (constant (now (table .entry)) 0)) ⌝ }
+{
+    let mut out = s;
+    let mut j: usize = 0;
+    while j < 4 {
+        out[j] = Fp(s[j]).add(Fp(table[288 + j])).0;
+        j += 1;
+    }
+    out
+}
+
+// Forward of the row: its cells cubed, times M, plus its round's second-step constant; at rows 10 and 20 K_0 is added too.
+pub fn forward(table: &[u64], trace: &[u64], row: RowNumber) -> [u64; 12]
+    requires { ⌜ IsTable (now table) × HasRow (now trace) (row .0) × (1 ≤ within (row .0)) ⌝ }
+    ensures { λ r. ⌜ r ≡ forward (now (table .entry)) (now (trace .entry)) (row .0) ⌝ }
+{
+    let next = hash::second_step(table, round_of(row), cells(trace, row));
+    if is_entering(row) {
+        plus_entering(table, next)
+    } else {
+        next
+    }
+}
+
+// Back of the row: its cells less its round's first-step constant, times the inverse of M, then cubed.
+pub fn back(table: &[u64], trace: &[u64], row: RowNumber) -> [u64; 12]
+    requires { ⌜ IsTable (now table) × HasRow (now trace) (row .0) × (1 ≤ within (row .0)) ⌝ }
+    ensures { λ r. ⌜ r ≡ back (now (table .entry)) (now (trace .entry)) (row .0) ⌝ }
+{
+    let less = less_constant(table, 2 * round_of(row) + 1, cells(trace, row));
+    hash::cubes(matrix::times(&table[144..288], less))
+}
