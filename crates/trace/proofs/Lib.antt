@@ -1,2 +1,5 @@
 pub mod RowKinds
 pub mod TraceCells
+pub mod WrittenRows
+pub mod WrittenBatches
+pub mod Answers

@@ -1,1 +1,3 @@
 pub mod Trace
+pub mod Rows
+pub mod Answers

@@ -1,1 +1,139 @@
-// The section 3.1 trace of a list of taps: the builder.
+// The section 3.1 trace of a list of taps: the builder (document 01, "The trace").
+ghost use mathlib.Core.Path.{_≡_};
+ghost use mathlib.Core.List.{List};
+ghost use Prim.Native.Nat.{ℕ, _+_, _*_, _-_, _≤_, _<_, _^_};
+ghost use lib.ListN.{length, take};
+ghost use Rattle.words.specs.Words.{AllCanonical, CanonicalTo};
+ghost use Rattle.table.specs.Table.{IsTable};
+ghost use Rattle.hash.specs.Hash.{middleState, finalState, outputAt, chain};
+ghost use Rattle.trace.specs.Trace.{hashInput, traceRow, trace};
+ghost use Rattle.trace.specs.Rows.{withRows, Writable};
+ghost use Rattle.trace.specs.Answers.{buildAnswer, buildLeaves};
+use counts::BatchCount;
+use counts::BatchNumber;
+use counts::RowNumber;
+use refusals::Answer;
+use refusals::Digest;
+use refusals::Digested;
+use refusals::Refusal;
+
+// The twelve cells into a part of twelve words.
+fn put(part: &mut [u64], cells: [u64; 12])
+    requires { ⌜ length (now part) ≡ 12 ⌝ }
+    ensures { λ r. ⌜ now (part .exit) ≡ cells ⌝ }
+{
+    let mut j: usize = 0;
+    while j < 12 {
+        part[j] = cells[j];
+        j += 1;
+    }
+}
+
+// The twelve cells as that row of the destination.
+fn write_row(destination: &mut [u64], row: RowNumber, cells: [u64; 12])
+    requires { ⌜ (row .0 < 2 ^ 32) × (12 * row .0 + 12 ≤ length (now destination)) ⌝ }
+    ensures { λ r. ⌜ now (destination .exit) ≡ withRows (λ i. cells) (row .0) (row .0 + 1) (now (destination .entry)) ⌝ }
+{
+    let start = row.start();
+    let end = start + 12;
+    put(&mut destination[start..end], cells);
+}
+
+// The ten middle states of a hash as the rows from the given one on. Its final state.
+fn write_rounds(
+    table: &[u64],
+    input: [u64; 12],
+    destination: &mut [u64],
+    row: RowNumber,
+) -> [u64; 12]
+    requires { ⌜ IsTable (now table) × CanonicalTo 12 input × (row .0 < 2 ^ 31) × (12 * row .0 + 120 ≤ length (now destination)) ⌝ }
+    ensures { λ r. ⌜ (r ≡ finalState (now (table .entry)) input) × (now (destination .exit) ≡ withRows (λ i. middleState (now (table .entry)) input (i - row .0)) (row .0) (row .0 + 10) (now (destination .entry))) ⌝ }
+{
+    let first = row.0;
+    let mut state = hash::opening(table, input);
+    let mut round: usize = 0;
+    while round < 10 {
+        let middle = hash::first_step(table, round, state);
+        write_row(destination, RowNumber(first + round), middle);
+        let next = hash::second_step(table, round, middle);
+        state = next;
+        round += 1;
+    }
+    state
+}
+
+// The ten rows of hash `within` of the batch, after a state that begins with the last output. Its final state.
+fn write_hash(
+    table: &[u64],
+    taps: &[u64],
+    batch: BatchNumber,
+    within: usize,
+    last: [u64; 12],
+    destination: &mut [u64],
+) -> [u64; 12]
+    requires { ⌜ Writable (now table) (now taps) (batch .0) (now destination) × (within < 3) × (take 4 last ≡ outputAt (now table) (now taps) (3 * batch .0 + within)) ⌝ }
+    ensures { λ r. ⌜ (r ≡ finalState (now (table .entry)) (hashInput (now (table .entry)) (now (taps .entry)) (3 * batch .0 + within))) × (now (destination .exit) ≡ withRows (traceRow (now (table .entry)) (now (taps .entry))) (32 * batch .0 + (10 * within + 1)) (32 * batch .0 + (10 * within + 11)) (now (destination .entry))) ⌝ }
+{
+    let input = hash::input_of(batch.hash(within), last, taps);
+    write_rounds(table, input, destination, batch.row(10 * within + 1))
+}
+
+// The 32 rows of the batch, after a state that begins with the last output. The final state of its third hash.
+fn write_batch(
+    table: &[u64],
+    taps: &[u64],
+    batch: BatchNumber,
+    last: [u64; 12],
+    destination: &mut [u64],
+) -> [u64; 12]
+    requires { ⌜ Writable (now table) (now taps) (batch .0) (now destination) × (take 4 last ≡ outputAt (now table) (now taps) (3 * batch .0)) ⌝ }
+    ensures { λ r. ⌜ (r ≡ finalState (now (table .entry)) (hashInput (now (table .entry)) (now (taps .entry)) (3 * batch .0 + 2))) × (now (destination .exit) ≡ withRows (traceRow (now (table .entry)) (now (taps .entry))) (32 * batch .0) (32 * batch .0 + 32) (now (destination .entry))) ⌝ }
+{
+    write_row(
+        destination,
+        batch.row(0),
+        hash::input_of(batch.hash(0), last, taps),
+    );
+    let first = write_hash(table, taps, batch, 0, last, destination);
+    let second = write_hash(table, taps, batch, 1, first, destination);
+    let third = write_hash(table, taps, batch, 2, second, destination);
+    write_row(destination, batch.row(31), third);
+    third
+}
+
+// The batches one after the other. The state that begins with the chain's output.
+fn write_batches(table: &[u64], taps: &[u64], k: usize, destination: &mut [u64]) -> [u64; 12]
+    requires { ⌜ IsTable (now table) × AllCanonical (now taps) × (k ≤ 2 ^ 20) × (length (now taps) ≡ 12 * k + 4) × (length (now destination) ≡ 384 * k) ⌝ }
+    ensures { λ r. ⌜ (take 4 r ≡ chain (now (table .entry)) (now (taps .entry)) k) × (now (destination .exit) ≡ trace (now (table .entry)) (now (taps .entry)) k) ⌝ }
+{
+    let mut state = hash::chain_start(taps);
+    let mut b: usize = 0;
+    while b < k {
+        let next = write_batch(table, taps, BatchNumber(b), state, destination);
+        state = next;
+        b += 1;
+    }
+    state
+}
+
+// Build: 1, 2, 4, 5, 8, 6.
+pub fn build(table: &[u64], taps: &[u64], destination: &mut [u64]) -> Digested
+    ensures { λ r. ⌜ (r ≡ buildAnswer (now (table .entry)) (now (taps .entry)) (length (now (destination .entry)))) × (now (destination .exit) ≡ buildLeaves (now (table .entry)) (now (taps .entry)) (now (destination .entry))) ⌝ }
+{
+    let tested = table::test(table);
+    let Answer::Accepted = tested else {
+        return Digested::after(tested);
+    };
+    let BatchCount::Permitted(k) = counts::tap_batches(taps.len()) else {
+        return Digested::Refused(Refusal::TapLength);
+    };
+    if destination.len() != 384 * k {
+        return Digested::Refused(Refusal::DestinationLength);
+    }
+    let bad = words::first_bad(taps);
+    if bad != taps.len() {
+        return Digested::Refused(Refusal::TapWord(bad));
+    }
+    let last = write_batches(table, taps, k, destination);
+    Digested::Accepted(Digest(last[0], last[1], last[2], last[3]))
+}

@@ -1,0 +1,70 @@
+-- `trace::put` meets its contract: the words passed are filled with the cells.
+-- Assumes nothing.
+use mathlib.Core.Path.{_≡_, refl, ap, _∙_}
+use Prim.Native.Nat.{_-_, _≤_}
+use native.Mathlib.Omega.{arith}
+use borrow.Author.Needs.{needs}
+use lib.ListN.{length, length-set}
+use Rattle.lists.specs.Lists.{cell}
+use Rattle.lists.proofs.Tab.{filled, filled-none, filled-more, filled-all, tab-cell}
+use Rattle.trace.proofs.put.Statement.{statement}
+use Rattle.trace.proofs.put.Tie as tie
+
+abbrev Inv-loop : tie.InvT-loop
+Inv-loop part₀ cells j₀ part j = (j ≤ 12) × (length part ≡ 12) × (part ≡ filled j (cell cells) part₀)
+
+abbrev μ-loop : tie.MeasureT-loop
+μ-loop part₀ cells j₀ part j = 12 - j
+
+loop-holds : tie.Need-loop-holds Inv-loop μ-loop
+loop-holds c = (omega arith, c .pre, filled-none _ _)
+
+mul-part : tie.Need-mul-part Inv-loop μ-loop
+mul-part c = search needs
+
+array-read-part : tie.Need-array-read-part Inv-loop μ-loop
+array-read-part c = search needs
+
+mul-part-2 : tie.Need-mul-part-2 Inv-loop μ-loop
+mul-part-2 c = search needs
+
+slice-write-part : tie.Need-slice-write-part Inv-loop μ-loop
+slice-write-part c = omega arith
+
+add-j : tie.Need-add-j Inv-loop μ-loop
+add-j c = search needs
+
+loop-less : tie.Need-loop-less Inv-loop μ-loop
+loop-less c = search needs
+
+loop-again : tie.Need-loop-again Inv-loop μ-loop
+loop-again c =
+    let l = c .before .loop in
+    (omega arith, simp length-set (l .inv .1), filled-more _ (l .j) _ _ (l .part) (omega arith) refl (l .inv .2))
+
+same-length : tie.Need-same-length Inv-loop μ-loop
+same-length c = omega arith
+
+returns : tie.Need-returns Inv-loop μ-loop
+returns c =
+    let a = c .before .before in
+    let l = c .before .loop in
+    let e : l .j ≡ 12 = omega arith in
+    l .inv .2 ∙ rw e (filled-all 12 _ _ (a .pre)) ∙ tab-cell 12 (a .args .t2) (search needs)
+
+pub put-spec : {M : Type 1} → statement M
+put-spec =
+    tie.close
+    (tie.spec
+    Inv-loop
+    μ-loop
+    loop-holds
+    mul-part
+    array-read-part
+    mul-part-2
+    slice-write-part
+    add-j
+    loop-less
+    loop-again
+    same-length
+    returns)

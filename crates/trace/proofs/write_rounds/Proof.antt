@@ -1,0 +1,132 @@
+-- `trace::write_rounds` meets its contract: the rows passed are middle states, and the state is that before the round, from whatever input the first one came.
+-- Assumes nothing.
+use mathlib.Core.Path.{_≡_, refl, sym, ap, _∙_}
+use mathlib.Core.List.{List}
+use Prim.Native.Nat.{ℕ, _+_, _*_, _-_, _≤_, _<_}
+use native.Mathlib.Numerals.{add-one}
+use native.Mathlib.Omega.{arith}
+use borrow.Author.Needs.{needs}
+use lib.ListN.{length}
+use Rattle.words.specs.Words.{CanonicalTo}
+use Rattle.hash.specs.Hash.{firstStep, secondStep, stateAt, middleState, finalState}
+use Rattle.hash.proofs.States.{firstStep-state, secondStep-state, stateAt-state, stateAt-suc}
+use Rattle.hash.proofs.CodeStates.{canonical-state}
+use Rattle.trace.specs.Rows.{withRows}
+use Rattle.trace.proofs.WrittenRows.{rows-none, rows-join, rows-ext}
+use Rattle.trace.proofs.write_rounds.Statement.{statement}
+use Rattle.trace.proofs.write_rounds.Tie as tie
+
+-- what holds before a round, from the input s: the state, and the rows written so far
+record Passed (T s : List ℕ) (first : ℕ) (old new state : List ℕ) (round : ℕ) : Type 0 where
+  at : state ≡ stateAt T s round
+  rows : new ≡ withRows (λ i. middleState T s (i - first)) first (first + round) old
+
+next : (T s : List ℕ) (first : ℕ) (old new state : List ℕ) (round : ℕ) (new₂ middle state₂ : List ℕ) →
+    12 * (first + round) ≤ length old →
+    middle ≡ firstStep T round state →
+    new₂ ≡ withRows (λ i. middle) (first + round) (first + round + 1) new →
+    state₂ ≡ secondStep T round middle →
+    Passed T s first old new state round →
+    Passed T s first old new₂ state₂ (round + 1)
+unfolding middleState
+next T s first old new state round new₂ middle state₂ l em en es p = record { at = es ∙ ap (secondStep T round) is-middle ∙ sym (stateAt-suc T s round) ∙ ap (stateAt T s) (sym (add-one round)); rows = en ∙ ap (withRows (λ i. middle) r (r + 1)) (p .rows) ∙ rows-ext _ row r (r + 1) _ same ∙ rows-join row first r old (omega arith) l (r + 1) (omega arith) ∙ ap (λ n. withRows row first n old) more }
+  where
+    r : ℕ
+    r = first + round
+
+    row : ℕ → List ℕ
+    row i = middleState T s (i - first)
+
+    is-middle : middle ≡ middleState T s round
+    is-middle = em ∙ ap (firstStep T round) (p .at)
+
+    same : (i : ℕ) → r ≤ i → i < r + 1 → middle ≡ row i
+    same i h g =
+        let e : round ≡ i - first = omega arith in
+        is-middle ∙ ap (middleState T s) e
+
+    more : r + 1 ≡ first + (round + 1)
+    more = omega arith
+
+abbrev Inv-loop : tie.InvT-loop
+Inv-loop table destination₀ first state₀ round₀ destination state round =
+    (round ≤ 10) × CanonicalTo 12 state × (length destination ≡ length destination₀) × ((s : List ℕ) → state₀ ≡ stateAt table s 0 → Passed table s first destination₀ destination state round)
+
+abbrev μ-loop : tie.MeasureT-loop
+μ-loop table destination₀ first state₀ round₀ destination state round = 10 - round
+
+opening-requires : tie.Need-opening-requires Inv-loop μ-loop
+opening-requires c κs = (c .before .before .pre .0, c .before .before .pre .1)
+
+loop-holds : tie.Need-loop-holds Inv-loop μ-loop
+loop-holds c =
+    let a = c .before .before .before .args in
+    let z : a .row .0 + 0 ≡ a .row .0 = omega arith in (
+      omega arith,
+      canonical-state (c .opening .ensures) (stateAt-state _ _ 0),
+      refl,
+      λ s e. record { at = e; rows = sym (ap (λ n. withRows (λ i. middleState (a .table .now) s (i - a .row .0)) (a .row .0) n (a .destination .now)) z ∙ rows-none _ (a .row .0) (a .destination .now)) },
+    )
+
+first-step-requires : tie.Need-first-step-requires Inv-loop μ-loop
+first-step-requires c κs = (c .before .before .before .before .before .pre .0, omega arith, c .before .loop .inv .1)
+
+add-t14 : tie.Need-add-t14 Inv-loop μ-loop
+add-t14 c = omega arith
+
+write-row-requires : tie.Need-write-row-requires Inv-loop μ-loop
+write-row-requires c κs = omega arith
+
+second-step-requires : tie.Need-second-step-requires Inv-loop μ-loop
+second-step-requires c κs =
+    let f = c .before .before .before .before in
+    (f .before .before .before .before .before .before .pre .0, omega arith, canonical-state (f .first-step .ensures) (firstStep-state _ _ _))
+
+add-round : tie.Need-add-round Inv-loop μ-loop
+add-round c = search needs
+
+loop-less : tie.Need-loop-less Inv-loop μ-loop
+loop-less c = omega arith
+
+loop-again : tie.Need-loop-again Inv-loop μ-loop
+loop-again c =
+    let f = c .before .before .before .before .before in
+    let w = c .before .before .before in
+    let a = f .before .before .before .before .before .before in
+    let l = f .before .before .loop in (
+      omega arith,
+      canonical-state (c .second-step .ensures) (secondStep-state _ _ _),
+      w .write-row .kept .0 ∙ l .inv .2,
+      λ s e. next (a .args .table .now) s (a .args .row .0) (a .args .destination .now) (l .destination) (l .state) (l .round) _ _ _ (omega arith) (f .first-step .ensures) (w .write-row .ensures) (c .second-step .ensures) (l .inv .3 s e),
+    )
+
+same-length : tie.Need-same-length Inv-loop μ-loop
+same-length c = c .before .loop .inv .2
+
+returns : tie.Need-returns Inv-loop μ-loop
+unfolding finalState
+returns c =
+    let o = c .before .before in
+    let a = o .before .before .before .args in
+    let l = c .before .loop in
+    let e : l .round ≡ 10 = omega arith in
+    let p = l .inv .3 (a .input) (o .opening .ensures) in
+    (p .at ∙ ap (stateAt (a .table .now) (a .input)) e, p .rows ∙ ap (λ n. withRows (λ i. middleState (a .table .now) (a .input) (i - a .row .0)) (a .row .0) (a .row .0 + n) (a .destination .now)) e)
+
+pub write-rounds-spec : {M : Type 1} → statement M
+write-rounds-spec =
+    tie.close
+    (tie.spec
+    Inv-loop
+    μ-loop
+    opening-requires
+    loop-holds
+    first-step-requires
+    add-t14
+    write-row-requires
+    second-step-requires
+    add-round
+    loop-less
+    loop-again
+    same-length
+    returns)
