@@ -126,9 +126,9 @@ impl Table {
             "", "proved, ns", "of (a)", "of (b)", "goal"
         );
         for line in &self.0 {
-            let of_b = line.yardstick.map_or(String::new(), |time| {
-                format!("{:.2}", line.proved / time)
-            });
+            let of_b = line
+                .yardstick
+                .map_or(String::new(), |time| format!("{:.2}", line.proved / time));
             let goal = line.goal.map_or(String::new(), |goal| format!("{goal:.1}"));
             let missed = matches!((line.goal, line.yardstick), (Some(goal), Some(time))
                 if line.proved > goal * time);

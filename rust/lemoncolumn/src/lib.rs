@@ -39,9 +39,8 @@ pub const fn file_bytes(k: usize) -> usize {
 pub fn prepare(raw: &[u64], table: &mut [u64]) -> Result<(), Refusal> {
     // SAFETY: a slice's pointer and length are valid, and `table` is lent to
     // this call alone. The same holds below.
-    let code = unsafe {
-        lemoncolumn_prepare(raw.as_ptr(), raw.len(), table.as_mut_ptr(), table.len())
-    };
+    let code =
+        unsafe { lemoncolumn_prepare(raw.as_ptr(), raw.len(), table.as_mut_ptr(), table.len()) };
     accepted(code)
 }
 
