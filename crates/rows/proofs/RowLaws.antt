@@ -26,6 +26,12 @@ module _ (t : List ℕ) (i : ℕ) (h : HasRow t i) where
   pub row-canonical : CanonicalTo 12 (row t i)
   row-canonical j l = subst Canonical (sym (cell-row t i j l)) (h .canonical (12 * i + j) (omega (arith, h .inside)))
 
+  pub cell-read : {start : ℕ} → start ≡ 12 * i → {j : ℕ} → j < 12 → (cell t (start + j) ≡ cell (row t i) j) × Canonical (cell t (start + j))
+  cell-read {start} e {j} l = (
+    ap (λ x. cell t (x + j)) e ∙ sym (cell-row t i j l),
+    h .canonical (start + j) (omega (arith, h .inside)),
+  )
+
 -- a cell of minus, from the words
 pub minus-canonical : (s k : List ℕ) → CanonicalTo 12 (minus s k)
 unfolding minus

@@ -1,0 +1,2 @@
+pub mod RawWords
+pub mod Stages
