@@ -1,6 +1,7 @@
 pub mod Barrett
 pub mod Forms
 pub mod Modular
+pub mod Ring
 pub mod Power
 pub mod Divisors
 pub mod Pigeon
