@@ -1,12 +1,16 @@
 -- The cases of an answer: where the table test, the trace's length and its words lead.
 -- Assumes nothing.
 use mathlib.Core.Path.{_≡_, refl, sym, ap, _∙_}
+use mathlib.Core.Bool.{Bool, true, false}
 use mathlib.Core.List.{List}
-use Prim.Native.Nat.{ℕ, _*_, _^_, _<_}
+use Prim.Native.Nat.{ℕ, _*_, _^_, _≤_, _<_}
 use native.Mathlib.Omega.{arith}
-use borrow.Author.Tests.{eq-eqb, ne-eqb}
+use borrow.Author.Tests.{eq-eqb, ne-eqb, eqb-true}
+use lib.Dec.{eqb}
 use lib.ListN.{length}
-use Rattle.words.specs.Words.{firstBad}
+use Rattle.lists.specs.Lists.{choose}
+use Rattle.words.specs.Words.{AllCanonical, firstBad}
+use Rattle.words.proofs.Laws.{good-all}
 use Rattle.counts.specs.Counts.{traceBatches}
 use Rattle.counts.specs.declared.BatchCount.{BatchCount}
 use Rattle.counts.specs.declared.BatchCount.the-variants as count
@@ -44,10 +48,10 @@ module _ (words : ℕ) {n : BatchCount} (e : n ≡ traceBatches words) where
   pub length-permitted : {k : ℕ} → n ≡ count.Permitted k → (rest : ℕ → Checked) → rest k ≡ traceAfter (traceBatches words) rest
   length-permitted q rest = sym (ap (λ y. traceAfter y rest) (sym e ∙ q))
 
-  pub batches : {k : ℕ} → n ≡ count.Permitted k → (words ≡ 384 * k) × (k < 2 ^ 32)
+  pub batches : {k : ℕ} → n ≡ count.Permitted k → (words ≡ 384 * k) × (1 ≤ k) × (k < 2 ^ 32)
   batches {k} q =
       let s = trace-sound words k (sym e ∙ q) in
-      (s .0, omega (arith, s .1 .high))
+      (s .0, s .1 .low, omega (arith, s .1 .high))
 
 -- ---- the words of the claim and of the trace
 module _ (T t claim : List ℕ) (k : ℕ) where
@@ -63,3 +67,16 @@ module _ (T t claim : List ℕ) (k : ℕ) where
     pub good-words : {b : ℕ} → b ≡ firstBad t → b ≡ length t → verdict T t claim k ≡ judged T t claim k
     unfolding judged
     good-words e h = sym (rw (eq-eqb (firstBad claim) 4 (sym at-claim ∙ good-claim), eq-eqb (firstBad t) (length t) (sym e ∙ h)))
+
+-- where that is accepted, the words are canonical
+pub words-canonical : (T t claim : List ℕ) (k : ℕ) {n : ℕ} → judged T t claim k ≡ Accepted n → AllCanonical t
+unfolding judged
+words-canonical T t claim k {n} = go (eqb (firstBad claim) 4)
+  where
+    inner : (b : Bool) → eqb (firstBad t) (length t) ≡ b → choose b (verdict T t claim k) (Refused (TraceWord (firstBad t))) ≡ Accepted n → AllCanonical t
+    inner true e q = good-all t (eqb-true (firstBad t) (length t) e)
+    inner false e q = absurd (let z : _≡_ {A = ℕ} 0 1 = cc in omega arith)
+
+    go : (b : Bool) → choose b (choose (eqb (firstBad t) (length t)) (verdict T t claim k) (Refused (TraceWord (firstBad t)))) (Refused (ClaimWord (firstBad claim))) ≡ Accepted n → AllCanonical t
+    go true q = inner (eqb (firstBad t) (length t)) refl q
+    go false q = absurd (let z : _≡_ {A = ℕ} 0 1 = cc in omega arith)

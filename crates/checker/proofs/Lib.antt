@@ -1,5 +1,3 @@
-pub mod Lines
-pub mod SpanLaws
 pub mod WalkSteps
-pub mod Holding
 pub mod AnswerLaws
+pub mod Theorems

@@ -10,7 +10,7 @@ use Rattle.refusals.specs.declared.Refusal.the-variants.{Constraint}
 use Rattle.refusals.specs.declared.Checked.{Checked}
 use Rattle.refusals.specs.declared.Checked.the-variants.{Accepted, Refused}
 use Rattle.constraints.specs.Constraints.{applies, holds, rowTests, testsFrom, tests, walk, verdict}
-use Rattle.checker.specs.Spans.{Spans}
+use Rattle.rowtests.proofs.SpanLaws.{Spans}
 
 module _ (T t claim : List ℕ) (k : ℕ) where
   -- the verdict from row i on, with m rows left and n tests walked before

@@ -1,3 +1,1 @@
-pub mod Spans
-pub mod Compared
 pub mod Answers

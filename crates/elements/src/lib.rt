@@ -11,14 +11,17 @@ use fileword::Word;
 use refusals::Answer;
 use refusals::Refusal;
 
+// A word's payload, 2^30 - 1.
+const PAYLOAD: u64 = 0x3fff_ffff;
+
 // The element becomes the three words from `index` on.
 pub fn write(element: u64, index: usize, destination: &mut [u8])
     requires { ⌜ 4 * index + 12 ≤ length (now destination) ⌝ }
     ensures { λ _. ⌜ now (destination .exit) ≡ sets (now (destination .entry)) (4 * index) (bytesOf (elementWords element)) ⌝ }
 {
     let high = (element >> 60) as u32;
-    let middle = ((element >> 30) & 0x3fff_ffff) as u32;
-    let low = (element & 0x3fff_ffff) as u32;
+    let middle = ((element >> 30) & PAYLOAD) as u32;
+    let low = (element & PAYLOAD) as u32;
     Word::join(1, high).write(index, destination);
     Word::join(2, middle).write(index + 1, destination);
     Word::join(3, low).write(index + 2, destination);

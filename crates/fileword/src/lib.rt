@@ -9,6 +9,9 @@ ghost use Rattle.fileword.specs.Words.{joined, kindOf, payloadOf, wordBy
 pub struct Word(pub u32);
 
 impl Word {
+    // Bits 0 to 29, 2^30 - 1.
+    pub const PAYLOAD: u32 = 0x3fff_ffff;
+
     pub fn join(kind: u32, payload: u32) -> Word
         requires { ⌜ (kind < 4) × (payload < 2 ^ 30) ⌝ }
         ensures { λ r. ⌜ r .0 ≡ joined kind payload ⌝ }
@@ -25,7 +28,7 @@ impl Word {
     pub fn payload(self) -> u32
         ensures { λ r. ⌜ r ≡ payloadOf (self .0) ⌝ }
     {
-        self.0 & 0x3fff_ffff
+        self.0 & Word::PAYLOAD
     }
 
     // Word `index` of the file.

@@ -1,3 +1,2 @@
 pub mod Hash
-pub mod Powers
 pub mod Answers

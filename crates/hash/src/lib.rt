@@ -5,8 +5,7 @@ ghost use Prim.Native.Nat.{_+_, _*_, _<_, _≤_, _^_};
 ghost use lib.ListN.{length, take, replicate};
 ghost use Rattle.words.specs.Words.{AllCanonical, CanonicalTo};
 ghost use Rattle.table.specs.Table.{IsTable, constant};
-ghost use Rattle.hash.specs.Hash.{roots, cubes, plus, mix, firstStep, secondStep, stateAt, finalState, input, tap, outputAt};
-ghost use Rattle.hash.specs.Powers.{products, powers};
+ghost use Rattle.hash.specs.Hash.{cubes, plus, mix, firstStep, secondStep, stateAt, finalState, input, tap, outputAt};
 ghost use Rattle.hash.specs.Answers.{hashAnswer, chainAnswer};
 use counts::BatchCount;
 use counts::HashNumber;
@@ -15,46 +14,6 @@ use refusals::Answer;
 use refusals::Digest;
 use refusals::Digested;
 use refusals::Refusal;
-
-// Each cell of a times that of b.
-fn multiply(a: &mut [u64; 12], b: [u64; 12])
-    requires { ⌜ (length (now a) ≡ 12) × CanonicalTo 12 (now a) × CanonicalTo 12 b ⌝ }
-    ensures { λ r. ⌜ (now (a .exit) ≡ products (now (a .entry)) b) ⌝ }
-{
-    let mut j: usize = 0;
-    while j < 12 {
-        a[j] = Fp(a[j]).mul(Fp(b[j])).0;
-        j += 1;
-    }
-}
-
-// Each cell of acc times that of x raised to e. The exponent is halved at each call. Twelve cells in place, and nothing to do after the call, so that
-// the compiler makes a loop of it.
-fn powers_times(acc: &mut [u64; 12], x: &mut [u64; 12], e: u64)
-    requires { ⌜ (length (now acc) ≡ 12) × CanonicalTo 12 (now acc) × (length (now x) ≡ 12) × CanonicalTo 12 (now x) ⌝ }
-    ensures { λ r. ⌜ now (acc .exit) ≡ products (now (acc .entry)) (powers (now (x .entry)) e) ⌝ }
-{
-    if e == 0 {
-        return;
-    }
-    let base = *x;
-    if e % 2 == 1 {
-        multiply(acc, base);
-    }
-    multiply(x, base);
-    powers_times(acc, x, e / 2);
-}
-
-// Every cell rooted.
-fn roots(s: [u64; 12]) -> [u64; 12]
-    requires { ⌜ CanonicalTo 12 s ⌝ }
-    ensures { λ r. ⌜ r ≡ roots s ⌝ }
-{
-    let mut acc = [1u64; 12];
-    let mut x = s;
-    powers_times(&mut acc, &mut x, Fp::THIRD);
-    acc
-}
 
 // Every cell cubed.
 pub fn cubes(s: [u64; 12]) -> [u64; 12]
@@ -75,15 +34,18 @@ fn mix(table: &[u64], s: [u64; 12]) -> [u64; 12]
     requires { ⌜ IsTable (now table) × CanonicalTo 12 s ⌝ }
     ensures { λ r. ⌜ r ≡ mix (now (table .entry)) s ⌝ }
 {
-    matrix::times(&table[..144], s)
+    matrix::times(&table[0..144], s)
 }
+
+// Where K_0 stands in the table: after M and its inverse, 144 words each.
+const CONSTANTS: usize = 288;
 
 // s plus K_n.
 fn plus_constant(table: &[u64], n: usize, s: [u64; 12]) -> [u64; 12]
     requires { ⌜ IsTable (now table) × (n < 21) × CanonicalTo 12 s ⌝ }
     ensures { λ r. ⌜ r ≡ plus s (constant (now (table .entry)) n) ⌝ }
 {
-    let start = 288 + 12 * n;
+    let start = CONSTANTS + 12 * n;
     let mut out = [0u64; 12];
     let mut j: usize = 0;
     while j < 12 {
@@ -106,7 +68,7 @@ pub fn first_step(table: &[u64], round: usize, s: [u64; 12]) -> [u64; 12]
     requires { ⌜ IsTable (now table) × (round < 10) × CanonicalTo 12 s ⌝ }
     ensures { λ r. ⌜ r ≡ firstStep (now (table .entry)) round s ⌝ }
 {
-    let mixed = mix(table, roots(s));
+    let mixed = mix(table, roots::roots(s));
     plus_constant(table, 2 * round + 1, mixed)
 }
 

@@ -3,15 +3,15 @@
 use mathlib.Core.Path.{_≡_, refl, sym, ap, ap₂, _∙_, subst}
 use mathlib.Core.Bool.{true, false}
 use mathlib.Core.List.{List}
-use Prim.Native.Nat.{ℕ, _+_, _*_, _≤_, _<_}
+use Prim.Native.Nat.{ℕ, _+_, _*_, _<_}
 use native.Mathlib.Nat.{mod-lt}
 use native.Mathlib.Omega.{arith}
 use native.Mathlib.Decide.{decLt}
 use lib.ListN.{length, take, replicate, length-take, List·getD-eq-default}
 use lib.Seq.{getD-take}
-use Rattle.lists.specs.Lists.{cell, tab}
+use Rattle.lists.specs.Lists.{cell}
 use Rattle.lists.proofs.Tab.{filled, filled-all, filled-before, filled-after, length-filled, cell-tab, tab-ext, tab-unique}
-use Rattle.field.specs.Field.{P, Canonical, add, sub}
+use Rattle.field.specs.Field.{Canonical, add, sub}
 use Rattle.words.specs.Words.{CanonicalTo}
 use Rattle.matrix.specs.Matrix.{times}
 use Rattle.table.specs.Table.{inverseOf, constant}
@@ -19,20 +19,18 @@ use Rattle.table.proofs.Parts.{cell-constant}
 use Rattle.hash.specs.Hash.{plus, cubes, secondStep}
 use Rattle.hash.proofs.States.{state-cell, secondStep-state}
 use Rattle.constraints.specs.Constraints.{row, round, entering, forward, minus, backStep, back}
-use Rattle.constraints.proofs.RowCells.{cell-row, length-row}
+use Rattle.constraints.proofs.RowCells.{cell-row}
 use Rattle.rows.specs.Lent.{HasRow}
 
 module _ (t : List ℕ) (i : ℕ) (h : HasRow t i) where
   pub row-canonical : CanonicalTo 12 (row t i)
   row-canonical j l = subst Canonical (sym (cell-row t i j l)) (h .canonical (12 * i + j) (omega (arith, h .inside)))
 
-  pub row-filled : (start : ℕ) → start ≡ 12 * i → (out : List ℕ) (m : ℕ) → m ≡ 12 → out ≡ filled m (λ n. cell t (start + n)) (replicate 12 0) → out ≡ row t i
-  row-filled start s out m q e =
-      e
-      ∙ ap (λ x. filled x (λ n. cell t (start + n)) (replicate 12 0)) q
-      ∙ filled-all 12 _ (replicate 12 0) refl
-      ∙ tab-ext 12 (λ n. cell t (start + n)) (λ n. cell t (12 * i + n)) (λ n l. ap (λ x. cell t (x + n)) s)
-      ∙ sym (tab-unique 12 (row t i) (λ n. cell t (12 * i + n)) (length-row t i (h .inside)) (λ n l. cell-row t i n l))
+  pub cell-read : {start : ℕ} → start ≡ 12 * i → {j : ℕ} → j < 12 → (cell t (start + j) ≡ cell (row t i) j) × Canonical (cell t (start + j))
+  cell-read {start} e {j} l = (
+    ap (λ x. cell t (x + j)) e ∙ sym (cell-row t i j l),
+    h .canonical (start + j) (omega (arith, h .inside)),
+  )
 
 -- a cell of minus, from the words
 pub minus-canonical : (s k : List ℕ) → CanonicalTo 12 (minus s k)

@@ -9,4 +9,4 @@ use Rattle.words.specs.Words.{AllCanonical}
 pub record HasRow (t : List ℕ) (i : ℕ) : Type 0 where
   pub canonical : AllCanonical t
   pub inside : 12 * i + 12 ≤ length t
-  pub small : i < 2 ^ 40
+  pub small : i < 2 ^ 37

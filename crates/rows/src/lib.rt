@@ -1,6 +1,8 @@
 // Forward and back of a row of a lent trace (document 01, "The 52 constraints").
 ghost use mathlib.Core.Path.{_≡_};
 ghost use Prim.Native.Nat.{_<_, _≤_};
+ghost use Rattle.lists.specs.Lists.{cell};
+ghost use Rattle.field.specs.Field.{Canonical};
 ghost use Rattle.words.specs.Words.{CanonicalTo};
 ghost use Rattle.table.specs.Table.{IsTable, constant};
 ghost use Rattle.constraints.specs.Constraints.{row as cells-of, within, round, entering, forward, minus, back};
@@ -10,19 +12,29 @@ ghost use Rattle.hash.specs.Hash.{plus};
 use counts::RowNumber;
 use field::Fp;
 
-// The cells of the row.
-fn cells(trace: &[u64], row: RowNumber) -> [u64; 12]
+// The cells of the row, read through the view of its batch.
+pub fn cells(trace: &[u64], row: RowNumber) -> [u64; 12]
     requires { ⌜ HasRow (now trace) (row .0) ⌝ }
     ensures { λ r. ⌜ (r ≡ cells-of (now (trace .entry)) (row .0)) × CanonicalTo 12 r ⌝ }
 {
+    view::cells(trace, row)
+}
+
+// One cell of the row.
+pub fn cell(trace: &[u64], row: RowNumber, column: usize) -> u64
+    requires { ⌜ HasRow (now trace) (row .0) × (column < 12) ⌝ }
+    ensures { λ r. ⌜ (r ≡ cell (cells-of (now (trace .entry)) (row .0)) column) × Canonical r ⌝ }
+{
     let start = row.start();
-    let mut out = [0u64; 12];
-    let mut j: usize = 0;
-    while j < 12 {
-        out[j] = trace[start + j];
-        j += 1;
-    }
-    out
+    trace[start + column]
+}
+
+// One cell of K_0.
+pub fn opening(table: &[u64], column: usize) -> u64
+    requires { ⌜ IsTable (now table) × (column < 12) ⌝ }
+    ensures { λ r. ⌜ (r ≡ cell (constant (now (table .entry)) 0) column) × Canonical r ⌝ }
+{
+    table[288 + column]
 }
 
 // The round whose middle state the row holds: rows 1 to 10, 11 to 20, 21 to 30 are rounds 0 to 9.

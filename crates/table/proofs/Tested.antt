@@ -1,61 +1,83 @@
--- The table test: one cell of the product, the first that is unlike the identity, and the answer by cases.
+-- The table test: the product of M and the stored inverse, the first cell that is unlike the identity, and the answer by cases.
 -- Assumes nothing.
-use Prim.Native.Nat.{ℕ, suc, _+_, _*_, _/_, _%_, _<_}
+use Prim.Native.Nat.{ℕ, _+_, _*_, _/_, _%_, _<_}
 use mathlib.Core.Path.{_≡_, refl, sym, ap, ap₂, _∙_}
-use mathlib.Core.Bool.{true, false, not}
+use mathlib.Core.Bool.{true, false}
 use mathlib.Core.List.{List}
-use native.Mathlib.Nat.{add-mod}
+use native.Mathlib.Decide.{ℕ-discrete}
 use native.Mathlib.Omega.{arith}
 use borrow.Author.Tests.{eq-eqb, ne-eqb}
-use lib.Dec.{eqb}
-use lib.ListN.{length}
-use Rattle.lists.specs.Lists.{cell, tab, sum}
-use Rattle.lists.proofs.Sum.{sum-zero, sum-suc}
-use Rattle.lists.proofs.Tab.{length-tab, cell-tab}
+use lib.ListN.{length, set, length-set}
+use lib.Seq.{getD-set-same, getD-set-other}
+use Rattle.lists.specs.Lists.{cell, tab}
+use Rattle.lists.proofs.Tab.{cell-tab}
 use Rattle.lists.proofs.First.{first-none, found-at}
-use Rattle.field.specs.Field.{P}
-use Rattle.words.specs.Words.{AllCanonical, firstBad}
-use Rattle.matrix.specs.Matrix.{timesColumn, product, identity, entry}
-use Rattle.matrix.proofs.Linear.{identity-same, identity-other, times-ext, product-column}
+use Rattle.words.specs.Words.{CanonicalTo, AllCanonical, firstBad}
+use Rattle.matrix.specs.Matrix.{product, identity, entry, times}
+use Rattle.matrix.proofs.Linear.{times-ext, product-column}
+use Rattle.matrix.proofs.States.{cell-times}
 use Rattle.refusals.specs.declared.Answer.the-variants.{Accepted, Refused}
 use Rattle.refusals.specs.declared.Refusal.the-variants.{TableLength, TableWord, WrongInverse}
 use Rattle.table.specs.Table.{matrixOf, inverseOf, unlike, firstUnlike, tableTest}
 
--- ---- a sum of products, reduced at each step
-pub dot-none : (f : ℕ → ℕ) → 0 ≡ sum 0 f % P
-dot-none f = ap (λ y. y % P) (sym (sum-zero f))
+-- ---- the product, column by column
+pub column-canonical : (n x : List ℕ) (k : ℕ) → length n ≡ 144 → AllCanonical n → k < 12 → x ≡ tab 12 (λ j. entry n j k) → CanonicalTo 12 x
+column-canonical n x k size h hk e i l = rw (ap (λ s. cell s i) e ∙ cell-tab 12 (λ j. entry n j k) i l) (h (12 * i + k) (omega arith))
 
-pub dot-more : (f : ℕ → ℕ) (j s x r : ℕ) → s ≡ sum j f % P → x ≡ f j % P → r ≡ (s + x) % P → r ≡ sum (j + 1) f % P
-dot-more f j s x r es ex er = er ∙ ap₂ (λ a b. (a + b) % P) es ex ∙ sym (add-mod (sum j f) (f j) P) ∙ ap (λ y. y % P) (sym (sum-suc j f) ∙ ap (λ k. sum k f) e)
+-- the first t cells of s are those of f
+pub record CellsTo (t : ℕ) (f : ℕ → ℕ) (s : List ℕ) : Type 0 where
+  pub size : length s ≡ 144
+  pub same : (d : ℕ) → d < t → cell s d ≡ f d
+
+pub cells-at : (t u : ℕ) (f : ℕ → ℕ) (s : List ℕ) → t ≡ u → CellsTo t f s → CellsTo u f s
+cells-at t u f s e g = record { size = g .size; same = λ d h. g .same d (omega arith) }
+
+pub cells-more : (t x : ℕ) (f : ℕ → ℕ) (s : List ℕ) → t < 144 → CellsTo t f s → x ≡ f t → CellsTo (t + 1) f (set s t x)
+cells-more t x f s h g e = record { size = length-set s t x ∙ g .size; same = λ d l. go d l (ℕ-discrete d t) }
   where
-    e : suc j ≡ j + 1
-    e = omega arith
+    go : (d : ℕ) → d < t + 1 → Dec (d ≡ t) → cell (set s t x) d ≡ f d
+    go d l (yes q) = ap (cell (set s t x)) q ∙ getD-set-same s t x 0 (omega (arith, g .size)) ∙ e ∙ ap f (sym q)
+    go d l (no q) = getD-set-other s t d x 0 q ∙ g .same d (omega arith)
 
--- ---- one cell
-pub column-canonical : (n x : List ℕ) (k : ℕ) → length n ≡ 144 → AllCanonical n → k < 12 → x ≡ tab 12 (λ j. entry n j k) → AllCanonical x
-column-canonical n x k size h hk e i l = rw (ap (λ s. cell s i) e ∙ cell-tab 12 (λ j. entry n j k) i below) (h (12 * i + k) (omega (arith, below)))
+-- the cells of m times n, in the order in which they are computed
+abbrev pub byColumns : List ℕ → List ℕ → ℕ → ℕ
+byColumns m n t = product 12 (entry m) (entry n) (t % 12) (t / 12)
+
+pub next-cell : (m n c x : List ℕ) (k i : ℕ) → i < 12 → c ≡ tab 12 (λ j. entry n j k) → x ≡ times m c → cell x i ≡ byColumns m n (12 * k + i)
+next-cell m n c x k i h ec ex =
+    ap (λ s. cell s i) ex
+    ∙ cell-times m c i h
+    ∙ times-ext 12 (entry m) (entry m) (cell c) column i (λ j l. refl) (λ j l. ap (λ s. cell s j) ec ∙ cell-tab 12 column j l)
+    ∙ sym (product-column 12 (entry m) (entry n) i k)
+    ∙ ap₂ (product 12 (entry m) (entry n)) p q
   where
-    below : i < 12
-    below = omega (arith, ap length e ∙ length-tab 12 (λ j. entry n j k))
+    column : ℕ → ℕ
+    column j = entry n j k
 
-module _ (t : List ℕ) (c : ℕ) where
-  -- the cell, by the column of the stored inverse
-  pub at-cell : (x : List ℕ) (v : ℕ) → x ≡ tab 12 (λ j. entry (inverseOf t) j (c % 12)) → v ≡ timesColumn 12 (entry (matrixOf t)) (cell x) (c / 12) → v ≡ product 12 (entry (matrixOf t)) (entry (inverseOf t)) (c / 12) (c % 12)
-  at-cell x v ex ev =
-      ev
-      ∙ times-ext 12 (entry (matrixOf t)) (entry (matrixOf t)) (cell x) column (c / 12) (λ j h. refl) (λ j h. ap (λ s. cell s j) ex ∙ cell-tab 12 column j h)
-      ∙ sym (product-column 12 (entry (matrixOf t)) (entry (inverseOf t)) (c / 12) (c % 12))
-    where
-      column : ℕ → ℕ
-      column j = entry (inverseOf t) j (c % 12)
+    p : i ≡ (12 * k + i) % 12
+    p = omega arith
 
-  pub unlike-same : (v : ℕ) → v ≡ product 12 (entry (matrixOf t)) (entry (inverseOf t)) (c / 12) (c % 12) → c / 12 ≡ c % 12 → not (eqb v 1) ≡ unlike t c
+    q : k ≡ (12 * k + i) / 12
+    q = omega arith
+
+-- cell c of the product, row by row
+pub at-cell : (m n s : List ℕ) (c : ℕ) → c < 144 → s ≡ tab 144 (byColumns m n) → cell s (12 * (c % 12) + c / 12) ≡ product 12 (entry m) (entry n) (c / 12) (c % 12)
+at-cell m n s c h e = ap (λ l. cell l (12 * (c % 12) + c / 12)) e ∙ cell-tab 144 (byColumns m n) (12 * (c % 12) + c / 12) (omega arith) ∙ ap₂ (product 12 (entry m) (entry n)) p q
+  where
+    p : (12 * (c % 12) + c / 12) % 12 ≡ c / 12
+    p = omega arith
+
+    q : (12 * (c % 12) + c / 12) / 12 ≡ c % 12
+    q = omega arith
+
+module _ (t : List ℕ) (c v d : ℕ) (value : v ≡ product 12 (entry (matrixOf t)) (entry (inverseOf t)) (c / 12) (c % 12)) (wanted : d ≡ identity (c / 12) (c % 12)) where
+  pub unlike-yes : (v ≡ d → ⊥) → unlike t c ≡ true
   unfolding unlike
-  unlike-same v e q = ap₂ (λ x y. not (eqb x y)) e (sym (ap (identity (c / 12)) (sym q) ∙ identity-same (c / 12)))
+  unlike-yes h = rw (ne-eqb (product 12 (entry (matrixOf t)) (entry (inverseOf t)) (c / 12) (c % 12)) (identity (c / 12) (c % 12)) (λ e. h (value ∙ e ∙ sym wanted)))
 
-  pub unlike-other : (v : ℕ) → v ≡ product 12 (entry (matrixOf t)) (entry (inverseOf t)) (c / 12) (c % 12) → (c / 12 ≡ c % 12 → ⊥) → not (eqb v 0) ≡ unlike t c
+  pub unlike-no : v ≡ d → unlike t c ≡ false
   unfolding unlike
-  unlike-other v e q = ap₂ (λ x y. not (eqb x y)) e (sym (identity-other (c / 12) (c % 12) q))
+  unlike-no h = rw (eq-eqb (product 12 (entry (matrixOf t)) (entry (inverseOf t)) (c / 12) (c % 12)) (identity (c / 12) (c % 12)) (sym value ∙ h ∙ wanted))
 
 -- ---- the scan
 pub stops : (t : List ℕ) (c : ℕ) → c < 144 → ((d : ℕ) → d < c → unlike t d ≡ false) → unlike t c ≡ true → c ≡ firstUnlike t

@@ -1,12 +1,11 @@
 // The table: its test and Prepare (document 01, "The table").
 ghost use mathlib.Core.Path.{_≡_};
-ghost use Prim.Native.Nat.{_<_};
+ghost use Prim.Native.Nat.{_/_, _%_, _<_};
 ghost use lib.ListN.{length};
 ghost use Rattle.lists.specs.Lists.{cell, tab};
 ghost use Rattle.words.specs.Words.{AllCanonical};
-ghost use Rattle.matrix.specs.Matrix.{entry, timesColumn};
-ghost use Rattle.table.specs.Table.{unlike, firstUnlike, tableTest, prepared, Prepares};
-use field::Fp;
+ghost use Rattle.matrix.specs.Matrix.{entry, product, identity};
+ghost use Rattle.table.specs.Table.{firstUnlike, tableTest, prepared, Prepares};
 use refusals::Answer;
 use refusals::Refusal;
 
@@ -24,43 +23,44 @@ fn column(n: &[u64], k: usize) -> [u64; 12]
     out
 }
 
-// Row i of a 12 × 12 matrix times a column.
-fn dot(m: &[u64], i: usize, x: [u64; 12]) -> u64
-    requires { ⌜ (length (now m) ≡ 144) × AllCanonical (now m) × (i < 12) × AllCanonical x ⌝ }
-    ensures { λ r. ⌜ r ≡ timesColumn 12 (entry (now (m .entry))) (cell x) i ⌝ }
+// m times n, column by column: cell (i, k) stands at 12 * k + i.
+fn product_columns(m: &[u64], n: &[u64]) -> [u64; 144]
+    requires { ⌜ (length (now m) ≡ 144) × AllCanonical (now m) × (length (now n) ≡ 144) × AllCanonical (now n) ⌝ }
+    ensures { λ r. ⌜ r ≡ tab 144 (λ t. product 12 (entry (now (m .entry))) (entry (now (n .entry))) (t % 12) (t / 12)) ⌝ }
 {
-    let mut sum = Fp::ZERO;
-    let mut j: usize = 0;
-    while j < 12 {
-        let a = Fp(m[12 * i + j]);
-        let b = Fp(x[j]);
-        sum = sum.add(a.mul(b));
-        j += 1;
+    let mut out = [0u64; 144];
+    let mut k: usize = 0;
+    while k < 12 {
+        let x = matrix::times(m, column(n, k));
+        let mut i: usize = 0;
+        while i < 12 {
+            out[12 * k + i] = x[i];
+            i += 1;
+        }
+        k += 1;
     }
-    sum.0
+    out
 }
 
-// Whether cell c of M times the stored inverse is unlike the identity's.
-fn is_unlike(table: &[u64], c: usize) -> bool
-    requires { ⌜ (length (now table) ≡ 540) × AllCanonical (now table) × (c < 144) ⌝ }
-    ensures { λ r. ⌜ r ≡ unlike (now (table .entry)) c ⌝ }
+fn identity(i: usize, k: usize) -> u64
+    ensures { λ r. ⌜ r ≡ identity i k ⌝ }
 {
-    let m = &table[0..144];
-    let n = &table[144..288];
-    let row = c / 12;
-    let k = c % 12;
-    let value = dot(m, row, column(n, k));
-    if row == k { value != 1 } else { value != 0 }
+    if i == k { 1 } else { 0 }
 }
 
-// The first such cell, row by row, or 144.
+// The first cell, row by row, in which M times the stored inverse is unlike the identity, or 144.
 fn first_unlike(table: &[u64]) -> usize
     requires { ⌜ (length (now table) ≡ 540) × AllCanonical (now table) ⌝ }
     ensures { λ r. ⌜ r ≡ firstUnlike (now (table .entry)) ⌝ }
 {
+    let m = &table[0..144];
+    let n = &table[144..288];
+    let product = product_columns(m, n);
     let mut c: usize = 0;
     while c < 144 {
-        if is_unlike(table, c) {
+        let row = c / 12;
+        let k = c % 12;
+        if product[12 * k + row] != identity(row, k) {
             return c;
         }
         c += 1;

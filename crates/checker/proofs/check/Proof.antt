@@ -47,7 +47,7 @@ judge-requires : tie.Need-judge-requires
 judge-requires c κs =
     let d = c .before .before .before in
     let b = batches _ (d .trace-batches .ensures) (c .before .counted .given .1) in
-    (is-table _ (d .before .before .before .test .ensures) (d .before .enum-told .given .1), b .0, b .1)
+    (is-table _ (d .before .before .before .test .ensures) (d .before .enum-told .given .1), b .0, b .2)
 
 returns-3 : tie.Need-returns-3
 unfolding checkAnswer

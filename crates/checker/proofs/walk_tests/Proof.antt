@@ -6,23 +6,16 @@ use Prim.Native.Nat.{ℕ, _+_, _-_, _*_, _≤_, _<_}
 use native.Mathlib.Nat.{sub-zero}
 use borrow.Author.Tests.{not-true, not-false}
 use Rattle.constraints.specs.Constraints.{verdict}
-use Rattle.checker.specs.Compared.{InTrace, Compared, Tested}
+use Rattle.rowtests.proofs.SpanLaws.{spans-of}
 use Rattle.checker.proofs.WalkSteps.{rows as from-row, left, start, skip, pass, fail, enter, leave, done}
 use borrow.Author.Needs.{needs}
 use native.Mathlib.Omega.{arith}
 use Rattle.checker.proofs.walk_tests.Statement.{statement}
 use Rattle.checker.proofs.walk_tests.Tie as tie
-use Rattle.checker.proofs.walk_tests.Reads as reads
-use Rattle.checker.proofs.walk_tests.Lts as lts
-use Rattle.checker.proofs.applies.Reads as applies-reads
-use Rattle.checker.proofs.back_after.Reads as back-after-reads
-use Rattle.checker.proofs.forward_of.Reads as forward-of-reads
-use Rattle.checker.proofs.holds.Reads as holds-reads
-use Rattle.checker.proofs.span_of.Reads as span-of-reads
 
 abbrev Inv-loop : tie.InvT-loop
 Inv-loop table trace claim k rows tests₀ i row forward back last constraint₀ tests constraint =
-    (1 ≤ constraint) × (constraint ≤ last + 1) × (tests < 52 * i + constraint) × (left table trace claim k i constraint (rows - (i + 1)) tests ≡ verdict table trace claim k)
+    (1 ≤ constraint) × (constraint ≤ last + 1) × (last ≤ 52) × (tests < 52 * i + constraint) × (left table trace claim k i constraint (rows - (i + 1)) tests ≡ verdict table trace claim k)
 
 abbrev μ-loop : tie.MeasureT-loop
 μ-loop table trace claim k rows tests₀ i row forward back last constraint₀ tests constraint = last + 1 - constraint
@@ -56,8 +49,8 @@ loop-holds : tie.Need-loop-holds Inv-loop μ-loop Inv-walk μ-walk
 loop-holds c =
     let a = c .before .before .before .before .before .before .before .args in
     let w = c .before .before .before .before .walk in
-    let s = c .span-of .ensures in
-    (s .from-one, omega arith, omega arith, sym (enter (a .table .now) (a .trace .now) (a .claim .now) (a .k) (w .i) _ _ s (32 * a .k) (w .tests) (c .before .before .before .if1 .left)) ∙ w .inv .2)
+    let s = spans-of (w .i) (c .span-of .ensures .0) (c .span-of .ensures .1) in
+    (s .from-one, omega (arith, s .some), s .to-last, omega (arith, s .from-one), sym (enter (a .table .now) (a .trace .now) (a .claim .now) (a .k) (w .i) _ _ s (32 * a .k) (w .tests) (c .before .before .before .if1 .left)) ∙ w .inv .2)
 
 applies-requires : tie.Need-applies-requires Inv-loop μ-loop Inv-walk μ-walk
 applies-requires c κs = omega arith
@@ -70,7 +63,8 @@ holds-requires c κs =
     let a = c .before .before .before .before .before .before .before .before .before .before .before .before .before in (
       a .pre .0,
       record { place = record { k = a .args .k; canonical = a .pre .1; size = a .pre .2; few = a .pre .3; inside = c .before .before .before .before .before .before .before .before .before .if1 .left }; applied = sym (c .before .before .before .applies .ensures) ∙ c .before .before .if2 .taken },
-      record { ahead = c .before .before .before .before .before .before .before .before .forward-of .ensures; behind = c .before .before .before .before .before .before .before .back-after .ensures },
+      c .before .before .before .before .before .before .before .before .forward-of .ensures,
+      c .before .before .before .before .before .before .before .back-after .ensures,
     )
 
 add-constraint : tie.Need-add-constraint Inv-loop μ-loop Inv-walk μ-walk
@@ -89,16 +83,18 @@ loop-again c =
     (λ w. (
       omega arith,
       omega arith,
+      l .inv .2,
       omega arith,
       rw (w .5)
-          (sym (pass (a .table .now) (a .trace .now) (a .claim .now) (a .k) i (l .constraint) m (l .tests) (omega arith) (sym (c .before .applies .ensures) ∙ w .0 .taken) (sym (w .3 .ensures) ∙ not-false _ (w .4 .left))) ∙ l .inv .3),
+          (sym (pass (a .table .now) (a .trace .now) (a .claim .now) (a .k) i (l .constraint) m (l .tests) (omega arith) (sym (c .before .applies .ensures) ∙ w .0 .taken) (sym (w .3 .ensures) ∙ not-false _ (w .4 .left))) ∙ l .inv .4),
     ))
     (λ w. (
       omega arith,
       omega arith,
+      l .inv .2,
       omega arith,
       rw (w .1)
-          (sym (skip (a .table .now) (a .trace .now) (a .claim .now) (a .k) i (l .constraint) m (l .tests) (omega arith) (sym (c .before .applies .ensures) ∙ w .0 .left)) ∙ l .inv .3),
+          (sym (skip (a .table .now) (a .trace .now) (a .claim .now) (a .k) i (l .constraint) m (l .tests) (omega arith) (sym (c .before .applies .ensures) ∙ w .0 .left)) ∙ l .inv .4),
     ))
     (c .if2 .came)
 
@@ -113,8 +109,8 @@ walk-again c =
     let a = c .before .before .before .before .before .before .before .before .before .args in
     let i = c .before .before .before .before .before .before .walk .i in
     let l = c .before .loop in
-    let s = c .before .before .span-of .ensures in
-    (omega arith, omega arith, sym (leave (a .table .now) (a .trace .now) (a .claim .now) (a .k) i _ _ s (l .constraint) (32 * a .k - (i + 1)) (l .tests) (c .loop-test .left) (omega arith)) ∙ l .inv .3)
+    let s = spans-of i (c .before .before .span-of .ensures .0) (c .before .before .span-of .ensures .1) in
+    (omega arith, omega arith, sym (leave (a .table .now) (a .trace .now) (a .claim .now) (a .k) i _ _ s (l .constraint) (32 * a .k - (i + 1)) (l .tests) (c .loop-test .left) (omega arith)) ∙ l .inv .4)
 
 returns : tie.Need-returns Inv-loop μ-loop Inv-walk μ-walk
 returns c =
@@ -127,7 +123,7 @@ returns-2 c =
     let a = c .before .before .before .before .before .before .before .before .before .before .before .before .before .before .before .args in
     let i = c .before .before .before .before .before .before .before .before .before .before .before .before .walk .i in
     let l = c .before .before .before .before .before .before .before .loop in
-    sym (fail (a .table .now) (a .trace .now) (a .claim .now) (a .k) i (l .constraint) (32 * a .k - (i + 1)) (l .tests) (omega arith) (sym (c .before .before .before .before .before .applies .ensures) ∙ c .before .before .before .before .if2 .taken) (sym (c .before .holds .ensures) ∙ not-true _ (c .if3 .taken))) ∙ l .inv .3
+    sym (fail (a .table .now) (a .trace .now) (a .claim .now) (a .k) i (l .constraint) (32 * a .k - (i + 1)) (l .tests) (omega arith) (sym (c .before .before .before .before .before .applies .ensures) ∙ c .before .before .before .before .if2 .taken) (sym (c .before .holds .ensures) ∙ not-true _ (c .if3 .taken))) ∙ l .inv .4
 
 pub walk-tests-spec : {M : Type 1} → statement M
 walk-tests-spec =

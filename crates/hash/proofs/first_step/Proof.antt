@@ -5,7 +5,7 @@ use Prim.Native.Nat.{_+_, _*_}
 use native.Mathlib.Omega.{arith}
 use borrow.Author.Needs.{needs}
 use Rattle.table.specs.Table.{constant}
-use Rattle.hash.specs.Hash.{plus, mix, firstStep}
+use Rattle.hash.specs.Hash.{roots, plus, mix, firstStep}
 use Rattle.hash.proofs.States.{roots-state, mix-state}
 use Rattle.hash.proofs.CodeStates.{canonical-state}
 use Rattle.hash.proofs.first_step.Statement.{statement}
@@ -15,7 +15,8 @@ roots-requires : tie.Need-roots-requires
 roots-requires c κs = search needs
 
 mix-requires : tie.Need-mix-requires
-mix-requires c κs = (c .before .before .pre .0, canonical-state (c .roots .ensures) (roots-state _))
+unfolding roots
+mix-requires c κs = (c .before .before .pre .0, canonical-state (c .roots .ensures) (roots-state (c .before .before .args .s)))
 
 mul-plus-constant : tie.Need-mul-plus-constant
 mul-plus-constant c = search needs
@@ -27,7 +28,7 @@ plus-constant-requires : tie.Need-plus-constant-requires
 plus-constant-requires c κs = (c .before .before .before .pre .0, omega arith, canonical-state (c .mix .ensures) (mix-state _ _))
 
 returns : tie.Need-returns
-unfolding firstStep
+unfolding firstStep roots
 returns c =
     let a = c .before .before .before .before .args in
     let k = constant (a .table .now) (2 * a .round + 1) in

@@ -5,33 +5,80 @@ use mathlib.Core.Bool.{false}
 use Prim.Native.Nat.{ℕ, _-_, _≤_, _<_}
 use native.Mathlib.Omega.{arith}
 use borrow.Author.Count.{below-more}
-use Rattle.table.specs.Table.{unlike}
-use Rattle.table.proofs.Tested.{stops, passes}
+use lib.ListN.{length}
+use Rattle.words.specs.Words.{AllCanonical}
+use Rattle.table.specs.Table.{matrixOf, inverseOf, unlike}
+use Rattle.table.proofs.Parts.{length-matrix, matrix-canonical, length-inverse, inverse-canonical}
+use Rattle.table.proofs.Tested.{at-cell, unlike-yes, unlike-no, stops, passes}
 use borrow.Author.Needs.{needs}
 use Rattle.table.proofs.first_unlike.Statement.{statement}
 use Rattle.table.proofs.first_unlike.Tie as tie
 
 abbrev Inv-loop : tie.InvT-loop
-Inv-loop table c₀ c =
+Inv-loop table product c₀ c =
     (c ≤ 144) × ((d : ℕ) → d < c → unlike table d ≡ false)
 
 abbrev μ-loop : tie.MeasureT-loop
-μ-loop table c₀ c =
+μ-loop table product c₀ c =
     144 - c
+
+sub-m : tie.Need-sub-m Inv-loop μ-loop
+sub-m c = search needs
+
+part-m-start : tie.Need-part-m-start Inv-loop μ-loop
+part-m-start c = search needs
+
+part-m-end : tie.Need-part-m-end Inv-loop μ-loop
+part-m-end c = search needs
+
+sub-n : tie.Need-sub-n Inv-loop μ-loop
+sub-n c = search needs
+
+part-n-start : tie.Need-part-n-start Inv-loop μ-loop
+part-n-start c = search needs
+
+part-n-end : tie.Need-part-n-end Inv-loop μ-loop
+part-n-end c = search needs
+
+product-columns-requires : tie.Need-product-columns-requires Inv-loop μ-loop
+unfolding matrixOf inverseOf
+product-columns-requires c κs =
+    let s = c .before .before .before in
+    let t = s .args .table .now in
+    let a : length (matrixOf t) ≡ 144 = length-matrix t (s .pre .0) in
+    let b : length (inverseOf t) ≡ 144 = length-inverse t (s .pre .0) in
+    let d : AllCanonical (matrixOf t) = matrix-canonical t (s .pre .0) (s .pre .1) in
+    let e : AllCanonical (inverseOf t) = inverse-canonical t (s .pre .0) (s .pre .1) in
+    search needs
 
 loop-holds : tie.Need-loop-holds Inv-loop μ-loop
 loop-holds c =
     (omega arith, λ d h. absurd (omega arith))
 
-is-unlike-requires : tie.Need-is-unlike-requires Inv-loop μ-loop
-is-unlike-requires c κs =
-    let s = c .before .before .before in
-    (s .pre .0, s .pre .1, omega arith)
+mul-if1 : tie.Need-mul-if1 Inv-loop μ-loop
+mul-if1 c = search needs
+
+add-if1 : tie.Need-add-if1 Inv-loop μ-loop
+add-if1 c = search needs
+
+mul-if1-2 : tie.Need-mul-if1-2 Inv-loop μ-loop
+mul-if1-2 c = search needs
+
+array-read-if1 : tie.Need-array-read-if1 Inv-loop μ-loop
+array-read-if1 c = search needs
+
+identity-requires : tie.Need-identity-requires Inv-loop μ-loop
+identity-requires c κs =
+    search needs
 
 returns : tie.Need-returns Inv-loop μ-loop
+unfolding matrixOf inverseOf
 returns c =
+    let p = c .before .before .before .before in
+    let t = p .before .before .before .before .args .table .now in
     let l = c .before .before .before .loop in
-    stops _ (l .c) (omega arith) (l .inv .1) (sym (c .before .is-unlike .ensures) ∙ c .if1 .taken)
+    let value = at-cell (matrixOf t) (inverseOf t) _ (l .c) (omega arith) (p .product-columns .ensures) in
+    stops t (l .c) (omega arith) (l .inv .1) (unlike-yes t (l .c) _ _ value (c .before .identity .ensures) (c .if1 .taken))
 
 add-c : tie.Need-add-c Inv-loop μ-loop
 add-c c = search needs
@@ -40,9 +87,13 @@ loop-less : tie.Need-loop-less Inv-loop μ-loop
 loop-less c = search needs
 
 loop-again : tie.Need-loop-again Inv-loop μ-loop
+unfolding matrixOf inverseOf
 loop-again c =
+    let p = c .before .before .before .before in
+    let t = p .before .before .before .before .args .table .now in
     let l = c .before .before .before .loop in
-    (omega arith, below-more _ _ (l .inv .1) (sym (c .before .is-unlike .ensures) ∙ c .if1 .left))
+    let value = at-cell (matrixOf t) (inverseOf t) _ (l .c) (omega arith) (p .product-columns .ensures) in
+    (omega arith, below-more _ _ (l .inv .1) (unlike-no t (l .c) _ _ value (c .before .identity .ensures) (c .if1 .left)))
 
 returns-2 : tie.Need-returns-2 Inv-loop μ-loop
 returns-2 c =
@@ -56,8 +107,19 @@ first-unlike-spec =
     (tie.spec
     Inv-loop
     μ-loop
+    sub-m
+    part-m-start
+    part-m-end
+    sub-n
+    part-n-start
+    part-n-end
+    product-columns-requires
     loop-holds
-    is-unlike-requires
+    mul-if1
+    add-if1
+    mul-if1-2
+    array-read-if1
+    identity-requires
     returns
     add-c
     loop-less

@@ -1,0 +1,54 @@
+-- `readoff::read_input` meets its contract.
+-- Assumes nothing.
+use Rattle.readoff.proofs.ReadLaws.{input-row, row-read, back-read, back-canonical}
+use native.Mathlib.Omega.{arith}
+use borrow.Author.Needs.{needs}
+use Rattle.readoff.proofs.read_input.Statement.{statement}
+use Rattle.readoff.proofs.read_input.Tie as tie
+
+row-requires : tie.Need-row-requires
+row-requires c κs = search needs
+
+cells-requires : tie.Need-cells-requires
+cells-requires c κs = input-row _ _ (c .before .before .before .before .before .before .pre .1) (omega arith)
+
+returns : tie.Need-returns
+returns c =
+    let r = c .before in
+    row-read _ _ _ _ (r .before .if1 .taken) (r .row .ensures) (c .cells .ensures .0)
+
+mul-row : tie.Need-mul-row
+mul-row c = omega arith
+
+add-row : tie.Need-add-row
+add-row c = omega arith
+
+row-requires-2 : tie.Need-row-requires-2
+row-requires-2 c κs = search needs
+
+back-requires : tie.Need-back-requires
+back-requires c κs =
+    let p = c .before .before .before .before .before .before .pre in
+    (p .0, input-row _ _ (p .1) (omega arith), omega arith)
+
+less-constant-requires : tie.Need-less-constant-requires
+less-constant-requires c κs = (c .before .before .before .before .before .before .before .pre .0, omega arith, back-canonical _ _ _ (c .back .ensures))
+
+returns-2 : tie.Need-returns-2
+returns-2 c =
+    let r = c .before .before in
+    back-read _ _ _ _ (r .before .if1 .left) (r .row2 .ensures) (c .before .back .ensures) (c .less-constant .ensures .0)
+
+pub read-input-spec : {M : Type 1} → statement M
+read-input-spec =
+    tie.close
+    (tie.spec
+    row-requires
+    cells-requires
+    returns
+    mul-row
+    add-row
+    row-requires-2
+    back-requires
+    less-constant-requires
+    returns-2)

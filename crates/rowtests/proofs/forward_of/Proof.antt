@@ -1,0 +1,28 @@
+-- `rowtests::forward_of` meets its contract.
+-- Assumes nothing.
+use mathlib.Core.Path.{subst}
+use Prim.Native.Nat.{_≤_}
+use Rattle.rowtests.proofs.Holding.{has-row, no-forward-0, no-forward-31, some-forward}
+use borrow.Author.Needs.{needs}
+use Rattle.rowtests.proofs.forward_of.Statement.{statement}
+use Rattle.rowtests.proofs.forward_of.Tie as tie
+
+within-requires : tie.Need-within-requires
+within-requires c κs = search needs
+
+returns : tie.Need-returns
+returns c = no-forward-0 _ _ _ (c .before .within .ensures) (c .if1 .taken)
+
+returns-2 : tie.Need-returns-2
+returns-2 c = no-forward-31 _ _ _ (c .before .before .within .ensures) (c .if2 .taken)
+
+forward-requires : tie.Need-forward-requires
+forward-requires c κs =
+    let p = c .before .before .before .before .before .pre in
+    (p .0, has-row (p .1), subst (λ w. 1 ≤ w) (c .before .before .within .ensures) (c .before .if1 .left))
+
+returns-3 : tie.Need-returns-3
+returns-3 c = some-forward _ _ _ (c .before .before .before .within .ensures) (c .before .before .if1 .left) (c .before .if2 .left) (c .forward .ensures)
+
+pub forward-of-spec : {M : Type 1} → statement M
+forward-of-spec = tie.close (tie.spec within-requires returns returns-2 forward-requires returns-3)

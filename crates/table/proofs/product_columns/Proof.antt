@@ -1,0 +1,119 @@
+-- `table::product_columns` meets its contract: the cells passed are those of the product.
+-- Assumes nothing.
+use Prim.Native.Nat.{_+_, _*_, _-_, _≤_}
+use mathlib.Core.Path.{refl}
+use native.Mathlib.Omega.{arith}
+use Rattle.lists.proofs.Tab.{tab-unique}
+use Rattle.table.proofs.Tested.{column-canonical, CellsTo, cells-at, cells-more, byColumns, next-cell}
+use borrow.Author.Needs.{needs}
+use Rattle.table.proofs.product_columns.Statement.{statement}
+use Rattle.table.proofs.product_columns.Tie as tie
+
+abbrev Inv-loop2 : tie.InvT-loop2
+Inv-loop2 m n out₀ k x i₀ out i =
+    (i ≤ 12) × CellsTo (12 * k + i) (byColumns m n) out
+
+abbrev μ-loop2 : tie.MeasureT-loop2
+μ-loop2 m n out₀ k x i₀ out i =
+    12 - i
+
+abbrev Inv-loop : tie.InvT-loop
+Inv-loop m n out₀ k₀ out k =
+    (k ≤ 12) × CellsTo (12 * k) (byColumns m n) out
+
+abbrev μ-loop : tie.MeasureT-loop
+μ-loop m n out₀ k₀ out k =
+    12 - k
+
+loop-holds : tie.Need-loop-holds Inv-loop2 μ-loop2 Inv-loop μ-loop
+loop-holds c =
+    (omega arith, record { size = refl; same = λ d h. absurd (omega arith) })
+
+column-requires : tie.Need-column-requires Inv-loop2 μ-loop2 Inv-loop μ-loop
+column-requires c κs =
+    (c .before .before .before .before .pre .2, omega arith)
+
+times-requires : tie.Need-times-requires Inv-loop2 μ-loop2 Inv-loop μ-loop
+times-requires c κs =
+    let s = c .before .before .before .before .before in
+    (s .pre .0, s .pre .1, column-canonical (s .args .n .now) _ (c .before .before .loop .k) (s .pre .2) (s .pre .3) (omega arith) (c .column .ensures))
+
+loop2-holds : tie.Need-loop2-holds Inv-loop2 μ-loop2 Inv-loop μ-loop
+loop2-holds c =
+    let l = c .before .before .before .loop in
+    (omega arith, cells-at (12 * l .k) (12 * l .k + 0) _ (l .out) (omega arith) (l .inv .1))
+
+mul-out : tie.Need-mul-out Inv-loop2 μ-loop2 Inv-loop μ-loop
+mul-out c = search needs
+
+array-read-out : tie.Need-array-read-out Inv-loop2 μ-loop2 Inv-loop μ-loop
+array-read-out c = search needs
+
+mul-out-2 : tie.Need-mul-out-2 Inv-loop2 μ-loop2 Inv-loop μ-loop
+mul-out-2 c = search needs
+
+add-out : tie.Need-add-out Inv-loop2 μ-loop2 Inv-loop μ-loop
+add-out c = search needs
+
+mul-out-3 : tie.Need-mul-out-3 Inv-loop2 μ-loop2 Inv-loop μ-loop
+mul-out-3 c = search needs
+
+array-write-out : tie.Need-array-write-out Inv-loop2 μ-loop2 Inv-loop μ-loop
+array-write-out c = search needs
+
+add-i : tie.Need-add-i Inv-loop2 μ-loop2 Inv-loop μ-loop
+add-i c = search needs
+
+loop2-less : tie.Need-loop2-less Inv-loop2 μ-loop2 Inv-loop μ-loop
+loop2-less c = search needs
+
+loop2-again : tie.Need-loop2-again Inv-loop2 μ-loop2 Inv-loop μ-loop
+loop2-again c =
+    let s = c .before .before .before .before .before .before .before .before .args in
+    let k = c .before .before .before .before .before .loop .k in
+    let l = c .before .loop2 in
+    let next = next-cell (s .m .now) (s .n .now) _ _ k (l .i) (omega arith) (c .before .before .before .column .ensures) (c .before .before .times .ensures .0) in
+    (omega arith, cells-at (12 * k + l .i + 1) (12 * k + (l .i + 1)) _ _ (omega arith) (cells-more _ _ _ _ (omega arith) (l .inv .1) next))
+
+add-k : tie.Need-add-k Inv-loop2 μ-loop2 Inv-loop μ-loop
+add-k c = search needs
+
+loop-less : tie.Need-loop-less Inv-loop2 μ-loop2 Inv-loop μ-loop
+loop-less c = search needs
+
+loop-again : tie.Need-loop-again Inv-loop2 μ-loop2 Inv-loop μ-loop
+loop-again c =
+    let k = c .before .before .before .before .before .loop .k in
+    let l = c .before .loop2 in
+    (omega arith, cells-at (12 * k + l .i) (12 * (k + 1)) _ (l .out) (omega arith) (l .inv .1))
+
+returns : tie.Need-returns Inv-loop2 μ-loop2 Inv-loop μ-loop
+returns c =
+    let l = c .before .loop in
+    tab-unique 144 (l .out) _ (l .inv .1 .size) (λ t h. l .inv .1 .same t (omega arith))
+
+pub product-columns-spec : {M : Type 1} → statement M
+product-columns-spec =
+    tie.close
+    (tie.spec
+    Inv-loop2
+    μ-loop2
+    Inv-loop
+    μ-loop
+    loop-holds
+    column-requires
+    times-requires
+    loop2-holds
+    mul-out
+    array-read-out
+    mul-out-2
+    add-out
+    mul-out-3
+    array-write-out
+    add-i
+    loop2-less
+    loop2-again
+    add-k
+    loop-less
+    loop-again
+    returns)

@@ -1,0 +1,69 @@
+// The batch view: rows of one batch, read out of the lent trace without copying it (document 01, "The trace", "The form each place takes").
+ghost use mathlib.Core.Path.{_≡_};
+ghost use Prim.Native.Nat.{_+_, _*_, _<_, _≤_, _^_};
+ghost use lib.ListN.{length};
+ghost use Rattle.constraints.specs.Constraints.{row};
+ghost use Rattle.view.specs.Lent.{LentRow};
+use counts::BatchNumber;
+use counts::RowNumber;
+
+// The lent trace, at one of its batches.
+pub struct Batch<'a> {
+    pub trace: &'a [u64],
+    pub batch: BatchNumber,
+}
+
+// The work: row `within` of the batch.
+pub fn row_at(trace: &[u64], batch: BatchNumber, within: usize) -> &[u64]
+    requires { ⌜ LentRow (now trace) (batch .0) within ⌝ }
+    ensures { λ r. ⌜ now r ≡ row (now (trace .entry)) (32 * batch .0 + within) ⌝ }
+{
+    let row = batch.row(within);
+    let start = row.start();
+    let end = start + 12;
+    &trace[start..end]
+}
+
+pub fn view<'a>(trace: &'a [u64], batch: BatchNumber) -> Batch<'a>
+    ensures { λ r. ⌜ (r .trace ≡ trace .entry) × (r .batch ≡ batch) ⌝ }
+{
+    Batch { trace, batch }
+}
+
+pub fn row<'a>(b: Batch<'a>, within: usize) -> &'a [u64]
+    requires { ⌜ LentRow (now (b .trace)) (b .batch .0) within ⌝ }
+    ensures { λ r. ⌜ now r ≡ row (now (b .entry .trace)) (32 * b .entry .batch .0 + within) ⌝ }
+{
+    row_at(b.trace, b.batch, within)
+}
+
+// The same with plain parameters: whoever calls this one needs no walk.
+pub fn row_of(trace: &[u64], batch: BatchNumber, within: usize) -> &[u64]
+    requires { ⌜ LentRow (now trace) (batch .0) within ⌝ }
+    ensures { λ r. ⌜ now r ≡ row (now (trace .entry)) (32 * batch .0 + within) ⌝ }
+{
+    row(view(trace, batch), within)
+}
+
+// Row `number` of the whole trace, through the view of its batch.
+pub fn trace_row(trace: &[u64], number: RowNumber) -> &[u64]
+    requires { ⌜ (number .0 < 2 ^ 37) × (12 * number .0 + 12 ≤ length (now trace)) ⌝ }
+    ensures { λ r. ⌜ now r ≡ row (now (trace .entry)) (number .0) ⌝ }
+{
+    row_of(trace, number.batch(), number.within())
+}
+
+// The twelve cells of that row, by value.
+pub fn cells(trace: &[u64], number: RowNumber) -> [u64; 12]
+    requires { ⌜ (number .0 < 2 ^ 37) × (12 * number .0 + 12 ≤ length (now trace)) ⌝ }
+    ensures { λ r. ⌜ r ≡ row (now (trace .entry)) (number .0) ⌝ }
+{
+    let lent = trace_row(trace, number);
+    let mut out = [0u64; 12];
+    let mut j: usize = 0;
+    while j < 12 {
+        out[j] = lent[j];
+        j += 1;
+    }
+    out
+}
