@@ -4,7 +4,7 @@ use libc::STDOUT_FILENO;
 
 fn main() {
     // One byte more than the longest input: so many bytes are too long, whatever follows them.
-    let mut input = [0u8; 5573];
+    let mut input = [0u8; clearing::LONGEST + 1];
     let read = io::read_full(STDIN_FILENO, &mut input);
     let outcome = clearing::clear(&input[..read]);
     let mut line = [0u8; 80];

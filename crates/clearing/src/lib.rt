@@ -14,6 +14,12 @@ use refusals::Digest;
 use refusals::Digested;
 use refusals::Refusal;
 
+// A raw table: 396 words of 8 bytes.
+const TABLE_BYTES: usize = 396 * 8;
+
+// The longest input: a table, and a file of 16 batches.
+pub const LONGEST: usize = TABLE_BYTES + 144 * 16 + 100;
+
 // Word j of the raw table: 8 bytes, low byte first.
 fn raw_word(input: &[u8], j: usize) -> u64
     requires { ⌜ 8 * j + 8 ≤ length (now input) ⌝ }
@@ -115,15 +121,15 @@ fn clear_file(table: &[u64], file: &[u8]) -> Outcome
 pub fn clear(input: &[u8]) -> Outcome
     ensures { λ r. ⌜ Clears (now (input .entry)) r ⌝ }
 {
-    if input.len() < 3168 {
+    if input.len() < TABLE_BYTES {
         return Outcome::Refused(Refusal::TableLength);
     }
-    if 5572 < input.len() {
+    if LONGEST < input.len() {
         return Outcome::TooLong;
     }
     let mut table = table_room();
     match prepare(input, &mut table) {
-        Answer::Accepted => clear_file(&table, &input[3168..]),
+        Answer::Accepted => clear_file(&table, &input[TABLE_BYTES..]),
         Answer::Refused(refusal) => Outcome::Refused(refusal),
     }
 }
