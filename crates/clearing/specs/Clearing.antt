@@ -14,9 +14,10 @@ use Rattle.refusals.specs.declared.Answer.the-variants as answer
 use Rattle.refusals.specs.declared.Checked.{Checked}
 use Rattle.refusals.specs.declared.Checked.the-variants as checked
 use Rattle.table.specs.Table.{Prepares}
+use Rattle.hash.specs.Hash.{chain}
 use Rattle.trace.specs.Trace.{trace}
 use Rattle.constraints.specs.Constraints.{verdict}
-use Rattle.board.specs.Board.{batchesIn, tapsIn, claimIn, unpackTest}
+use Rattle.board.specs.Board.{batchesIn, tapsIn, claimIn, unpackTest, IsBoard}
 use Rattle.outcome.specs.declared.Outcome.{Outcome}
 use Rattle.outcome.specs.declared.Outcome.the-variants.{Accepted, Refused, TooLong}
 
@@ -63,7 +64,29 @@ pub data Clears (input : List ℕ) : Outcome → Type 0 where
   turned-back : 3168 ≤ length input → length input ≤ 5572 → (r : Refusal) → Prepares (rawIn input) unprepared (answer.Refused r) unprepared → Clears input (Refused r)
   judged : 3168 ≤ length input → length input ≤ 5572 → (T : List ℕ) → Prepares (rawIn input) unprepared answer.Accepted T → Clears input (cleared T (fileIn input))
 
--- the words of a list of taps that an accepted file of k batches holds, k at most 16
+-- ---- what the answers mean
+
+-- table and file are accepted
+pub record IsJudged (input T : List ℕ) (k : ℕ) : Type 0 where
+  pub low : 3168 ≤ length input
+  pub high : length input ≤ 5572
+  pub prepared : Prepares (rawIn input) unprepared answer.Accepted T
+  pub board : IsBoard (fileIn input) k
+
+-- and under that table the file's taps chain to its claim
+pub record IsCleared (input : List ℕ) (k : ℕ) : Type 0 where
+  pub table : List ℕ
+  pub accepted : IsJudged input table k
+  pub chains : chain table (tapsIn (fileIn input)) k ≡ claimIn (fileIn input)
+
+-- or come to an output whose word j is another than the claim's
+pub record IsUnlike (input : List ℕ) (k j : ℕ) : Type 0 where
+  pub table : List ℕ
+  pub accepted : IsJudged input table k
+  pub word : j < 4
+  pub other : cell (chain table (tapsIn (fileIn input)) k) j ≡ cell (claimIn (fileIn input)) j → ⊥
+
+-- ---- what the stages hand on: the words of a list of taps that an accepted file of k batches holds, k at most 16
 pub record Taps (w : List ℕ) : Type 0 where
   pub size : length w ≡ 12 * (length w / 12) + 4
   pub permitted : IsPermitted (length w / 12)
