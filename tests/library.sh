@@ -16,6 +16,6 @@ echo "examples/c/known_days.c: as expected"
 
 cd rust
 cargo run --quiet --offline -p lemoncolumn --example day >"$room/day"
-diff "$room/day" lemoncolumn/examples/day.expected
-echo "the Rust example: as expected"
+diff "$room/day" ../examples/rust/day.expected
+echo "examples/rust/day.rs: as expected"
 cargo test --quiet --offline --workspace -- --nocapture

@@ -17,6 +17,10 @@ use timing::Table;
 fn main() {
     let mut table = Table::new();
     field::measure(&mut table);
-    operations::measure(&mut table);
+    let growth = operations::measure(&mut table);
     table.print();
+    println!("\ntime of a batch at k = 1024, of that at k = 64");
+    for (operation, growth) in growth {
+        println!("{operation:<34} {growth:>12.3}");
+    }
 }

@@ -60,7 +60,9 @@ impl Day {
     }
 }
 
-pub fn measure(table: &mut Table) {
+/// Measures all operations; answers how the time of a batch grows from k = 64
+/// to k = 1024.
+pub fn measure(table: &mut Table) -> Vec<(&'static str, f64)> {
     let days = [1, 64, 1024].map(Day::new);
     prepare(table, &days[0]);
     hash(table, &days[0]);
@@ -78,11 +80,7 @@ pub fn measure(table: &mut Table) {
             .collect();
         grown.push((name, times[2] / times[1]));
     }
-    println!("time for a batch at k = 1024, of that at k = 64:");
-    for (name, growth) in grown {
-        println!("    {name:<12} {growth:.3}");
-    }
-    println!();
+    grown
 }
 
 fn prepare(table: &mut Table, day: &Day) {
