@@ -1,14 +1,13 @@
 -- The refusals in their order, and what is known of the table and of the taps where a call goes on.
 -- Assumes nothing.
-use mathlib.Core.Path.{_≡_, refl, sym, ap, _∙_}
+use mathlib.Core.Path.{_≡_, sym, ap, _∙_}
 use mathlib.Core.List.{List}
 use Prim.Native.Nat.{ℕ, _+_, _*_, _<_}
 use native.Mathlib.Omega.{arith}
 use borrow.Author.Tests.{eq-eqb, ne-eqb}
-use lib.Dec.{eqb}
 use lib.ListN.{length, take}
 use lib.Seq.{getD-take}
-use Rattle.lists.specs.Lists.{choose, cell}
+use Rattle.lists.specs.Lists.{cell}
 use Rattle.words.specs.Words.{AllCanonical, firstBad}
 use Rattle.words.proofs.Laws.{good-all}
 use Rattle.counts.specs.Counts.{IsPermitted, tapBatches}
@@ -19,7 +18,6 @@ use Rattle.refusals.specs.declared.Refusal.{Refusal}
 use Rattle.refusals.specs.declared.Refusal.the-variants.{TapLength, TapWord}
 use Rattle.refusals.specs.declared.Answer.{Answer}
 use Rattle.refusals.specs.declared.Answer.the-variants as answer
-use Rattle.refusals.specs.declared.Digest.{Digest}
 use Rattle.refusals.specs.declared.Digested.{Digested}
 use Rattle.refusals.specs.declared.Digested.the-variants.{Accepted, Refused}
 use Rattle.refusals.specs.Refusals.{digest, digestedAfter}

@@ -17,7 +17,7 @@ use Rattle.words.specs.Words.{AllCanonical}
 use Rattle.field.specs.Field.{P, add, cube, root}
 use Rattle.field.proofs.Fermat.{root-lt, cube-root}
 use Rattle.matrix.specs.Matrix.{entry, timesColumn, times}
-use Rattle.matrix.proofs.Cells.{cell-times}
+use Rattle.matrix.proofs.States.{cell-times}
 use Rattle.table.specs.Table.{matrixOf, constant}
 use Rattle.hash.specs.Hash.{roots, cubes, plus, mix, firstStep, secondStep, stateAt, middleState, finalState, input, hash}
 use Rattle.hash.proofs.States.{IsState, state-cell, same-cells, cell-roots, cell-cubes, cell-plus, roots-state, cubes-state, stateAt-state, stateAt-zero, stateAt-suc}

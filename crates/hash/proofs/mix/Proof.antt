@@ -1,17 +1,20 @@
 -- `hash::mix` meets its contract: M is the table's first 144 words.
 -- Assumes nothing.
-use mathlib.Core.Path.{sym}
+use borrow.Author.Needs.{needs}
 use Rattle.table.specs.Table.{matrixOf}
 use Rattle.table.proofs.Theorems.{matrix-length, matrix-canonical}
 use Rattle.hash.specs.Hash.{mix}
 use Rattle.hash.proofs.mix.Statement.{statement}
 use Rattle.hash.proofs.mix.Tie as tie
 
-slice-aggregate-times : tie.Need-slice-aggregate-times
-unfolding matrixOf
-slice-aggregate-times c =
-    let a = c .before .before in
-    sym (matrix-length (a .args .table .now) (a .pre .0))
+sub-times : tie.Need-sub-times
+sub-times c = search needs
+
+part-times-start : tie.Need-part-times-start
+part-times-start c = search needs
+
+part-times-end : tie.Need-part-times-end
+part-times-end c = search needs
 
 times-requires : tie.Need-times-requires
 unfolding matrixOf
@@ -24,4 +27,4 @@ unfolding mix matrixOf
 returns c = c .times .ensures .0
 
 pub mix-spec : {M : Type 1} → statement M
-mix-spec = tie.close (tie.spec slice-aggregate-times times-requires returns)
+mix-spec = tie.close (tie.spec sub-times part-times-start part-times-end times-requires returns)

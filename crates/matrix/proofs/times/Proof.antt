@@ -9,7 +9,7 @@ use Rattle.lists.specs.Lists.{cell}
 use Rattle.lists.proofs.Tab.{filled, filled-none, filled-more, filled-all}
 use Rattle.field.specs.Field.{Canonical}
 use Rattle.matrix.specs.Matrix.{entry, timesColumn, times as product-of}
-use Rattle.matrix.proofs.Cells.{times-canonical}
+use Rattle.matrix.proofs.States.{times-canonical}
 use Rattle.matrix.proofs.times.Statement.{statement}
 use Rattle.matrix.proofs.times.Tie as tie
 

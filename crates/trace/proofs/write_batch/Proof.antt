@@ -1,11 +1,11 @@
 -- `trace::write_batch` meets its contract: row 0, the rows of the three hashes, row 31.
 -- Assumes nothing.
-use mathlib.Core.Path.{_≡_, sym, ap, _∙_}
+use mathlib.Core.Path.{_≡_, ap, _∙_}
 use Prim.Native.Nat.{_+_, _*_}
 use native.Mathlib.Omega.{arith}
 use borrow.Author.Needs.{needs}
-use lib.ListN.{length, take}
-use Rattle.hash.specs.Hash.{input, tap, outputAt, finalState}
+use lib.ListN.{take}
+use Rattle.hash.specs.Hash.{input, tap, outputAt}
 use Rattle.trace.specs.Trace.{hashInput}
 use Rattle.trace.specs.Rows.{Writable}
 use Rattle.trace.proofs.WrittenBatches.{still-writable, is-input, is-output, batch-rows}

@@ -1,0 +1,6 @@
+pub mod RawWords
+pub mod Stages
+pub mod BuiltTraces
+pub mod TurnedBack
+pub mod JudgedFiles
+pub mod Theorems

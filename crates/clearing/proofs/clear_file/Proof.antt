@@ -1,0 +1,117 @@
+-- `clearing::clear_file` meets its contract.
+-- Assumes nothing.
+use mathlib.Core.Path.{_≡_, sym, ap, _∙_, subst}
+use mathlib.Core.List.{List, _++_}
+use Prim.Native.Nat.{ℕ, _≤_}
+use native.Mathlib.Omega.{arith}
+use lib.ListN.{length, take, drop}
+use borrow.Author.Needs.{needs}
+use Rattle.words.specs.Words.{AllCanonical}
+use Rattle.refusals.specs.Refusals.{digestedKept}
+use Rattle.refusals.specs.declared.Digest.{Digest}
+use Rattle.refusals.specs.declared.Digested.the-variants.{Accepted}
+use Rattle.board.specs.Board.{tapsIn, unpackAnswer}
+use Rattle.clearing.specs.Clearing.{Taps}
+use Rattle.clearing.proofs.Stages.{length-part, part-again, part-within, length-again, claim-canonical, file-taps, file-board, file-cleared, file-refused}
+use Rattle.clearing.proofs.clear_file.Statement.{statement}
+use Rattle.clearing.proofs.clear_file.Tie as tie
+
+-- where the taps go: the room, the part of it that is lent, and what Unpack leaves there
+abbrev start : tie.After-unpack → tie.Start
+start u = u .before .before .before .before .before .before
+
+abbrev file : tie.After-unpack → List ℕ
+file u = start u .args .file .now
+
+abbrev size : tie.After-unpack → ℕ
+size u = u .before .before .before .tap-words .result
+
+abbrev room : tie.After-unpack → List ℕ
+room u = u .before .before .tap-room .result
+
+abbrev last : tie.After-unpack → List ℕ
+last u = u .unpack .last .1 .0
+
+abbrev kept : (u : tie.After-unpack) → length (last u) ≡ length (take (size u) (room u))
+kept u = u .unpack .kept .1 .0
+
+fits-room : (c : tie.After-tap-room) → c .before .tap-words .result ≤ length (c .tap-room .result)
+fits-room c = omega (arith, c .before .tap-words .ensures, c .tap-room .ensures)
+
+fits : (u : tie.After-unpack) → size u ≤ length (room u)
+fits u = fits-room (u .before .before)
+
+answered : (u : tie.After-unpack) → u .unpack .result ≡ unpackAnswer (file u) (size u)
+answered u = u .unpack .ensures .0 ∙ ap (unpackAnswer (file u)) (length-part (room u) (last u) (size u) (fits u))
+
+-- the part that is lent on holds the file's taps
+taps-there : (u : tie.After-unpack) (d : Digest) → u .unpack .result ≡ Accepted d → take (size u) (last u ++ drop (size u) (room u)) ≡ tapsIn (file u)
+taps-there u d q = part-again (room u) (last u) (size u) (fits u) (kept u) ∙ u .unpack .ensures .1 ∙ ap (λ a. digestedKept a (tapsIn (file u)) (take (size u) (room u))) q
+
+tap-words-requires : tie.Need-tap-words-requires
+tap-words-requires c κs = search needs
+
+tap-room-requires : tie.Need-tap-room-requires
+tap-room-requires c κs = search needs
+
+array-borrow-prefix-taps : tie.Need-array-borrow-prefix-taps
+array-borrow-prefix-taps c = fits-room c
+
+slice-aggregate-unpack : tie.Need-slice-aggregate-unpack
+slice-aggregate-unpack c = sym (length-part (c .before .tap-room .result) (c .before .tap-room .result) (c .before .before .tap-words .result) (fits-room (c .before)))
+
+unpack-requires : tie.Need-unpack-requires
+unpack-requires c κs = search needs
+
+enum-known-claim : tie.Need-enum-known-claim
+enum-known-claim c = search needs
+
+array-share-prefix-taps : tie.Need-array-share-prefix-taps
+array-share-prefix-taps c =
+    let u = c .before .before .before .before in
+    part-within (room u) (last u) (size u) (fits u) (kept u)
+
+slice-aggregate-clear-taps : tie.Need-slice-aggregate-clear-taps
+slice-aggregate-clear-taps c =
+    let u = c .before .before .before .before .before in
+    sym (length-again (room u) (last u) (size u) (fits u) (kept u))
+
+clear-taps-requires : tie.Need-clear-taps-requires
+clear-taps-requires c κs =
+    let u = c .before .before .before .before .before in
+    let d = c .before .before .claim .given .0 .0 in
+    let q = c .before .before .claim .given .1 in
+    let b = file-board (start u .args .table .now) (file u) (size u) (u .before .before .before .tap-words .ensures) (u .unpack .result) (answered u) d q in
+    (start u .pre .0, subst Taps (sym (taps-there u d q)) (file-taps (file u) (b .0) (start u .pre .1)), subst AllCanonical (b .1) (claim-canonical (file u) (b .0)))
+
+enum-known-refusal : tie.Need-enum-known-refusal
+enum-known-refusal c = search needs
+
+returns : tie.Need-returns
+returns c =
+    let u = c .before .before .before .before .before .before in
+    let d = c .before .before .before .claim .given .0 .0 in
+    let q = c .before .before .before .claim .given .1 in
+    file-cleared (start u .args .table .now) (file u) (size u) (u .before .before .before .tap-words .ensures) (u .unpack .result) (answered u) d q _ _ (taps-there u d q) (c .clear-taps .ensures)
+
+returns-2 : tie.Need-returns-2
+returns-2 c =
+    let u = c .before .before .before .before in
+    file-refused (start u .args .table .now) (file u) (size u) (u .before .before .before .tap-words .ensures) (u .unpack .result) (answered u) _ (c .before .refusal .given .1)
+
+pub clear-file-spec : {M : Type 1} → statement M
+clear-file-spec =
+    tie.close
+    (tie.spec
+    tap-words-requires
+    tap-room-requires
+    array-borrow-prefix-taps
+    slice-aggregate-unpack
+    unpack-requires
+    enum-known-claim
+    array-share-prefix-taps
+    slice-aggregate-clear-taps
+    clear-taps-requires
+    enum-known-refusal
+    returns
+    returns-2)

@@ -1,0 +1,20 @@
+-- `clearing::reported` meets its contract.
+-- Assumes nothing.
+use borrow.Author.Needs.{needs}
+use Rattle.clearing.proofs.reported.Statement.{statement}
+use Rattle.clearing.proofs.reported.Tie as tie
+
+enum-known-checked : tie.Need-enum-known-checked
+enum-known-checked c = search needs
+
+enum-known-checked-2 : tie.Need-enum-known-checked-2
+enum-known-checked-2 c = search needs
+
+returns : tie.Need-returns
+returns c = cc
+
+returns-2 : tie.Need-returns-2
+returns-2 c = cc
+
+pub reported-spec : {M : Type 1} → statement M
+reported-spec = tie.close (tie.spec enum-known-checked enum-known-checked-2 returns returns-2)

@@ -1,0 +1,129 @@
+// What the program does, from the bytes on its standard input to its answer (document 01, "The board file").
+ghost use mathlib.Core.Path.{_≡_};
+ghost use Prim.Native.Nat.{_+_, _*_, _/_, _-_, _≤_};
+ghost use lib.ListN.{length};
+ghost use Rattle.words.specs.Words.{AllCanonical};
+ghost use Rattle.table.specs.Table.{IsTable, Prepares};
+ghost use Rattle.board.specs.Board.{claimOf};
+ghost use Rattle.clearing.specs.Clearing.{rawWord, rawIn, reported, checkedTaps, cleared, unprepared, Clears, Taps};
+use fileword::Word;
+use outcome::Outcome;
+use refusals::Answer;
+use refusals::Checked;
+use refusals::Digest;
+use refusals::Digested;
+use refusals::Refusal;
+
+// Word j of the raw table: 8 bytes, low byte first.
+fn raw_word(input: &[u8], j: usize) -> u64
+    requires { ⌜ 8 * j + 8 ≤ length (now input) ⌝ }
+    ensures { λ r. ⌜ r ≡ rawWord (now (input .entry)) j ⌝ }
+{
+    let low = Word::read(input, 2 * j);
+    let high = Word::read(input, 2 * j + 1);
+    (low.0 as u64) | ((high.0 as u64) << 32)
+}
+
+// The raw table, with which the input begins.
+fn read_table(input: &[u8], raw: &mut [u64])
+    requires { ⌜ (3168 ≤ length (now input)) × (length (now raw) ≡ 396) ⌝ }
+    ensures { λ r. ⌜ now (raw .exit) ≡ rawIn (now (input .entry)) ⌝ }
+{
+    let mut j: usize = 0;
+    while j < 396 {
+        raw[j] = raw_word(input, j);
+        j += 1;
+    }
+}
+
+fn prepare(input: &[u8], table: &mut [u64]) -> Answer
+    requires { ⌜ 3168 ≤ length (now input) ⌝ }
+    ensures { λ r. ⌜ Prepares (rawIn (now (input .entry))) (now (table .entry)) r (now (table .exit)) ⌝ }
+{
+    let mut raw = [0u64; 396];
+    read_table(input, &mut raw);
+    table::prepare(&raw, table)
+}
+
+// Room for a prepared table, and for the taps and the trace of 16 batches.
+fn table_room() -> [u64; 540]
+    ensures { λ r. ⌜ r ≡ unprepared ⌝ }
+{
+    [0; 540]
+}
+
+fn tap_room() -> [u64; 196]
+    ensures { λ r. ⌜ length r ≡ 196 ⌝ }
+{
+    [0; 196]
+}
+
+fn trace_room() -> [u64; 6144]
+    ensures { λ r. ⌜ length r ≡ 6144 ⌝ }
+{
+    [0; 6144]
+}
+
+fn reported(k: usize, checked: Checked) -> Outcome
+    ensures { λ r. ⌜ r ≡ reported k checked ⌝ }
+{
+    match checked {
+        Checked::Accepted(tests) => Outcome::Accepted { batches: k, tests },
+        Checked::Refused(refusal) => Outcome::Refused(refusal),
+    }
+}
+
+// Builds the trace of the taps and checks it against the claim.
+fn clear_taps(table: &[u64], taps: &[u64], claim: Digest) -> Outcome
+    requires { ⌜ IsTable (now table) × Taps (now taps) × AllCanonical (claimOf claim) ⌝ }
+    ensures { λ r. ⌜ r ≡ checkedTaps (now (table .entry)) (now (taps .entry)) (claimOf claim) (length (now (taps .entry)) / 12) ⌝ }
+{
+    let k = taps.len() / 12;
+    let cells = 384 * k;
+    let mut rows = trace_room();
+    match trace::build(table, taps, &mut rows[..cells]) {
+        Digested::Accepted(_) => {
+            let words = [claim.0, claim.1, claim.2, claim.3];
+            reported(k, checker::check(table, &rows[..cells], words))
+        }
+        Digested::Refused(refusal) => Outcome::Refused(refusal),
+    }
+}
+
+// The tap words of a file of so many bytes: 12 bytes an element, of which the first four are the claim.
+fn tap_words(bytes: usize) -> usize
+    requires { ⌜ bytes ≤ 2404 ⌝ }
+    ensures { λ r. ⌜ (r ≡ bytes / 12 - 4) ⌝ }
+{
+    if bytes < 48 { 0 } else { bytes / 12 - 4 }
+}
+
+// Unpacks the file and clears its taps. For a file of another length than 144k + 100 the destination does not matter: Unpack tests 12 before 8.
+fn clear_file(table: &[u64], file: &[u8]) -> Outcome
+    requires { ⌜ IsTable (now table) × (length (now file) ≤ 2404) ⌝ }
+    ensures { λ r. ⌜ r ≡ cleared (now (table .entry)) (now (file .entry)) ⌝ }
+{
+    let size = tap_words(file.len());
+    let mut taps = tap_room();
+    match board::unpack(file, &mut taps[..size]) {
+        Digested::Accepted(claim) => clear_taps(table, &taps[..size], claim),
+        Digested::Refused(refusal) => Outcome::Refused(refusal),
+    }
+}
+
+// The answer for what stands on standard input, of which 5573 bytes are enough to know that it is too long.
+pub fn clear(input: &[u8]) -> Outcome
+    ensures { λ r. ⌜ Clears (now (input .entry)) r ⌝ }
+{
+    if input.len() < 3168 {
+        return Outcome::Refused(Refusal::TableLength);
+    }
+    if 5572 < input.len() {
+        return Outcome::TooLong;
+    }
+    let mut table = table_room();
+    match prepare(input, &mut table) {
+        Answer::Accepted => clear_file(&table, &input[3168..]),
+        Answer::Refused(refusal) => Outcome::Refused(refusal),
+    }
+}

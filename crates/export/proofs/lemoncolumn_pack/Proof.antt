@@ -1,0 +1,24 @@
+-- `export::lemoncolumn_pack` meets its contract.
+-- Assumes nothing.
+use mathlib.Core.Path.{ap, _∙_}
+use borrow.Author.Needs.{needs}
+use Rattle.export.specs.Code.{answerCode}
+use Rattle.export.proofs.lemoncolumn_pack.Statement.{statement}
+use Rattle.export.proofs.lemoncolumn_pack.Tie as tie
+
+pack-requires : tie.Need-pack-requires
+pack-requires c κs = search needs
+
+answer-code-requires : tie.Need-answer-code-requires
+answer-code-requires c κs = search needs
+
+same-length : tie.Need-same-length
+same-length c = search needs
+
+returns : tie.Need-returns
+returns c =
+    let called = c .before .before .before .pack .ensures in
+    record { coded = c .answer-code .ensures ∙ ap answerCode (called .0); file = rw (called .0) at (called .1) }
+
+pub lemoncolumn-pack-spec : {M : Type 1} → statement M
+lemoncolumn-pack-spec = tie.close (tie.spec pack-requires answer-code-requires same-length returns)

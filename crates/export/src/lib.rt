@@ -1,0 +1,245 @@
+// The library for other languages: each operation over numbers and slices, its answer in one returned number (specs/Code.antt).
+// A slice is passed as a pointer and a length. A refusal alters no lent buffer here either.
+ghost use mathlib.Core.Path.{_≡_};
+ghost use mathlib.Core.List.{[], _∷_};
+ghost use lib.ListN.{length};
+ghost use Rattle.checker.specs.Answers.{checkAnswer};
+ghost use Rattle.export.specs.Code.{code, codeOf, answerCode, digestedCode, checkedCode};
+ghost use Rattle.export.specs.Calls.{Told, PrepareCall, hashCall, noRoom, chainCall, BuildCall, ReadOffCall, PackCall, UnpackCall};
+use counts::BatchCount;
+use refusals::Answer;
+use refusals::Checked;
+use refusals::Digested;
+use refusals::Refusal;
+
+// The parts of a code: 2^6 numbers and 2^6 constraints, 2^24 rows, 2^28 indices or tests, each above the ones before.
+const NUMBERS: u64 = 64;
+
+const CONSTRAINTS: u64 = 64;
+
+const ROWS: u64 = 16777216;
+
+const VALUES: u64 = 268435456;
+
+fn code(number: u64, constraint: u64, row: u64, value: u64) -> u64
+    ensures { λ r. ⌜ r ≡ code number constraint row value ⌝ }
+{
+    number % NUMBERS
+        + NUMBERS * (constraint % CONSTRAINTS)
+        + NUMBERS * CONSTRAINTS * (row % ROWS)
+        + NUMBERS * CONSTRAINTS * ROWS * (value % VALUES)
+}
+
+// A number alone, and a number with an index.
+fn alone(number: u64) -> u64
+    ensures { λ r. ⌜ r ≡ code number 0 0 0 ⌝ }
+{
+    code(number, 0, 0, 0)
+}
+
+fn indexed(number: u64, index: usize) -> u64
+    ensures { λ r. ⌜ r ≡ code number 0 0 index ⌝ }
+{
+    code(number, 0, 0, index as u64)
+}
+
+fn code_of(refusal: Refusal) -> u64
+    ensures { λ r. ⌜ r ≡ codeOf refusal ⌝ }
+{
+    match refusal {
+        Refusal::TableLength => alone(1),
+        Refusal::TableWord(i) => indexed(2, i),
+        Refusal::NoInverse => alone(3),
+        Refusal::WrongInverse(i) => indexed(4, i),
+        Refusal::TapLength => alone(5),
+        Refusal::TapWord(i) => indexed(6, i),
+        Refusal::TraceLength => alone(7),
+        Refusal::DestinationLength => alone(8),
+        Refusal::ClaimWord(i) => indexed(9, i),
+        Refusal::TraceWord(i) => indexed(10, i),
+        Refusal::Constraint {
+            row,
+            constraint,
+            tests,
+        } => code(11, constraint as u64, row.0 as u64, tests as u64),
+        Refusal::FileLength => alone(12),
+        Refusal::WrongKind(i) => indexed(13, i),
+        Refusal::WrongValue(i) => indexed(14, i),
+    }
+}
+
+fn answer_code(answer: Answer) -> u64
+    ensures { λ r. ⌜ r ≡ answerCode answer ⌝ }
+{
+    match answer {
+        Answer::Accepted => 0,
+        Answer::Refused(r) => code_of(r),
+    }
+}
+
+fn digested_code(answer: Digested) -> u64
+    ensures { λ r. ⌜ r ≡ digestedCode answer ⌝ }
+{
+    match answer {
+        Digested::Accepted(_) => 0,
+        Digested::Refused(r) => code_of(r),
+    }
+}
+
+fn checked_code(answer: Checked) -> u64
+    ensures { λ r. ⌜ r ≡ checkedCode answer ⌝ }
+{
+    match answer {
+        Checked::Accepted(tests) => indexed(0, tests),
+        Checked::Refused(r) => code_of(r),
+    }
+}
+
+// The code of the answer; an accepted digest is written to the output.
+fn hand_over(answer: Digested, output: &mut [u64]) -> u64
+    requires { ⌜ length (now output) ≡ 4 ⌝ }
+    ensures { λ r. ⌜ Told answer r (now (output .entry)) (now (output .exit)) ⌝ }
+{
+    match answer {
+        Digested::Accepted(digest) => {
+            output[0] = digest.0;
+            output[1] = digest.1;
+            output[2] = digest.2;
+            output[3] = digest.3;
+            0
+        }
+        Digested::Refused(r) => code_of(r),
+    }
+}
+
+// Prepare: 1, 8, 2, 3.
+#[no_mangle]
+pub extern "C" fn lemoncolumn_prepare(raw: &[u64], destination: &mut [u64]) -> u64
+    ensures { λ r. ⌜ PrepareCall (now (raw .entry)) (now (destination .entry)) r (now (destination .exit)) ⌝ }
+{
+    answer_code(table::prepare(raw, destination))
+}
+
+// Hash: 1, 2, 4, 8, 6.
+#[no_mangle]
+pub extern "C" fn lemoncolumn_hash(
+    table: &[u64],
+    w0: u64,
+    w1: u64,
+    w2: u64,
+    w3: u64,
+    w4: u64,
+    w5: u64,
+    w6: u64,
+    w7: u64,
+    output: &mut [u64],
+) -> u64
+    ensures { λ r. ⌜ Told (hashCall (now (table .entry)) (w0 ∷ w1 ∷ w2 ∷ w3 ∷ w4 ∷ w5 ∷ w6 ∷ w7 ∷ []) (length (now (output .entry)))) r (now (output .entry)) (now (output .exit)) ⌝ }
+{
+    if output.len() != 4 {
+        let tested = table::test(table);
+        let Answer::Accepted = tested else {
+            return answer_code(tested);
+        };
+        return alone(8);
+    }
+    hand_over(hash::hash(table, [w0, w1, w2, w3, w4, w5, w6, w7]), output)
+}
+
+// What Chain and Build refuse where the digest finds no room: 1, 2, 4, 5, 8.
+fn no_room(table: &[u64], taps: &[u64]) -> u64
+    ensures { λ r. ⌜ r ≡ digestedCode (noRoom (now (table .entry)) (now (taps .entry))) ⌝ }
+{
+    let tested = table::test(table);
+    let Answer::Accepted = tested else {
+        return answer_code(tested);
+    };
+    let BatchCount::Permitted(_) = counts::tap_batches(taps.len()) else {
+        return alone(5);
+    };
+    alone(8)
+}
+
+// Chain: 1, 2, 4, 5, 8, 6.
+#[no_mangle]
+pub extern "C" fn lemoncolumn_chain(table: &[u64], taps: &[u64], output: &mut [u64]) -> u64
+    ensures { λ r. ⌜ Told (chainCall (now (table .entry)) (now (taps .entry)) (length (now (output .entry)))) r (now (output .entry)) (now (output .exit)) ⌝ }
+{
+    if output.len() != 4 {
+        return no_room(table, taps);
+    }
+    hand_over(hash::chain(table, taps), output)
+}
+
+// Build: 1, 2, 4, 5, 8, 6.
+#[no_mangle]
+pub extern "C" fn lemoncolumn_build(
+    table: &[u64],
+    taps: &[u64],
+    trace: &mut [u64],
+    output: &mut [u64],
+) -> u64
+    ensures { λ r. ⌜ BuildCall (now (table .entry)) (now (taps .entry)) r (now (trace .entry)) (now (trace .exit)) (now (output .entry)) (now (output .exit)) ⌝ }
+{
+    if output.len() != 4 {
+        return no_room(table, taps);
+    }
+    hand_over(trace::build(table, taps, trace), output)
+}
+
+// Check: 1, 2, 4, 7, 9, 10, 11.
+#[no_mangle]
+pub extern "C" fn lemoncolumn_check(
+    table: &[u64],
+    trace: &[u64],
+    c0: u64,
+    c1: u64,
+    c2: u64,
+    c3: u64,
+) -> u64
+    ensures { λ r. ⌜ r ≡ checkedCode (checkAnswer (now (table .entry)) (now (trace .entry)) (c0 ∷ c1 ∷ c2 ∷ c3 ∷ [])) ⌝ }
+{
+    checked_code(checker::check(table, trace, [c0, c1, c2, c3]))
+}
+
+// Read-off: 1, 2, 4, 7, 8, 9, 10, 11.
+#[no_mangle]
+pub extern "C" fn lemoncolumn_read_off(
+    table: &[u64],
+    trace: &[u64],
+    c0: u64,
+    c1: u64,
+    c2: u64,
+    c3: u64,
+    taps: &mut [u64],
+) -> u64
+    ensures { λ r. ⌜ ReadOffCall (now (table .entry)) (now (trace .entry)) (c0 ∷ c1 ∷ c2 ∷ c3 ∷ []) r (now (taps .entry)) (now (taps .exit)) ⌝ }
+{
+    checked_code(readoff::read_off(table, trace, [c0, c1, c2, c3], taps))
+}
+
+// Pack: 5, 8, 9, 6.
+#[no_mangle]
+pub extern "C" fn lemoncolumn_pack(
+    taps: &[u64],
+    c0: u64,
+    c1: u64,
+    c2: u64,
+    c3: u64,
+    file: &mut [u8],
+) -> u64
+    ensures { λ r. ⌜ PackCall (now (taps .entry)) (c0 ∷ c1 ∷ c2 ∷ c3 ∷ []) (now (file .entry)) r (now (file .exit)) ⌝ }
+{
+    answer_code(board::pack(taps, [c0, c1, c2, c3], file))
+}
+
+// Unpack: 12 (below 4), word 0's 13 then 14, 12, 8, then each element's three kinds and its value.
+#[no_mangle]
+pub extern "C" fn lemoncolumn_unpack(file: &[u8], taps: &mut [u64], claim: &mut [u64]) -> u64
+    ensures { λ r. ⌜ UnpackCall (now (file .entry)) r (now (taps .entry)) (now (taps .exit)) (now (claim .entry)) (now (claim .exit)) ⌝ }
+{
+    if claim.len() != 4 {
+        return digested_code(board::unpack(file, &mut taps[..0]));
+    }
+    hand_over(board::unpack(file, taps), claim)
+}

@@ -1,0 +1,104 @@
+-- `outcome::text` meets its contract, at each of the answers.
+-- Assumes nothing.
+use mathlib.Core.Path.{_≡_, refl, sym, ap, _∙_}
+use mathlib.Core.List.{List, _++_}
+use Prim.Native.Nat.{ℕ}
+use native.Mathlib.Omega.{arith}
+use lib.ListN.{length, drop}
+use lib.Seq.{sets, length-take-le}
+use borrow.Author.Needs.{needs}
+use Rattle.fileword.specs.Words.{each}
+use Rattle.outcome.specs.declared.Outcome.{Outcome}
+use Rattle.outcome.specs.Line.{ascii, fields, line, textOf}
+use Rattle.outcome.proofs.Fields.{over-start, length-text}
+use Rattle.outcome.proofs.text.Statement.{statement}
+use Rattle.outcome.proofs.text.Tie as tie
+
+-- what is written is the line of the answer
+told-line : (o p : Outcome) (out new s : List ℕ) (r : ℕ) → length out ≡ 80 → o ≡ p → textOf p ≡ s → r ≡ length s → new ≡ sets out 0 s → (r ≡ length (textOf o)) × (new ≡ textOf o ++ drop r out)
+told-line o p out new s r size e t q w =
+    let same : s ≡ textOf o = sym t ∙ sym (ap textOf e) in
+    let length-is : r ≡ length (textOf o) = q ∙ ap length same in
+    (length-is, over-start (textOf o) out new r (omega (arith, length-text o)) length-is (w ∙ ap (sets out 0) same))
+
+enum-known-outcome : tie.Need-enum-known-outcome
+enum-known-outcome c = search needs
+
+slice-aggregate-put-line : tie.Need-slice-aggregate-put-line
+slice-aggregate-put-line c = search needs
+
+slice-aggregate-put-line-2 : tie.Need-slice-aggregate-put-line-2
+slice-aggregate-put-line-2 c = search needs
+
+put-line-requires : tie.Need-put-line-requires
+put-line-requires c κs = search needs
+
+enum-known-outcome-2 : tie.Need-enum-known-outcome-2
+enum-known-outcome-2 c = search needs
+
+told-requires : tie.Need-told-requires
+told-requires c κs = search needs
+
+slice-aggregate-put-line-3 : tie.Need-slice-aggregate-put-line-3
+slice-aggregate-put-line-3 c = search needs
+
+array-share-prefix-list : tie.Need-array-share-prefix-list
+array-share-prefix-list c = omega (arith, c .before .before .told .ensures .size, c .before .before .told .ensures .within)
+
+slice-aggregate-put-line-4 : tie.Need-slice-aggregate-put-line-4
+slice-aggregate-put-line-4 c =
+    let numbers = c .before .before .before .told in
+    sym (length-take-le _ _ (omega (arith, numbers .ensures .size, numbers .ensures .within)))
+
+put-line-requires-2 : tie.Need-put-line-requires-2
+put-line-requires-2 c κs =
+    let numbers = c .before .before .before .before .told in
+    (omega (arith, length-take-le (numbers .result .count) (numbers .result .list) (omega (arith, numbers .ensures .size, numbers .ensures .within)), numbers .ensures .within), search needs)
+
+enum-told : tie.Need-enum-told
+enum-told c = search needs
+
+slice-aggregate-put-word : tie.Need-slice-aggregate-put-word
+slice-aggregate-put-word c = search needs
+
+put-word-requires : tie.Need-put-word-requires
+put-word-requires c κs = search needs
+
+returns : tie.Need-returns
+unfolding textOf
+returns c =
+    let start = c .before .before .before .before .before .before .before in
+    told-line _ _ _ _ _ _ (start .pre) (c .before .before .before .before .before .outcome .given .1) refl (c .put-line .ensures .0) (c .put-line .ensures .1)
+
+returns-2 : tie.Need-returns-2
+unfolding textOf
+returns-2 c =
+    let start = c .before .before .before .before .before .before .before .before .before in
+    told-line _ _ _ _ _ _ (start .pre) (c .before .before .before .before .before .before .before .outcome2 .given .1) (sym (ap (line (ascii "refused")) (c .before .before .before .before .before .told .ensures .numbers))) (c .put-line2 .ensures .0) (c .put-line2 .ensures .1)
+
+returns-3 : tie.Need-returns-3
+unfolding textOf line fields each
+returns-3 c =
+    let start = c .before .before .before .before .before in
+    told-line _ _ _ _ _ _ (start .pre) (c .before .before .before .enum-told .given .1) refl (c .put-word .ensures .0) (c .put-word .ensures .1)
+
+pub text-spec : {M : Type 1} → statement M
+text-spec =
+    tie.close
+    (tie.spec
+    enum-known-outcome
+    slice-aggregate-put-line
+    slice-aggregate-put-line-2
+    put-line-requires
+    enum-known-outcome-2
+    told-requires
+    slice-aggregate-put-line-3
+    array-share-prefix-list
+    slice-aggregate-put-line-4
+    put-line-requires-2
+    enum-told
+    slice-aggregate-put-word
+    put-word-requires
+    returns
+    returns-2
+    returns-3)

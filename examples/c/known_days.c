@@ -1,0 +1,99 @@
+/* The known days of document 01, through the library for C. Prints one line for each; known_days.expected has what they must be. */
+#include "lemoncolumn.h"
+
+#include <inttypes.h>
+#include <stdio.h>
+#include <string.h>
+
+static void show(const char *day, lemoncolumn_code code)
+{
+    printf("%s:", day);
+    switch (lemoncolumn_number(code)) {
+    case LEMONCOLUMN_ACCEPTED:
+        printf(" accepted %" PRIu64 "\n", lemoncolumn_tests(code));
+        break;
+    case LEMONCOLUMN_CONSTRAINT:
+        printf(" refused 11 %" PRIu64 " %" PRIu64 "\n", lemoncolumn_row(code), lemoncolumn_constraint(code));
+        break;
+    default:
+        printf(" refused %d %" PRIu64 "\n", (int)lemoncolumn_number(code), lemoncolumn_index(code));
+    }
+}
+
+static void show_words(const char *day, const uint64_t *words)
+{
+    printf("%s: %" PRIu64 " %" PRIu64 " %" PRIu64 " %" PRIu64 "\n", day, words[0], words[1], words[2], words[3]);
+}
+
+/* A table whose M has ones at column (i + shift) mod 12 of row i, and K_0[0] = first; all other constants are zero. */
+static lemoncolumn_code prepare(int shift, uint64_t first, uint64_t *table)
+{
+    uint64_t raw[LEMONCOLUMN_RAW_WORDS] = {0};
+    for (int i = 0; i < 12; i++)
+        raw[12 * i + (i + shift) % 12] = 1;
+    raw[144] = first;
+    return lemoncolumn_prepare(raw, LEMONCOLUMN_RAW_WORDS, table, LEMONCOLUMN_TABLE_WORDS);
+}
+
+static void hashes(const uint64_t *z, const uint64_t *a, const uint64_t *s)
+{
+    uint64_t out[4] = {0};
+    uint64_t taps[LEMONCOLUMN_TAP_WORDS(1)] = {0};
+    lemoncolumn_hash(z, LEMONCOLUMN_TABLE_WORDS, 8, 27, 1, 0, 0, 0, 0, 0, out, 4);
+    show_words("Z, (8,27,1,0) and zeros", out);
+    lemoncolumn_hash(a, LEMONCOLUMN_TABLE_WORDS, 0, 0, 0, 0, 0, 0, 0, 0, out, 4);
+    show_words("A, zeros", out);
+    lemoncolumn_hash(s, LEMONCOLUMN_TABLE_WORDS, 1, 2, 3, 4, 5, 6, 7, 9, out, 4);
+    show_words("S, any and (5,6,7,9)", out);
+    lemoncolumn_chain(a, LEMONCOLUMN_TABLE_WORDS, taps, LEMONCOLUMN_TAP_WORDS(1), out, 4);
+    show_words("A, four zero taps", out);
+    show("p among the words", lemoncolumn_hash(z, LEMONCOLUMN_TABLE_WORDS, 0, 0, 0, 0, 0, LEMONCOLUMN_P, 0, 0, out, 4));
+    show("an output of three words", lemoncolumn_hash(z, LEMONCOLUMN_TABLE_WORDS, 0, 0, 0, 0, 0, LEMONCOLUMN_P, 0, 0, out, 3));
+}
+
+static void traces(const uint64_t *z)
+{
+    uint64_t trace[LEMONCOLUMN_TRACE_WORDS(1)];
+    uint64_t taps[LEMONCOLUMN_TAP_WORDS(1)] = {0};
+    uint64_t out[4];
+    show("zero taps built", lemoncolumn_build(z, LEMONCOLUMN_TABLE_WORDS, taps, LEMONCOLUMN_TAP_WORDS(1), trace, LEMONCOLUMN_TRACE_WORDS(1), out, 4));
+    show("checked", lemoncolumn_check(z, LEMONCOLUMN_TABLE_WORDS, trace, LEMONCOLUMN_TRACE_WORDS(1), 0, 0, 0, 0));
+    show("claim (1,0,0,0)", lemoncolumn_check(z, LEMONCOLUMN_TABLE_WORDS, trace, LEMONCOLUMN_TRACE_WORDS(1), 1, 0, 0, 0));
+    trace[12 * 11 + 5] = 1;
+    show("row 11 column 5", lemoncolumn_check(z, LEMONCOLUMN_TABLE_WORDS, trace, LEMONCOLUMN_TRACE_WORDS(1), 0, 0, 0, 0));
+    for (int row = 11; row <= 20; row++)
+        trace[12 * row + 5] = 1;
+    show("column 5 of rows 11 to 20",
+         lemoncolumn_read_off(z, LEMONCOLUMN_TABLE_WORDS, trace, LEMONCOLUMN_TRACE_WORDS(1), 0, 0, 0, 0, taps, LEMONCOLUMN_TAP_WORDS(1)));
+    show_words("its w_2", taps + 8);
+}
+
+static void files(void)
+{
+    uint64_t taps[LEMONCOLUMN_TAP_WORDS(1)] = {0};
+    uint64_t claim[4];
+    uint8_t file[LEMONCOLUMN_FILE_BYTES(1)];
+    show("packed", lemoncolumn_pack(taps, LEMONCOLUMN_TAP_WORDS(1), 0, 0, 0, 0, file, sizeof file));
+    printf("its first bytes:");
+    for (int i = 0; i < 16; i++)
+        printf(" %02x", file[i]);
+    printf("\n");
+    show("unpacked", lemoncolumn_unpack(file, sizeof file, taps, LEMONCOLUMN_TAP_WORDS(1), claim, 4));
+    file[4 * 7 + 3] = 0;
+    show("word 7 of kind 0", lemoncolumn_unpack(file, sizeof file, taps, LEMONCOLUMN_TAP_WORDS(1), claim, 4));
+}
+
+int main(void)
+{
+    uint64_t z[LEMONCOLUMN_TABLE_WORDS], a[LEMONCOLUMN_TABLE_WORDS], s[LEMONCOLUMN_TABLE_WORDS];
+    uint64_t nothing[LEMONCOLUMN_RAW_WORDS];
+    memset(nothing, 0, sizeof nothing);
+    show("Z", prepare(0, 0, z));
+    show("A", prepare(0, 1, a));
+    show("S", prepare(11, 0, s));
+    show("zero M", lemoncolumn_prepare(nothing, LEMONCOLUMN_RAW_WORDS, z, LEMONCOLUMN_TABLE_WORDS));
+    hashes(z, a, s);
+    traces(z);
+    files();
+    return 0;
+}

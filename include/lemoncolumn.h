@@ -1,0 +1,117 @@
+/* Lemoncolumn: the proved operations of document 01, for C.
+ *
+ * Link with libexport.a, which `rt staticlib export` writes to target/staticlib/ (x86-64 Linux).
+ *
+ * Every call answers for any words and any lengths. What it needs is that each pointer is valid for the length beside it
+ * (not null, aligned for its type, also where the length is 0), and that what a call writes overlaps nothing else that is lent to it.
+ * A refused call leaves every lent buffer as it was.
+ *
+ * A word is an unsigned 64-bit number, canonical when below LEMONCOLUMN_P. k is a permitted batch count: 1, 2, 4, .., 1024. */
+#ifndef LEMONCOLUMN_H
+#define LEMONCOLUMN_H
+
+#include <stddef.h>
+#include <stdint.h>
+
+#ifdef __cplusplus
+extern "C" {
+#endif
+
+/* The field's prime, 2^61 + 20 * 2^32 + 1. */
+#define LEMONCOLUMN_P UINT64_C(2305843095113039873)
+
+/* Lengths, in words; that of the board file in bytes. */
+#define LEMONCOLUMN_RAW_WORDS 396                              /* M row by row, then K_0 to K_20 */
+#define LEMONCOLUMN_TABLE_WORDS 540                            /* M, its inverse, then K_0 to K_20 */
+#define LEMONCOLUMN_DIGEST_WORDS 4                             /* an output, or a claim */
+#define LEMONCOLUMN_TAP_WORDS(k) ((size_t)12 * (k) + 4)        /* 3k + 1 taps */
+#define LEMONCOLUMN_TRACE_WORDS(k) ((size_t)384 * (k))         /* 32 rows of 12 cells a batch */
+#define LEMONCOLUMN_FILE_BYTES(k) ((size_t)144 * (k) + 100)
+
+/* What a call returns: one word, read by the functions at the end of this file. */
+typedef uint64_t lemoncolumn_code;
+
+/* Writes the prepared table. Refusals, in the order in which they are tested: 1, 8, 2, 3. */
+lemoncolumn_code lemoncolumn_prepare(const uint64_t *raw, size_t raw_words, uint64_t *table, size_t table_words);
+
+/* Hashes the taps (w0 .. w3) and (w4 .. w7) into four words: 1, 2, 4, 8, 6. */
+lemoncolumn_code lemoncolumn_hash(const uint64_t *table, size_t table_words, uint64_t w0, uint64_t w1, uint64_t w2, uint64_t w3, uint64_t w4,
+                                  uint64_t w5, uint64_t w6, uint64_t w7, uint64_t *output, size_t output_words);
+
+/* Writes the four words to which the taps chain: 1, 2, 4, 5, 8, 6. */
+lemoncolumn_code lemoncolumn_chain(const uint64_t *table, size_t table_words, const uint64_t *taps, size_t tap_words, uint64_t *output,
+                                   size_t output_words);
+
+/* Writes the trace of the taps, and the four words to which they chain: 1, 2, 4, 5, 8, 6. */
+lemoncolumn_code lemoncolumn_build(const uint64_t *table, size_t table_words, const uint64_t *taps, size_t tap_words, uint64_t *trace,
+                                   size_t trace_words, uint64_t *output, size_t output_words);
+
+/* Tests the trace against the claim (c0 .. c3); returns the tests walked: 1, 2, 4, 7, 9, 10, 11. */
+lemoncolumn_code lemoncolumn_check(const uint64_t *table, size_t table_words, const uint64_t *trace, size_t trace_words, uint64_t c0, uint64_t c1,
+                                   uint64_t c2, uint64_t c3);
+
+/* The same, and writes the taps of an accepted trace: 1, 2, 4, 7, 8, 9, 10, 11. */
+lemoncolumn_code lemoncolumn_read_off(const uint64_t *table, size_t table_words, const uint64_t *trace, size_t trace_words, uint64_t c0,
+                                      uint64_t c1, uint64_t c2, uint64_t c3, uint64_t *taps, size_t tap_words);
+
+/* Writes the board file of taps and claim: 5, 8, 9, 6. */
+lemoncolumn_code lemoncolumn_pack(const uint64_t *taps, size_t tap_words, uint64_t c0, uint64_t c1, uint64_t c2, uint64_t c3, uint8_t *file,
+                                  size_t file_bytes);
+
+/* Writes the taps and the claim of a board file: 12 (below 4 bytes), 13 and 14 of word 0, 12, 8, then 13 and 14 of each element. */
+lemoncolumn_code lemoncolumn_unpack(const uint8_t *file, size_t file_bytes, uint64_t *taps, size_t tap_words, uint64_t *claim, size_t claim_words);
+
+/* What is turned back (document 01). */
+enum lemoncolumn_refusal {
+    LEMONCOLUMN_ACCEPTED = 0,           /* no refusal */
+    LEMONCOLUMN_TABLE_LENGTH = 1,       /* table not 396 words raw, 540 prepared */
+    LEMONCOLUMN_TABLE_WORD = 2,         /* table word not canonical: its lowest index */
+    LEMONCOLUMN_NO_INVERSE = 3,         /* M has no inverse */
+    LEMONCOLUMN_WRONG_INVERSE = 4,      /* M times the stored inverse unlike the identity: 12 * row + column of the first such cell */
+    LEMONCOLUMN_TAP_LENGTH = 5,         /* tap list not 12k + 4 words, k permitted */
+    LEMONCOLUMN_TAP_WORD = 6,           /* tap word not canonical: its lowest index */
+    LEMONCOLUMN_TRACE_LENGTH = 7,       /* trace not 384k words, k permitted */
+    LEMONCOLUMN_DESTINATION_LENGTH = 8, /* a destination not of the exact length */
+    LEMONCOLUMN_CLAIM_WORD = 9,         /* claim word not canonical: its lowest index */
+    LEMONCOLUMN_TRACE_WORD = 10,        /* trace word not canonical: its lowest index */
+    LEMONCOLUMN_CONSTRAINT = 11,        /* a constraint fails: the row in the whole trace, the constraint, the tests walked */
+    LEMONCOLUMN_FILE_LENGTH = 12,       /* file below 4 bytes, or not 144k + 100 */
+    LEMONCOLUMN_WRONG_KIND = 13,        /* wrong kind: index of the 32-bit word */
+    LEMONCOLUMN_WRONG_VALUE = 14        /* spare bits or k not permitted: index 0; element not canonical: index of its first 32-bit word */
+};
+
+/* Bits 0 to 5: the refusal, 0 for acceptance. */
+static inline enum lemoncolumn_refusal lemoncolumn_number(lemoncolumn_code code)
+{
+    return (enum lemoncolumn_refusal)(code & 0x3f);
+}
+
+/* Bits 6 to 11: the constraint, of refusal 11. */
+static inline uint64_t lemoncolumn_constraint(lemoncolumn_code code)
+{
+    return code >> 6 & 0x3f;
+}
+
+/* Bits 12 to 35: the row in the whole trace, of refusal 11. */
+static inline uint64_t lemoncolumn_row(lemoncolumn_code code)
+{
+    return code >> 12 & 0xffffff;
+}
+
+/* Bits 36 to 63: the index, of refusals 2, 4, 6, 9, 10, 13 and 14. */
+static inline uint64_t lemoncolumn_index(lemoncolumn_code code)
+{
+    return code >> 36;
+}
+
+/* The same bits: the tests walked, of refusal 11, and of an accepted check or read-off. */
+static inline uint64_t lemoncolumn_tests(lemoncolumn_code code)
+{
+    return code >> 36;
+}
+
+#ifdef __cplusplus
+}
+#endif
+
+#endif

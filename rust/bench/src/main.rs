@@ -1,0 +1,22 @@
+//! The proved library's time beside that of the second implementation (a) and of
+//! the yardstick (b), as ratios of one run.
+//!
+//!     rt staticlib export && rt staticlib probes
+//!     cargo run --release --offline -p bench
+//!
+//! The implementations take turns, many times over, and the shortest time of
+//! each counts, in the thread's own time: what else the machine does lengthens
+//! some turns of each.
+
+mod field;
+mod operations;
+mod timing;
+
+use timing::Table;
+
+fn main() {
+    let mut table = Table::new();
+    field::measure(&mut table);
+    operations::measure(&mut table);
+    table.print();
+}

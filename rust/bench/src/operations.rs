@@ -1,0 +1,190 @@
+//! The operations of document 01, on an honest day under a dense table.
+
+use crate::timing::{Table, Way};
+use inputs::tables::dense;
+use inputs::Random;
+use std::hint::black_box;
+
+const SEED: u64 = 20261115;
+
+/// What the operations are given.
+struct Day {
+    k: usize,
+    table: Vec<u64>,
+    taps: Vec<u64>,
+    trace: Vec<u64>,
+    output: [u64; 4],
+    file: Vec<u8>,
+}
+
+impl Day {
+    fn new(k: usize) -> Day {
+        let mut random = Random::new(SEED);
+        let table = dense(&mut random).prepared;
+        let taps = random.uniform(lemoncolumn::tap_words(k));
+        let mut trace = vec![0; lemoncolumn::trace_words(k)];
+        let output = lemoncolumn::build(&table, &taps, &mut trace).expect("built");
+        let mut file = vec![0; lemoncolumn::file_bytes(k)];
+        lemoncolumn::pack(&taps, output, &mut file).expect("packed");
+        let day = Day {
+            k,
+            table,
+            taps,
+            trace,
+            output,
+            file,
+        };
+        day.compare();
+        day
+    }
+
+    /// All three come to the same.
+    fn compare(&self) {
+        let mut trace = vec![0; self.trace.len()];
+        let second = second::build(&self.table, &self.taps, &mut trace);
+        assert_eq!(second, Ok(self.output));
+        assert!(trace == self.trace);
+        trace.fill(0);
+        let yardstick = yardstick::build(&self.table, &self.taps, &mut trace);
+        assert_eq!(yardstick, Ok(self.output));
+        assert!(trace == self.trace);
+        let tests = 372 * self.k as u64;
+        let check = lemoncolumn::check(&self.table, &self.trace, self.output);
+        assert_eq!(check, Ok(tests));
+        let check = yardstick::check(&self.table, &self.trace, self.output);
+        assert_eq!(check, Ok(tests));
+    }
+
+    fn name(&self, operation: &str) -> String {
+        format!("{operation}, k = {}", self.k)
+    }
+}
+
+pub fn measure(table: &mut Table) {
+    let days = [1, 64, 1024].map(Day::new);
+    prepare(table, &days[0]);
+    hash(table, &days[0]);
+    let mut grown = vec![];
+    for (name, goal, operation) in [
+        ("build", Some(1.0), build as fn(&Day) -> Vec<Way>),
+        ("check", Some(1.0), check),
+        ("read-off", None, read_off),
+        ("pack", None, pack),
+        ("unpack", None, unpack),
+    ] {
+        let times: Vec<f64> = days
+            .iter()
+            .map(|day| table.line(&day.name(name), goal, operation(day)) / day.k as f64)
+            .collect();
+        grown.push((name, times[2] / times[1]));
+    }
+    println!("time for a batch at k = 1024, of that at k = 64:");
+    for (name, growth) in grown {
+        println!("    {name:<12} {growth:.3}");
+    }
+    println!();
+}
+
+fn prepare(table: &mut Table, day: &Day) {
+    let raw = [&day.table[..144], &day.table[288..]].concat();
+    let mut one = vec![0; 540];
+    let mut other = vec![0; 540];
+    let ways = vec![
+        Way::new(1, || {
+            black_box(lemoncolumn::prepare(black_box(&raw), &mut one)).expect("prepared");
+        }),
+        Way::new(1, || {
+            black_box(second::prepare(black_box(&raw), &mut other)).expect("prepared");
+        }),
+    ];
+    table.line("prepare", None, ways);
+}
+
+fn hash(table: &mut Table, day: &Day) {
+    let words = std::array::from_fn(|i| day.taps[i]);
+    let ways = vec![
+        Way::new(1, || {
+            black_box(lemoncolumn::hash(black_box(&day.table), words)).expect("hashed");
+        }),
+        Way::new(1, || {
+            black_box(second::hash(black_box(&day.table), words)).expect("hashed");
+        }),
+        Way::new(1, || {
+            black_box(yardstick::hash(black_box(&day.table), words)).expect("hashed");
+        }),
+    ];
+    table.line("hash", Some(1.0), ways);
+}
+
+fn build(day: &Day) -> Vec<Way<'_>> {
+    let room = || vec![0; day.trace.len()];
+    let (mut one, mut two, mut three) = (room(), room(), room());
+    vec![
+        Way::new(1, move || {
+            black_box(lemoncolumn::build(&day.table, &day.taps, &mut one)).expect("built");
+        }),
+        Way::new(1, move || {
+            black_box(second::build(&day.table, &day.taps, &mut two)).expect("built");
+        }),
+        Way::new(1, move || {
+            black_box(yardstick::build(&day.table, &day.taps, &mut three)).expect("built");
+        }),
+    ]
+}
+
+fn check(day: &Day) -> Vec<Way<'_>> {
+    vec![
+        Way::new(1, || {
+            black_box(lemoncolumn::check(&day.table, &day.trace, day.output)).expect("accepted");
+        }),
+        Way::new(1, || {
+            black_box(second::check(&day.table, &day.trace, day.output)).expect("accepted");
+        }),
+        Way::new(1, || {
+            black_box(yardstick::check(&day.table, &day.trace, day.output)).expect("accepted");
+        }),
+    ]
+}
+
+fn read_off(day: &Day) -> Vec<Way<'_>> {
+    let room = || vec![0; day.taps.len()];
+    let (mut one, mut two, mut three) = (room(), room(), room());
+    vec![
+        Way::new(1, move || {
+            let read = lemoncolumn::read_off(&day.table, &day.trace, day.output, &mut one);
+            black_box(read).expect("read");
+        }),
+        Way::new(1, move || {
+            let read = second::read_off(&day.table, &day.trace, day.output, &mut two);
+            black_box(read).expect("read");
+        }),
+        Way::new(1, move || {
+            let read = yardstick::read_off(&day.table, &day.trace, day.output, &mut three);
+            black_box(read).expect("read");
+        }),
+    ]
+}
+
+fn pack(day: &Day) -> Vec<Way<'_>> {
+    let (mut one, mut two) = (day.file.clone(), day.file.clone());
+    vec![
+        Way::new(1, move || {
+            black_box(lemoncolumn::pack(&day.taps, day.output, &mut one)).expect("packed");
+        }),
+        Way::new(1, move || {
+            black_box(second::pack(&day.taps, day.output, &mut two)).expect("packed");
+        }),
+    ]
+}
+
+fn unpack(day: &Day) -> Vec<Way<'_>> {
+    let (mut one, mut two) = (day.taps.clone(), day.taps.clone());
+    vec![
+        Way::new(1, move || {
+            black_box(lemoncolumn::unpack(&day.file, &mut one)).expect("unpacked");
+        }),
+        Way::new(1, move || {
+            black_box(second::unpack(&day.file, &mut two)).expect("unpacked");
+        }),
+    ]
+}

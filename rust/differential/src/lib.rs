@@ -1,0 +1,133 @@
+//! What the comparisons share: seeds, guarded buffers, and one enum of
+//! refusals for both implementations.
+
+use std::ops::{Deref, DerefMut};
+
+/// The first seed. Each further round adds one.
+pub const SEED: u64 = 20261115;
+
+/// The seeds of this run, printed. `LEMONCOLUMN_ROUNDS` says how many rounds.
+pub fn seeds(test: &str) -> impl Iterator<Item = u64> {
+    let rounds = std::env::var("LEMONCOLUMN_ROUNDS").map_or(1, |rounds| {
+        rounds.parse().expect("LEMONCOLUMN_ROUNDS is a number")
+    });
+    println!("{test}: seeds {SEED} to {}", SEED + rounds - 1);
+    SEED..SEED + rounds
+}
+
+/// Elements on either side of a lent buffer.
+const GUARD: usize = 16;
+
+/// A buffer that is lent, filled with a pattern, between guards that no call
+/// may touch.
+pub struct Lent<T> {
+    all: Vec<T>,
+    before: Vec<T>,
+}
+
+impl<T: Copy + PartialEq> Lent<T> {
+    /// `length` elements of a pattern; `make` is given the index.
+    pub fn new(length: usize, make: impl Fn(usize) -> T) -> Lent<T> {
+        let all: Vec<T> = (0..length + 2 * GUARD).map(make).collect();
+        let before = all.clone();
+        Lent { all, before }
+    }
+
+    /// Whether nothing has changed since, guards included.
+    pub fn is_untouched(&self) -> bool {
+        self.all == self.before
+    }
+
+    /// Whether the guards are as they were.
+    pub fn is_guarded(&self) -> bool {
+        let end = self.all.len() - GUARD;
+        self.all[..GUARD] == self.before[..GUARD] && self.all[end..] == self.before[end..]
+    }
+}
+
+impl<T> Deref for Lent<T> {
+    type Target = [T];
+    fn deref(&self) -> &[T] {
+        &self.all[GUARD..self.all.len() - GUARD]
+    }
+}
+
+impl<T> DerefMut for Lent<T> {
+    fn deref_mut(&mut self) -> &mut [T] {
+        let end = self.all.len() - GUARD;
+        &mut self.all[GUARD..end]
+    }
+}
+
+/// A buffer of words, each of a pattern of its own, half of them not canonical.
+pub fn words(length: usize) -> Lent<u64> {
+    Lent::new(length, |i| {
+        0x9e37_79b9_7f4a_7c15_u64.wrapping_mul(i as u64 + 1)
+    })
+}
+
+/// A buffer of bytes.
+pub fn bytes(length: usize) -> Lent<u8> {
+    Lent::new(length, |i| (i * 167 + 13) as u8)
+}
+
+/// The proved library's refusal, as the second implementation names it.
+pub fn named(refusal: lemoncolumn::Refusal) -> second::Refusal {
+    use lemoncolumn::Refusal as Proved;
+    use second::Refusal as Second;
+    match refusal {
+        Proved::TableLength => Second::TableLength,
+        Proved::TableWord { index } => Second::TableWord { index },
+        Proved::NoInverse => Second::NoInverse,
+        Proved::WrongInverse { cell } => Second::InverseCell { cell },
+        Proved::TapLength => Second::TapLength,
+        Proved::TapWord { index } => Second::TapWord { index },
+        Proved::TraceLength => Second::TraceLength,
+        Proved::DestinationLength => Second::DestinationLength,
+        Proved::ClaimWord { index } => Second::ClaimWord { index },
+        Proved::TraceWord { index } => Second::TraceWord { index },
+        Proved::Constraint {
+            row,
+            constraint,
+            tests,
+        } => Second::Constraint {
+            row,
+            constraint,
+            tests,
+        },
+        Proved::FileLength => Second::FileLength,
+        Proved::WrongKind { word } => Second::Kind { word },
+        Proved::WrongValue { word } => Second::Value { word },
+    }
+}
+
+/// Refusal 11 of the two, for the same trace: row and constraint are equal, and
+/// the tests lie from 1 to the place, which `second` counts (document 01, "What
+/// is turned back"). The proved checker walks every test up to the failing one,
+/// so its count is the place itself. Every other answer is equal.
+pub fn same_verdict<T: PartialEq + std::fmt::Debug>(
+    proved: Result<T, lemoncolumn::Refusal>,
+    second: Result<T, second::Refusal>,
+    about: &str,
+) {
+    let proved = proved.map_err(named);
+    if let (
+        Err(second::Refusal::Constraint {
+            row,
+            constraint,
+            tests,
+        }),
+        Err(second::Refusal::Constraint {
+            row: other_row,
+            constraint: other_constraint,
+            tests: place,
+        }),
+    ) = (&proved, &second)
+    {
+        assert_eq!((row, constraint), (other_row, other_constraint), "{about}");
+        assert!((1..=*place).contains(tests), "{about}: {tests} of {place}");
+        assert_eq!(tests, place, "{about}: the count is not the place");
+    } else {
+        assert_eq!(proved, second, "{about}");
+    }
+}

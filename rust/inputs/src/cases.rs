@@ -1,0 +1,148 @@
+//! A case for each operation: its name, what is lent, and the refusal that
+//! must come, or none. A destination is lent with the length given.
+
+use crate::random::Random;
+use second::Refusal;
+
+#[derive(Clone, Debug)]
+pub struct PrepareCase {
+    pub name: String,
+    pub raw: Vec<u64>,
+    pub destination: usize,
+    pub refusal: Option<Refusal>,
+    /// The 540 words to be written when nothing is refused.
+    pub prepared: Vec<u64>,
+}
+
+#[derive(Clone, Debug)]
+pub struct HashCase {
+    pub name: String,
+    pub table: Vec<u64>,
+    pub words: [u64; 8],
+    pub refusal: Option<Refusal>,
+}
+
+#[derive(Clone, Debug)]
+pub struct ChainCase {
+    pub name: String,
+    pub table: Vec<u64>,
+    pub taps: Vec<u64>,
+    pub refusal: Option<Refusal>,
+}
+
+#[derive(Clone, Debug)]
+pub struct BuildCase {
+    pub name: String,
+    pub table: Vec<u64>,
+    pub taps: Vec<u64>,
+    pub destination: usize,
+    pub refusal: Option<Refusal>,
+}
+
+#[derive(Clone, Debug)]
+pub struct CheckCase {
+    pub name: String,
+    pub table: Vec<u64>,
+    pub trace: Vec<u64>,
+    pub claim: [u64; 4],
+    /// For 11 the tests are the failing test's place in the order.
+    pub refusal: Option<Refusal>,
+}
+
+#[derive(Clone, Debug)]
+pub struct ReadOffCase {
+    pub name: String,
+    pub table: Vec<u64>,
+    pub trace: Vec<u64>,
+    pub claim: [u64; 4],
+    pub destination: usize,
+    /// For 11 the tests are the failing test's place in the order.
+    pub refusal: Option<Refusal>,
+    /// The list to be written when nothing is refused.
+    pub taps: Vec<u64>,
+}
+
+#[derive(Clone, Debug)]
+pub struct PackCase {
+    pub name: String,
+    pub taps: Vec<u64>,
+    pub claim: [u64; 4],
+    pub destination: usize,
+    pub refusal: Option<Refusal>,
+    /// The bytes to be written when nothing is refused.
+    pub file: Vec<u8>,
+}
+
+#[derive(Clone, Debug)]
+pub struct UnpackCase {
+    pub name: String,
+    pub file: Vec<u8>,
+    pub destination: usize,
+    pub refusal: Option<Refusal>,
+    /// What is to be returned and written when nothing is refused.
+    pub claim: [u64; 4],
+    pub taps: Vec<u64>,
+}
+
+#[derive(Clone, Debug)]
+pub struct ClearCase {
+    pub name: String,
+    pub input: Vec<u8>,
+    /// The line to be printed, with its end.
+    pub line: String,
+}
+
+/// 2 at this index.
+pub fn table_word(index: usize) -> Refusal {
+    let index = index as u64;
+    Refusal::TableWord { index }
+}
+
+/// 6 at this index.
+pub fn tap_word(index: usize) -> Refusal {
+    let index = index as u64;
+    Refusal::TapWord { index }
+}
+
+/// 9 at this index.
+pub fn claim_word(index: usize) -> Refusal {
+    let index = index as u64;
+    Refusal::ClaimWord { index }
+}
+
+/// 10 at this index.
+pub fn trace_word(index: usize) -> Refusal {
+    let index = index as u64;
+    Refusal::TraceWord { index }
+}
+
+/// Which of N things are damaged in case `number`: of eight cases two are
+/// honest, four have one thing damaged, each in turn, and two have any of them.
+pub fn damage<const N: usize>(random: &mut Random, number: usize) -> [bool; N] {
+    let turn = number / 8 * 4 + number % 8;
+    match number % 8 {
+        0..=3 => std::array::from_fn(|thing| thing == turn % N),
+        4 | 5 => std::array::from_fn(|_| random.one_in(2)),
+        _ => [false; N],
+    }
+}
+
+/// The first refusal in the order of the call.
+pub fn first_of(order: &[Option<Refusal>]) -> Option<Refusal> {
+    order.iter().flatten().next().copied()
+}
+
+/// A length other than the exact one.
+pub fn other_length(random: &mut Random, exact: usize) -> usize {
+    random.pick(&[0, 1, exact - 1, exact + 1, exact / 2, 2 * exact])
+}
+
+/// Joins the names of the parts of a case, leaving out the empty ones.
+pub fn join(parts: &[&str]) -> String {
+    let named: Vec<&str> = parts
+        .iter()
+        .filter(|part| !part.is_empty())
+        .copied()
+        .collect();
+    named.join(", ")
+}

@@ -1,0 +1,247 @@
+//! Every case of every operation, lent to `second` (and to `yardstick` where it
+//! has the operation): the refusal must be the one the case was made for, a
+//! refused destination must stay as it was, and what is written must be right.
+
+use inputs::traces::with_faults;
+use inputs::*;
+use second::Refusal;
+
+const SEED: u64 = 20261115;
+/// What a destination holds before the call.
+const OLD: u64 = 0x0123456789abcdef;
+
+/// Counts refusals by number, 0 for accepted, and checks that each has come.
+struct Seen([usize; 15]);
+
+impl Seen {
+    fn new() -> Seen {
+        Seen([0; 15])
+    }
+
+    fn note(&mut self, refusal: Option<Refusal>) {
+        self.0[refusal.map_or(0, |refusal| refusal.number() as usize)] += 1;
+    }
+
+    fn each(&self, numbers: &[usize], at_least: usize) {
+        let seen: Vec<usize> = (0..15).filter(|&number| self.0[number] > 0).collect();
+        let mut expected = numbers.to_vec();
+        expected.sort();
+        assert_eq!(seen, expected, "seed {SEED}: {:?}", self.0);
+        let fewest = numbers.iter().map(|&number| self.0[number]).min();
+        assert!(fewest >= Some(at_least), "seed {SEED}: {:?}", self.0);
+    }
+}
+
+/// An accepted table's words as the generator's own type.
+fn good(table: &[u64]) -> tables::Good {
+    tables::Good {
+        name: String::new(),
+        raw: [&table[..144], &table[288..]].concat(),
+        prepared: table.to_vec(),
+    }
+}
+
+#[test]
+fn prepare() {
+    let mut seen = Seen::new();
+    for case in prepare_cases(SEED, 800) {
+        let mut destination = vec![OLD; case.destination];
+        let answer = second::prepare(&case.raw, &mut destination);
+        assert_eq!(answer.err(), case.refusal, "seed {SEED}: {}", case.name);
+        let expected = match case.refusal {
+            None => case.prepared,
+            Some(_) => vec![OLD; case.destination],
+        };
+        assert_eq!(destination, expected, "seed {SEED}: {}", case.name);
+        seen.note(case.refusal);
+    }
+    seen.each(&[0, 1, 2, 3, 8], 20);
+}
+
+#[test]
+fn hash() {
+    let mut seen = Seen::new();
+    for case in hash_cases(SEED, 400) {
+        let answer = second::hash(&case.table, case.words);
+        assert_eq!(answer.err(), case.refusal, "seed {SEED}: {}", case.name);
+        assert_eq!(yardstick::hash(&case.table, case.words), answer);
+        if let Ok(output) = answer {
+            // The left input of the second hash is read off row 11 of a trace
+            // that begins with this one: its back less K_0.
+            let mut taps = case.words.to_vec();
+            taps.resize(16, 0);
+            let (trace, claim) = with_faults(&good(&case.table), &taps, &[]);
+            let lent = second::constraints::Lent {
+                table: second::Table::test(&case.table).expect("accepted"),
+                trace: &trace,
+                claim,
+            };
+            for (column, &cell) in output.iter().enumerate() {
+                let start = second::field::add(cell, lent.table.k(0, column));
+                assert_eq!(lent.back(11, column), start, "{}", case.name);
+            }
+        }
+        seen.note(case.refusal);
+    }
+    seen.each(&[0, 1, 2, 4, 6], 10);
+}
+
+#[test]
+fn chain() {
+    let mut seen = Seen::new();
+    for case in chain_cases(SEED, 400) {
+        let answer = second::chain(&case.table, &case.taps);
+        assert_eq!(answer.err(), case.refusal, "seed {SEED}: {}", case.name);
+        if let Ok(output) = answer {
+            let (_, claim) = with_faults(&good(&case.table), &case.taps, &[]);
+            assert_eq!(output, claim, "seed {SEED}: {}", case.name);
+        }
+        seen.note(case.refusal);
+    }
+    seen.each(&[0, 1, 2, 4, 5, 6], 10);
+}
+
+#[test]
+fn build() {
+    let mut seen = Seen::new();
+    for case in build_cases(SEED, 400) {
+        let mut destination = vec![OLD; case.destination];
+        let answer = second::build(&case.table, &case.taps, &mut destination);
+        assert_eq!(answer.err(), case.refusal, "seed {SEED}: {}", case.name);
+        let mut other = vec![OLD; case.destination];
+        let built = yardstick::build(&case.table, &case.taps, &mut other);
+        assert_eq!(built, answer, "seed {SEED}: {}", case.name);
+        assert_eq!(other, destination, "seed {SEED}: {}", case.name);
+        match answer {
+            Ok(output) => {
+                let expected = with_faults(&good(&case.table), &case.taps, &[]);
+                assert_eq!((destination, output), expected, "{}", case.name);
+            }
+            Err(_) => assert_eq!(destination, vec![OLD; case.destination]),
+        }
+        seen.note(case.refusal);
+    }
+    seen.each(&[0, 1, 2, 4, 5, 6, 8], 10);
+}
+
+#[test]
+fn check() {
+    let mut seen = Seen::new();
+    for case in check_cases(SEED, 800) {
+        let answer = second::check(&case.table, &case.trace, case.claim);
+        assert_eq!(answer.err(), case.refusal, "seed {SEED}: {}", case.name);
+        let other = yardstick::check(&case.table, &case.trace, case.claim);
+        assert_eq!(other, answer, "seed {SEED}: {}", case.name);
+        if let Ok(tests) = answer {
+            assert_eq!(tests as usize, 372 * case.trace.len() / 384);
+        }
+        seen.note(case.refusal);
+    }
+    seen.each(&[0, 1, 2, 4, 7, 9, 10, 11], 10);
+}
+
+#[test]
+fn read_off() {
+    let mut seen = Seen::new();
+    for case in read_off_cases(SEED, 800) {
+        let mut destination = vec![OLD; case.destination];
+        let answer = second::read_off(&case.table, &case.trace, case.claim, &mut destination);
+        assert_eq!(answer.err(), case.refusal, "seed {SEED}: {}", case.name);
+        let mut other = vec![OLD; case.destination];
+        let read = yardstick::read_off(&case.table, &case.trace, case.claim, &mut other);
+        assert_eq!(read, answer, "seed {SEED}: {}", case.name);
+        assert_eq!(other, destination, "seed {SEED}: {}", case.name);
+        let expected = match case.refusal {
+            None => case.taps,
+            Some(_) => vec![OLD; case.destination],
+        };
+        assert_eq!(destination, expected, "seed {SEED}: {}", case.name);
+        // Where the destination is exact, Check says the same.
+        if case.refusal != Some(Refusal::DestinationLength) {
+            let checked = second::check(&case.table, &case.trace, case.claim);
+            assert_eq!(checked, answer, "seed {SEED}: {}", case.name);
+        }
+        seen.note(case.refusal);
+    }
+    seen.each(&[0, 1, 2, 4, 7, 8, 9, 10, 11], 10);
+}
+
+#[test]
+fn pack() {
+    let mut seen = Seen::new();
+    for case in pack_cases(SEED, 800) {
+        let mut destination = vec![0xab; case.destination];
+        let answer = second::pack(&case.taps, case.claim, &mut destination);
+        assert_eq!(answer.err(), case.refusal, "seed {SEED}: {}", case.name);
+        let expected = match case.refusal {
+            None => case.file,
+            Some(_) => vec![0xab; case.destination],
+        };
+        assert_eq!(destination, expected, "seed {SEED}: {}", case.name);
+        seen.note(case.refusal);
+    }
+    seen.each(&[0, 5, 6, 8, 9], 20);
+}
+
+#[test]
+fn unpack() {
+    let mut seen = Seen::new();
+    for case in unpack_cases(SEED, 1600) {
+        let mut destination = vec![OLD; case.destination];
+        let answer = second::unpack(&case.file, &mut destination);
+        assert_eq!(answer.err(), case.refusal, "seed {SEED}: {}", case.name);
+        match answer {
+            Ok(claim) => {
+                assert_eq!(claim, case.claim, "seed {SEED}: {}", case.name);
+                assert_eq!(destination, case.taps, "seed {SEED}: {}", case.name);
+                // An accepted file packs to the same bytes.
+                let mut file = vec![0xab; case.file.len()];
+                assert_eq!(second::pack(&destination, claim, &mut file), Ok(()));
+                assert_eq!(file, case.file, "seed {SEED}: {}", case.name);
+            }
+            Err(_) => assert_eq!(destination, vec![OLD; case.destination]),
+        }
+        seen.note(case.refusal);
+    }
+    seen.each(&[0, 8, 12, 13, 14], 40);
+}
+
+#[test]
+fn clear() {
+    let mut starts = std::collections::BTreeMap::new();
+    for case in clear_cases(SEED, 800) {
+        let line = second::clear(&case.input);
+        assert_eq!(line, case.line, "seed {SEED}: {}", case.name);
+        let words: Vec<&str> = line.split_whitespace().take(2).collect();
+        let start = match words[0] {
+            "refused" => words.join(" "),
+            other => other.to_string(),
+        };
+        *starts.entry(start).or_insert(0) += 1;
+    }
+    for start in [
+        "accepted",
+        "refused 1",
+        "refused 2",
+        "refused 3",
+        "refused 11",
+        "refused 12",
+        "refused 13",
+        "refused 14",
+        "too",
+    ] {
+        let count = starts.get(start).copied().unwrap_or(0);
+        assert!(count >= 10, "seed {SEED}: {start} {starts:?}");
+    }
+}
+
+/// The same seed makes the same cases, another seed others.
+#[test]
+fn cases_repeat() {
+    let names = |seed| -> Vec<String> {
+        let cases = check_cases(seed, 40);
+        cases.into_iter().map(|case| case.name).collect()
+    };
+    assert_eq!(names(SEED), names(SEED));
+    assert_ne!(names(SEED), names(SEED + 1));
+}

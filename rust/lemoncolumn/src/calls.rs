@@ -1,0 +1,92 @@
+//! The functions of the proved library, as include/lemoncolumn.h declares them,
+//! for who wants to lend memory that is no slice. Each pointer is valid for the
+//! length after it, and what a call writes overlaps nothing else lent to it;
+//! nothing more is asked. [`crate::decode`] reads what they return.
+
+extern "C" {
+    pub fn lemoncolumn_prepare(
+        raw: *const u64,
+        raw_words: usize,
+        table: *mut u64,
+        table_words: usize,
+    ) -> u64;
+
+    pub fn lemoncolumn_hash(
+        table: *const u64,
+        table_words: usize,
+        w0: u64,
+        w1: u64,
+        w2: u64,
+        w3: u64,
+        w4: u64,
+        w5: u64,
+        w6: u64,
+        w7: u64,
+        output: *mut u64,
+        output_words: usize,
+    ) -> u64;
+
+    pub fn lemoncolumn_chain(
+        table: *const u64,
+        table_words: usize,
+        taps: *const u64,
+        tap_words: usize,
+        output: *mut u64,
+        output_words: usize,
+    ) -> u64;
+
+    pub fn lemoncolumn_build(
+        table: *const u64,
+        table_words: usize,
+        taps: *const u64,
+        tap_words: usize,
+        trace: *mut u64,
+        trace_words: usize,
+        output: *mut u64,
+        output_words: usize,
+    ) -> u64;
+
+    pub fn lemoncolumn_check(
+        table: *const u64,
+        table_words: usize,
+        trace: *const u64,
+        trace_words: usize,
+        c0: u64,
+        c1: u64,
+        c2: u64,
+        c3: u64,
+    ) -> u64;
+
+    pub fn lemoncolumn_read_off(
+        table: *const u64,
+        table_words: usize,
+        trace: *const u64,
+        trace_words: usize,
+        c0: u64,
+        c1: u64,
+        c2: u64,
+        c3: u64,
+        taps: *mut u64,
+        tap_words: usize,
+    ) -> u64;
+
+    pub fn lemoncolumn_pack(
+        taps: *const u64,
+        tap_words: usize,
+        c0: u64,
+        c1: u64,
+        c2: u64,
+        c3: u64,
+        file: *mut u8,
+        file_bytes: usize,
+    ) -> u64;
+
+    pub fn lemoncolumn_unpack(
+        file: *const u8,
+        file_bytes: usize,
+        taps: *mut u64,
+        tap_words: usize,
+        claim: *mut u64,
+        claim_words: usize,
+    ) -> u64;
+}

@@ -1,0 +1,179 @@
+//! The proved operations of document 01, for Rust.
+//!
+//! Each call answers a full result or a [`Refusal`], and a refused call leaves
+//! every lent buffer as it was. Lengths are tested by the library, so any slice
+//! may be lent. Words are unsigned 64-bit numbers; the library tests that they
+//! are canonical, that is, below [`P`].
+
+pub mod calls;
+mod refusal;
+
+pub use refusal::{decode, Refusal};
+
+use calls::*;
+use refusal::accepted;
+
+/// The prime of the field.
+pub const P: u64 = (1 << 61) + 20 * (1 << 32) + 1;
+/// Words of a raw table: M, row by row, then K_0 to K_20.
+pub const RAW_WORDS: usize = 396;
+/// Words of a prepared table: M, its inverse, then K_0 to K_20.
+pub const TABLE_WORDS: usize = 540;
+
+/// Words of the tap list of k batches.
+pub const fn tap_words(k: usize) -> usize {
+    12 * k + 4
+}
+
+/// Words of the trace of k batches.
+pub const fn trace_words(k: usize) -> usize {
+    384 * k
+}
+
+/// Bytes of the board file of k batches.
+pub const fn file_bytes(k: usize) -> usize {
+    144 * k + 100
+}
+
+/// Writes the prepared table of a raw one.
+pub fn prepare(raw: &[u64], table: &mut [u64]) -> Result<(), Refusal> {
+    // SAFETY: a slice's pointer and length are valid, and `table` is lent to
+    // this call alone. The same holds below.
+    let code =
+        unsafe { lemoncolumn_prepare(raw.as_ptr(), raw.len(), table.as_mut_ptr(), table.len()) };
+    accepted(code)
+}
+
+/// The hash of two taps: words 0 to 3, and words 4 to 7.
+pub fn hash(table: &[u64], words: [u64; 8]) -> Result<[u64; 4], Refusal> {
+    let [a, b, c, d, e, f, g, h] = words;
+    let mut output = [0; 4];
+    let code = unsafe {
+        lemoncolumn_hash(
+            table.as_ptr(),
+            table.len(),
+            a,
+            b,
+            c,
+            d,
+            e,
+            f,
+            g,
+            h,
+            output.as_mut_ptr(),
+            output.len(),
+        )
+    };
+    accepted(code).map(|()| output)
+}
+
+/// The output of the chain of a list of taps.
+pub fn chain(table: &[u64], taps: &[u64]) -> Result<[u64; 4], Refusal> {
+    let mut output = [0; 4];
+    let code = unsafe {
+        lemoncolumn_chain(
+            table.as_ptr(),
+            table.len(),
+            taps.as_ptr(),
+            taps.len(),
+            output.as_mut_ptr(),
+            output.len(),
+        )
+    };
+    accepted(code).map(|()| output)
+}
+
+/// Writes the trace of a list of taps; answers the output of its chain.
+pub fn build(table: &[u64], taps: &[u64], trace: &mut [u64]) -> Result<[u64; 4], Refusal> {
+    let mut output = [0; 4];
+    let code = unsafe {
+        lemoncolumn_build(
+            table.as_ptr(),
+            table.len(),
+            taps.as_ptr(),
+            taps.len(),
+            trace.as_mut_ptr(),
+            trace.len(),
+            output.as_mut_ptr(),
+            output.len(),
+        )
+    };
+    accepted(code).map(|()| output)
+}
+
+/// Tests a trace against a claim; answers the number of tests walked.
+pub fn check(table: &[u64], trace: &[u64], claim: [u64; 4]) -> Result<u64, Refusal> {
+    let [a, b, c, d] = claim;
+    let code = unsafe {
+        lemoncolumn_check(
+            table.as_ptr(),
+            table.len(),
+            trace.as_ptr(),
+            trace.len(),
+            a,
+            b,
+            c,
+            d,
+        )
+    };
+    decode(code)
+}
+
+/// The same, and writes the taps of an accepted trace.
+pub fn read_off(
+    table: &[u64],
+    trace: &[u64],
+    claim: [u64; 4],
+    taps: &mut [u64],
+) -> Result<u64, Refusal> {
+    let [a, b, c, d] = claim;
+    let code = unsafe {
+        lemoncolumn_read_off(
+            table.as_ptr(),
+            table.len(),
+            trace.as_ptr(),
+            trace.len(),
+            a,
+            b,
+            c,
+            d,
+            taps.as_mut_ptr(),
+            taps.len(),
+        )
+    };
+    decode(code)
+}
+
+/// Writes the board file of a list of taps and a claim.
+pub fn pack(taps: &[u64], claim: [u64; 4], file: &mut [u8]) -> Result<(), Refusal> {
+    let [a, b, c, d] = claim;
+    let code = unsafe {
+        lemoncolumn_pack(
+            taps.as_ptr(),
+            taps.len(),
+            a,
+            b,
+            c,
+            d,
+            file.as_mut_ptr(),
+            file.len(),
+        )
+    };
+    accepted(code)
+}
+
+/// Writes the taps of a board file; answers its claim.
+pub fn unpack(file: &[u8], taps: &mut [u64]) -> Result<[u64; 4], Refusal> {
+    let mut claim = [0; 4];
+    let code = unsafe {
+        lemoncolumn_unpack(
+            file.as_ptr(),
+            file.len(),
+            taps.as_mut_ptr(),
+            taps.len(),
+            claim.as_mut_ptr(),
+            claim.len(),
+        )
+    };
+    accepted(code).map(|()| claim)
+}

@@ -1,0 +1,89 @@
+//! Document 01's known days, through the safe calls.
+
+use lemoncolumn::*;
+
+/// M with ones at column (i + shift) mod 12 of row i, and K_0[0] = first.
+fn table(shift: usize, first: u64) -> [u64; TABLE_WORDS] {
+    let mut raw = [0; RAW_WORDS];
+    for i in 0..12 {
+        raw[12 * i + (i + shift) % 12] = 1;
+    }
+    raw[144] = first;
+    let mut table = [0; TABLE_WORDS];
+    assert_eq!(prepare(&raw, &mut table), Ok(()));
+    table
+}
+
+#[test]
+fn hashes_and_chains() {
+    let (z, a, s) = (table(0, 0), table(0, 1), table(11, 0));
+    assert_eq!(hash(&z, [8, 27, 1, 0, 0, 0, 0, 0]), Ok([8, 27, 1, 0]));
+    assert_eq!(hash(&a, [0; 8]), Ok([1, 0, 0, 0]));
+    assert_eq!(hash(&s, [1, 2, 3, P - 1, 5, 6, 7, 9]), Ok([5, 6, 7, 9]));
+    assert_eq!(chain(&a, &[0; 16]), Ok([3, 0, 0, 0]));
+}
+
+#[test]
+fn lengths_and_words() {
+    let z = table(0, 0);
+    for (words, answer) in [
+        (16, Ok([0; 4])),
+        (0, Err(Refusal::TapLength)),
+        (15, Err(Refusal::TapLength)),
+        (40, Err(Refusal::TapLength)),
+        (12292, Ok([0; 4])),
+        (24580, Err(Refusal::TapLength)),
+    ] {
+        assert_eq!(chain(&z, &vec![0; words]), answer, "{words}");
+    }
+    assert!(hash(&z, [P - 1; 8]).is_ok());
+    assert_eq!(hash(&z, [P; 8]), Err(Refusal::TapWord { index: 0 }));
+    let mut kept = [7; TABLE_WORDS];
+    assert_eq!(prepare(&[0; RAW_WORDS], &mut kept), Err(Refusal::NoInverse));
+    assert_eq!(kept, [7; TABLE_WORDS]);
+}
+
+fn fails(row: u64, constraint: u64) -> impl Fn(Result<u64, Refusal>) -> bool {
+    move |answer| {
+        matches!(answer, Err(Refusal::Constraint { row: r, constraint: c, .. })
+            if (r, c) == (row, constraint))
+    }
+}
+
+#[test]
+fn traces() {
+    let z = table(0, 0);
+    let zero = [0; 384];
+    assert_eq!(check(&z, &zero, [0; 4]), Ok(372));
+    assert!(fails(31, 49)(check(&z, &zero, [1, 0, 0, 0])));
+    for (row, column, at) in [(0, 8, (0, 1)), (31, 5, (30, 38)), (11, 5, (11, 26))] {
+        let mut trace = zero;
+        trace[12 * row + column] = 1;
+        assert!(fails(at.0, at.1)(check(&z, &trace, [0; 4])), "{row}");
+    }
+    let mut trace = zero;
+    for row in 11..=20 {
+        trace[12 * row + 5] = 1;
+    }
+    let mut taps = [7; 16];
+    assert_eq!(read_off(&z, &trace, [0; 4], &mut taps), Ok(372));
+    assert_eq!(taps, [0, 0, 0, 0, 0, 0, 0, 0, 0, 1, 0, 0, 0, 0, 0, 0]);
+}
+
+#[test]
+fn files() {
+    let mut file = [7; 244];
+    assert_eq!(pack(&[0; 16], [0; 4], &mut file), Ok(()));
+    let words: Vec<u32> = file
+        .chunks(4)
+        .map(|bytes| u32::from_le_bytes(bytes.try_into().expect("four bytes")))
+        .collect();
+    let mut expected = vec![1];
+    for _ in 0..20 {
+        expected.extend([0x4000_0000, 0x8000_0000, 0xc000_0000]);
+    }
+    assert_eq!(words, expected);
+    let mut taps = [7; 16];
+    assert_eq!(unpack(&file, &mut taps), Ok([0; 4]));
+    assert_eq!(taps, [0; 16]);
+}

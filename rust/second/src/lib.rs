@@ -1,0 +1,23 @@
+//! A second implementation of document 01, written from the documents alone.
+//!
+//! It is plain and slow on purpose: one module for each section of document 01,
+//! the field on `u128`, and a checker that evaluates one test at a time. Each
+//! operation reads its inputs, answers a full result or a refusal, and writes
+//! into the lent destination only when nothing can be refused any more.
+
+pub mod board;
+pub mod constraints;
+pub mod field;
+pub mod hash;
+pub mod program;
+pub mod refusal;
+pub mod table;
+pub mod trace;
+
+pub use board::{pack, unpack};
+pub use constraints::{check, read_off};
+pub use hash::{chain, hash};
+pub use program::clear;
+pub use refusal::Refusal;
+pub use table::{prepare, Table};
+pub use trace::build;

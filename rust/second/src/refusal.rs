@@ -1,0 +1,87 @@
+//! The refusals (document 01, "What is turned back").
+
+/// One case for each cause, in the order of document 01's numbers, with the
+/// values that its column "Returned" names.
+#[derive(Clone, Copy, Debug, PartialEq, Eq)]
+pub enum Refusal {
+    /// 1: the table is not 396 words raw, or 540 prepared.
+    TableLength,
+    /// 2: a table word is not canonical; the lowest index.
+    TableWord { index: u64 },
+    /// 3: M has no inverse.
+    NoInverse,
+    /// 4: M times the stored inverse is unlike the identity; 12 x row + column
+    /// of the first such cell.
+    InverseCell { cell: u64 },
+    /// 5: the tap list is not 12k + 4 words with k permitted.
+    TapLength,
+    /// 6: a tap word is not canonical; the lowest index.
+    TapWord { index: u64 },
+    /// 7: the trace is not 384k words with k permitted.
+    TraceLength,
+    /// 8: the destination has not the exact length.
+    DestinationLength,
+    /// 9: a claim word is not canonical; the lowest index.
+    ClaimWord { index: u64 },
+    /// 10: a trace word is not canonical; the lowest index.
+    TraceWord { index: u64 },
+    /// 11: a constraint fails; the row in the whole trace, the constraint, and
+    /// the tests walked. Here these are counted to the failing one inclusive,
+    /// so they are its place in the order.
+    Constraint {
+        row: u64,
+        constraint: u64,
+        tests: u64,
+    },
+    /// 12: the file is below 4 bytes, or not 144k + 100.
+    FileLength,
+    /// 13: a file word has the wrong kind; its index in 32-bit words.
+    Kind { word: u64 },
+    /// 14: spare bits or a k not permitted (index 0), or an element that is not
+    /// canonical (its first word).
+    Value { word: u64 },
+}
+
+impl Refusal {
+    /// The number of the cause.
+    pub fn number(self) -> u64 {
+        match self {
+            Refusal::TableLength => 1,
+            Refusal::TableWord { .. } => 2,
+            Refusal::NoInverse => 3,
+            Refusal::InverseCell { .. } => 4,
+            Refusal::TapLength => 5,
+            Refusal::TapWord { .. } => 6,
+            Refusal::TraceLength => 7,
+            Refusal::DestinationLength => 8,
+            Refusal::ClaimWord { .. } => 9,
+            Refusal::TraceWord { .. } => 10,
+            Refusal::Constraint { .. } => 11,
+            Refusal::FileLength => 12,
+            Refusal::Kind { .. } => 13,
+            Refusal::Value { .. } => 14,
+        }
+    }
+
+    /// The place, as the program prints it: nothing, one index, or row and
+    /// constraint for 11.
+    pub fn place(self) -> Vec<u64> {
+        match self {
+            Refusal::TableLength
+            | Refusal::NoInverse
+            | Refusal::TapLength
+            | Refusal::TraceLength
+            | Refusal::DestinationLength
+            | Refusal::FileLength => vec![],
+            Refusal::TableWord { index }
+            | Refusal::TapWord { index }
+            | Refusal::ClaimWord { index }
+            | Refusal::TraceWord { index } => vec![index],
+            Refusal::InverseCell { cell } => vec![cell],
+            Refusal::Kind { word } | Refusal::Value { word } => vec![word],
+            Refusal::Constraint {
+                row, constraint, ..
+            } => vec![row, constraint],
+        }
+    }
+}

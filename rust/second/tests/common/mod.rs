@@ -1,0 +1,84 @@
+//! What the tests share: document 01's tables and a small generator.
+#![allow(dead_code)] // each test file uses its own part
+
+use second::field::P;
+
+/// Z: M identity, K zero.
+pub fn z_raw() -> Vec<u64> {
+    let mut raw = vec![0; 396];
+    for i in 0..12 {
+        raw[12 * i + i] = 1;
+    }
+    raw
+}
+
+/// A: Z with K_0[0] = 1.
+pub fn a_raw() -> Vec<u64> {
+    let mut raw = z_raw();
+    raw[144] = 1;
+    raw
+}
+
+/// S: M[i,j] = 1 when j = (i + 11) mod 12, else 0; K zero.
+pub fn s_raw() -> Vec<u64> {
+    let mut raw = vec![0; 396];
+    for i in 0..12 {
+        raw[12 * i + (i + 11) % 12] = 1;
+    }
+    raw
+}
+
+pub fn prepared(raw: &[u64]) -> Vec<u64> {
+    let mut table = vec![7; 540];
+    assert_eq!(second::prepare(raw, &mut table), Ok(()));
+    table
+}
+
+pub fn z() -> Vec<u64> {
+    prepared(&z_raw())
+}
+
+pub fn a() -> Vec<u64> {
+    prepared(&a_raw())
+}
+
+pub fn s() -> Vec<u64> {
+    prepared(&s_raw())
+}
+
+/// splitmix64 from a fixed seed.
+pub struct Random(pub u64);
+
+impl Random {
+    pub fn word(&mut self) -> u64 {
+        self.0 = self.0.wrapping_add(0x9e3779b97f4a7c15);
+        let mut x = self.0;
+        x = (x ^ (x >> 30)).wrapping_mul(0xbf58476d1ce4e5b9);
+        x = (x ^ (x >> 27)).wrapping_mul(0x94d049bb133111eb);
+        x ^ (x >> 31)
+    }
+
+    pub fn canonical(&mut self) -> u64 {
+        self.word() % P
+    }
+
+    pub fn canonicals(&mut self, count: usize) -> Vec<u64> {
+        (0..count).map(|_| self.canonical()).collect()
+    }
+}
+
+/// The standard input of the program: a raw table, then a board file.
+pub fn input(raw: &[u64], file: &[u8]) -> Vec<u8> {
+    let mut bytes: Vec<u8> = raw.iter().flat_map(|word| word.to_le_bytes()).collect();
+    bytes.extend(file);
+    bytes
+}
+
+/// The 244-byte file of zeros, in document 01's own words.
+pub fn zero_file() -> Vec<u8> {
+    let mut words: Vec<u32> = vec![0x00000001];
+    for _ in 0..20 {
+        words.extend([0x40000000, 0x80000000, 0xC0000000]);
+    }
+    words.iter().flat_map(|word| word.to_le_bytes()).collect()
+}

@@ -1,0 +1,289 @@
+//! The operations against document 01's definitions and 004's Algorithm 1,
+//! written here a second time in another manner: products by doubling, powers
+//! by halving, the hash column by column, the file by division.
+
+mod common;
+use common::*;
+use second::constraints::tests;
+use second::field::{self, P};
+use second::{build, chain, check, hash, pack, prepare, read_off, unpack, Refusal};
+
+/// a times b by doubling and adding; nothing exceeds 2p.
+fn times(a: u64, b: u64) -> u64 {
+    let mut sum = 0;
+    for bit in (0..64).rev() {
+        sum = sum * 2 % P;
+        if b >> bit & 1 == 1 {
+            sum = (sum + a) % P;
+        }
+    }
+    sum
+}
+
+/// "x^0 is 1, x^(2e) is the square of x^e, x^(2e+1) is that times x."
+fn halving_power(x: u64, exponent: u64) -> u64 {
+    if exponent == 0 {
+        return 1;
+    }
+    let half = halving_power(x, exponent / 2);
+    let square = times(half, half);
+    if exponent.is_multiple_of(2) {
+        square
+    } else {
+        times(square, x)
+    }
+}
+
+/// M (row by row, from word `at`) times a column, summed column by column.
+fn matrix_times(words: &[u64], at: usize, column: &[u64]) -> Vec<u64> {
+    let mut sum = vec![0; 12];
+    for (j, &cell) in column.iter().enumerate() {
+        for (i, entry) in sum.iter_mut().enumerate() {
+            *entry = (*entry + times(cell, words[at + 12 * i + j])) % P;
+        }
+    }
+    sum
+}
+
+/// Algorithm 1: the middle states and the last state.
+fn algorithm_1(raw: &[u64], left: &[u64], right: &[u64]) -> (Vec<Vec<u64>>, Vec<u64>) {
+    let plus = |cells: Vec<u64>, number: usize| -> Vec<u64> {
+        let at = 144 + 12 * number;
+        (0..12).map(|i| (cells[i] + raw[at + i]) % P).collect()
+    };
+    let powers = |cells: &[u64], exponent: u64| -> Vec<u64> {
+        cells.iter().map(|&x| halving_power(x, exponent)).collect()
+    };
+    let mut state = plus([left, right, &[0; 4]].concat(), 0);
+    let mut middles = vec![];
+    for r in 0..10 {
+        let roots = powers(&state, 1537228730075359915);
+        let inter = plus(matrix_times(raw, 0, &roots), 2 * r + 1);
+        let cubes = powers(&inter, 3);
+        state = plus(matrix_times(raw, 0, &cubes), 2 * r + 2);
+        middles.push(inter);
+    }
+    (middles, state)
+}
+
+/// The trace of 004, section 3.1, and the output of equation (1).
+fn section_3_1(raw: &[u64], taps: &[u64]) -> (Vec<u64>, Vec<u64>) {
+    let taps: Vec<&[u64]> = taps.chunks(4).collect();
+    let mut rows: Vec<Vec<u64>> = vec![];
+    let mut left = taps[0].to_vec();
+    for (number, right) in taps.iter().enumerate().skip(1) {
+        let (middles, last) = algorithm_1(raw, &left, right);
+        if number % 3 == 1 {
+            rows.push([&left, *right, &[0; 4]].concat());
+        }
+        rows.extend(middles);
+        left = last[..4].to_vec();
+        if number.is_multiple_of(3) {
+            rows.push(last);
+        }
+    }
+    (rows.concat(), left)
+}
+
+fn random_raw(random: &mut Random) -> Vec<u64> {
+    random.canonicals(396)
+}
+
+#[test]
+fn arithmetic() {
+    let mut random = Random(2);
+    let edges = [0, 1, 2, 1 << 31, 1 << 32, 1 << 60, P - 2, P - 1];
+    let mut pairs: Vec<(u64, u64)> = vec![];
+    for &a in &edges {
+        pairs.extend(edges.iter().map(|&b| (a, b)));
+    }
+    pairs.extend((0..2000).map(|_| (random.canonical(), random.canonical())));
+    for (a, b) in pairs {
+        assert_eq!(field::mul(a, b), times(a, b), "{a} x {b}");
+        assert_eq!(field::add(field::sub(a, b), b), a, "{a} - {b} + {b}");
+        let sum = a as u128 + b as u128;
+        let wrapped = if sum >= P as u128 {
+            sum - P as u128
+        } else {
+            sum
+        };
+        assert_eq!(field::add(a, b) as u128, wrapped, "{a} + {b}");
+    }
+}
+
+#[test]
+fn powers_and_roots() {
+    let mut random = Random(3);
+    for _ in 0..200 {
+        let x = random.canonical();
+        let exponent = random.word() >> (random.word() % 64);
+        assert_eq!(field::power(x, exponent), halving_power(x, exponent));
+        assert_eq!(field::root(x), halving_power(x, 1537228730075359915));
+        assert_eq!(field::cube(field::root(x)), x);
+        assert_eq!(field::root(field::cube(x)), x);
+        assert_eq!(times(field::reciprocal(x), x), 1);
+    }
+    assert_eq!(field::power(0, 0), 1);
+}
+
+#[test]
+fn prepare_finds_the_inverse() {
+    let mut random = Random(4);
+    for _ in 0..10 {
+        let raw = random_raw(&mut random);
+        let table = prepared(&raw);
+        assert_eq!(table[..144], raw[..144]);
+        assert_eq!(table[288..], raw[144..]);
+        for column in 0..12 {
+            let unit: Vec<u64> = (0..12).map(|i| u64::from(i == column)).collect();
+            let there = matrix_times(&table, 0, &unit);
+            assert_eq!(matrix_times(&table, 144, &there), unit);
+            let back = matrix_times(&table, 144, &unit);
+            assert_eq!(matrix_times(&table, 0, &back), unit);
+        }
+    }
+}
+
+/// A column that goes to all zeros is put into M first; then there is no
+/// inverse.
+#[test]
+fn prepare_refuses_exactly_where_a_column_goes_to_zeros() {
+    let mut random = Random(5);
+    for place in 0..12 {
+        let mut raw = random_raw(&mut random);
+        let mut column = random.canonicals(12);
+        column[place] = 1;
+        for i in 0..12 {
+            let mut sum = 0;
+            for j in (0..12).filter(|&j| j != place) {
+                sum = (sum + times(raw[12 * i + j], column[j])) % P;
+            }
+            raw[12 * i + place] = (P - sum) % P;
+        }
+        assert_eq!(matrix_times(&raw, 0, &column), [0; 12]);
+        let mut table = vec![7; 540];
+        assert_eq!(prepare(&raw, &mut table), Err(Refusal::NoInverse));
+        assert_eq!(table, [7; 540]);
+    }
+}
+
+#[test]
+fn hash_is_algorithm_1() {
+    let mut random = Random(6);
+    for _ in 0..4 {
+        let raw = random_raw(&mut random);
+        let words: [u64; 8] = std::array::from_fn(|_| random.canonical());
+        let (_, last) = algorithm_1(&raw, &words[..4], &words[4..]);
+        let answer = hash(&prepared(&raw), words).expect("hashes");
+        assert_eq!(answer[..], last[..4]);
+    }
+}
+
+#[test]
+fn chain_trace_and_read_off() {
+    let mut random = Random(7);
+    for k in [1, 2, 4] {
+        let raw = random_raw(&mut random);
+        let table = prepared(&raw);
+        let taps = random.canonicals(12 * k + 4);
+        let (rows, last) = section_3_1(&raw, &taps);
+        assert_eq!(rows.len(), 384 * k);
+        assert_eq!(chain(&table, &taps).expect("chains")[..], last);
+        let mut trace = vec![7; 384 * k];
+        let claim = build(&table, &taps, &mut trace).expect("builds");
+        assert_eq!(claim[..], last);
+        assert_eq!(trace, rows);
+        assert_eq!(check(&table, &trace, claim), Ok(372 * k as u64));
+        let mut read = vec![7; 12 * k + 4];
+        let answer = read_off(&table, &trace, claim, &mut read);
+        assert_eq!(answer, Ok(372 * k as u64));
+        assert_eq!(read, taps);
+    }
+}
+
+#[test]
+fn the_largest_permitted_k() {
+    let mut random = Random(8);
+    let table = prepared(&random_raw(&mut random));
+    let taps = random.canonicals(12292);
+    let mut trace = vec![7; 384 * 1024];
+    let claim = build(&table, &taps, &mut trace).expect("builds");
+    let mut read = vec![7; 12292];
+    let answer = read_off(&table, &trace, claim, &mut read);
+    assert_eq!(answer, Ok(372 * 1024));
+    assert_eq!(read, taps);
+    let row = 384 * 1024 - 12;
+    trace[row] = (trace[row] + 1) % P;
+    assert_eq!(
+        check(&table, &trace, claim),
+        Err(Refusal::Constraint {
+            row: 32 * 1024 - 2,
+            constraint: 33,
+            tests: 372 * 1024 - 4 - 11,
+        })
+    );
+}
+
+#[test]
+fn the_order_of_tests() {
+    for k in [1, 2, 4, 8] {
+        let order = tests(k);
+        assert_eq!(order.len(), 372 * k);
+        let risen = |pair: &[second::constraints::Test]| {
+            (pair[0].row, pair[0].constraint) < (pair[1].row, pair[1].constraint)
+        };
+        assert!(order.windows(2).all(risen));
+        for row in 0..32 * k {
+            let count = order.iter().filter(|test| test.row == row).count();
+            let expected = match row % 32 {
+                0 => 4 + 12,
+                10 | 20 => 4 + 4,
+                31 => 4,
+                _ => 12,
+            };
+            assert_eq!(count, expected, "row {row}");
+        }
+        for constraint in 1..=52 {
+            let count = order.iter().filter(|t| t.constraint == constraint).count();
+            let expected = match constraint {
+                1..=4 | 9..=20 | 33..=44 => k,
+                5..=8 => 2 * k,
+                21..=24 => 29 * k,
+                25..=32 => 27 * k,
+                45..=48 => k - 1,
+                _ => 1,
+            };
+            assert_eq!(count, expected, "constraint {constraint}");
+        }
+    }
+}
+
+#[test]
+fn files_there_and_back() {
+    let mut random = Random(9);
+    for k in [1, 2, 16, 1024] {
+        let mut taps = random.canonicals(12 * k + 4);
+        taps[5] = P - 1;
+        taps[6] = (1 << 60) - 1;
+        let claim: [u64; 4] = std::array::from_fn(|_| random.canonical());
+        let mut bytes = vec![k as u64 % 256, k as u64 / 256, 0, 0];
+        for element in claim.iter().chain(&taps) {
+            let parts = [
+                element >> 60,
+                (element >> 30) % (1 << 30),
+                element % (1 << 30),
+            ];
+            for (kind, part) in (1..).zip(parts) {
+                let word = kind * (1 << 30) + part;
+                bytes.extend((0..4).map(|byte| word >> (8 * byte) & 255));
+            }
+        }
+        let bytes: Vec<u8> = bytes.iter().map(|&byte| byte as u8).collect();
+        let mut file = vec![7; 144 * k + 100];
+        assert_eq!(pack(&taps, claim, &mut file), Ok(()));
+        assert_eq!(file, bytes);
+        let mut read = vec![7; 12 * k + 4];
+        assert_eq!(unpack(&file, &mut read), Ok(claim));
+        assert_eq!(read, taps);
+    }
+}

@@ -1,0 +1,198 @@
+//! Every line of document 01's "Known days", and the program's lines. The
+//! expected values stand in document 01.
+
+mod common;
+use common::*;
+use second::field::{mul, root, P};
+use second::{build, chain, check, clear, hash, pack, prepare, read_off, unpack, Refusal};
+
+const NO_CLAIM: [u64; 4] = [0; 4];
+
+fn failed_at(answer: Result<u64, Refusal>) -> (u64, u64) {
+    match answer {
+        Err(Refusal::Constraint {
+            row, constraint, ..
+        }) => (row, constraint),
+        other => panic!("not a failed constraint: {other:?}"),
+    }
+}
+
+fn zero_trace_with(cells: &[(usize, usize)]) -> Vec<u64> {
+    let mut trace = vec![0; 384];
+    for &(row, column) in cells {
+        trace[12 * row + column] = 1;
+    }
+    trace
+}
+
+#[test]
+fn the_fields_constants() {
+    assert_eq!(P, 2305843095113039873);
+    assert_eq!(P, 134217733 * (1 << 34) + 1);
+    assert_eq!(second::field::ROOT_EXPONENT, 1537228730075359915);
+}
+
+#[test]
+fn products() {
+    assert_eq!(mul(P - 1, P - 1), 1);
+    assert_eq!(mul(1 << 31, 1 << 31), 2305842923314348031);
+}
+
+#[test]
+fn roots_of_0_8_and_minus_1() {
+    assert_eq!(root(0), 0);
+    assert_eq!(root(8), 2);
+    assert_eq!(root(P - 1), P - 1);
+}
+
+#[test]
+fn hash_under_z() {
+    assert_eq!(hash(&z(), [8, 27, 1, 0, 0, 0, 0, 0]), Ok([8, 27, 1, 0]));
+}
+
+#[test]
+fn hash_of_zeros_under_a() {
+    assert_eq!(hash(&a(), [0; 8]), Ok([1, 0, 0, 0]));
+}
+
+#[test]
+fn hash_under_s_is_its_second_tap() {
+    let mut random = Random(1);
+    for _ in 0..5 {
+        let mut words = [0, 0, 0, 0, 5, 6, 7, 9];
+        words[..4].copy_from_slice(&random.canonicals(4));
+        assert_eq!(hash(&s(), words), Ok([5, 6, 7, 9]), "{words:?}");
+    }
+}
+
+#[test]
+fn four_zero_taps_under_a() {
+    assert_eq!(chain(&a(), &[0; 16]), Ok([3, 0, 0, 0]));
+    let mut trace = vec![7; 384];
+    assert_eq!(build(&a(), &[0; 16], &mut trace), Ok([3, 0, 0, 0]));
+}
+
+#[test]
+fn zero_trace_under_z() {
+    let trace = zero_trace_with(&[]);
+    assert_eq!(check(&z(), &trace, NO_CLAIM), Ok(372));
+    assert_eq!(failed_at(check(&z(), &trace, [1, 0, 0, 0])), (31, 49));
+}
+
+#[test]
+fn one_cell_of_the_zero_trace() {
+    for ((row, column), place) in [((0, 8), (0, 1)), ((31, 5), (30, 38)), ((11, 5), (11, 26))] {
+        let trace = zero_trace_with(&[(row, column)]);
+        assert_eq!(failed_at(check(&z(), &trace, NO_CLAIM)), place);
+        let mut taps = vec![7; 16];
+        assert_eq!(
+            failed_at(read_off(&z(), &trace, NO_CLAIM, &mut taps)),
+            place
+        );
+        assert_eq!(taps, [7; 16]);
+    }
+}
+
+#[test]
+fn column_5_of_rows_11_to_20() {
+    let cells: Vec<(usize, usize)> = (11..=20).map(|row| (row, 5)).collect();
+    let trace = zero_trace_with(&cells);
+    assert_eq!(check(&z(), &trace, NO_CLAIM), Ok(372));
+    let mut taps = vec![7; 16];
+    assert_eq!(read_off(&z(), &trace, NO_CLAIM, &mut taps), Ok(372));
+    assert_eq!(taps, [0, 0, 0, 0, 0, 0, 0, 0, 0, 1, 0, 0, 0, 0, 0, 0]);
+}
+
+#[test]
+fn lengths_of_tap_lists() {
+    for words in [0, 15, 40, 24580] {
+        let taps = vec![0; words];
+        assert_eq!(chain(&z(), &taps), Err(Refusal::TapLength), "{words}");
+        let built = build(&z(), &taps, &mut [0; 384]);
+        assert_eq!(built, Err(Refusal::TapLength), "{words}");
+        let packed = pack(&taps, NO_CLAIM, &mut [0; 244]);
+        assert_eq!(packed, Err(Refusal::TapLength), "{words}");
+    }
+    for (words, k) in [(16, 1), (12292, 1024)] {
+        let taps = vec![0; words];
+        assert_eq!(chain(&z(), &taps), Ok(NO_CLAIM), "{words}");
+        let mut trace = vec![7; 384 * k];
+        assert_eq!(build(&z(), &taps, &mut trace), Ok(NO_CLAIM), "{words}");
+        assert_eq!(trace, vec![0; 384 * k]);
+        let mut file = vec![7; 144 * k + 100];
+        assert_eq!(pack(&taps, NO_CLAIM, &mut file), Ok(()), "{words}");
+    }
+}
+
+#[test]
+fn p_minus_1_passes_and_p_does_not_in_taps() {
+    let mut taps = vec![0; 16];
+    taps[15] = P - 1;
+    // Under Z the last tap does not reach the output.
+    assert_eq!(chain(&z(), &taps), Ok(NO_CLAIM));
+    assert_eq!(build(&z(), &taps, &mut [0; 384]), Ok(NO_CLAIM));
+    assert_eq!(pack(&taps, NO_CLAIM, &mut [0; 244]), Ok(()));
+    let hashed = hash(&z(), [P - 1, 0, 0, 0, 0, 0, 0, P - 1]);
+    assert_eq!(hashed, Ok([P - 1, 0, 0, 0]));
+    taps[15] = P;
+    let refused = Refusal::TapWord { index: 15 };
+    assert_eq!(chain(&z(), &taps), Err(refused));
+    assert_eq!(build(&z(), &taps, &mut [0; 384]), Err(refused));
+    assert_eq!(pack(&taps, NO_CLAIM, &mut [0; 244]), Err(refused));
+    let hashed = hash(&z(), [0, 0, 0, 0, 0, 0, 0, P]);
+    assert_eq!(hashed, Err(Refusal::TapWord { index: 7 }));
+}
+
+#[test]
+fn p_minus_1_passes_and_p_does_not_elsewhere() {
+    // In the table: M[0,0] = p - 1 is its own inverse.
+    let mut raw = z_raw();
+    raw[0] = P - 1;
+    let mut table = vec![0; 540];
+    assert_eq!(prepare(&raw, &mut table), Ok(()));
+    assert_eq!(table[144], P - 1);
+    raw[0] = P;
+    let refused = Refusal::TableWord { index: 0 };
+    assert_eq!(prepare(&raw, &mut table), Err(refused));
+    // In the trace and the claim: under Z, cell 0 is the same in every row.
+    let mut trace = vec![0; 384];
+    for row in 0..32 {
+        trace[12 * row] = P - 1;
+    }
+    assert_eq!(check(&z(), &trace, [P - 1, 0, 0, 0]), Ok(372));
+    let refused = Refusal::ClaimWord { index: 0 };
+    assert_eq!(check(&z(), &trace, [P, 0, 0, 0]), Err(refused));
+    trace[372] = P;
+    let refused = Refusal::TraceWord { index: 372 };
+    assert_eq!(check(&z(), &trace, [P - 1, 0, 0, 0]), Err(refused));
+}
+
+#[test]
+fn zero_m() {
+    let mut table = vec![7; 540];
+    assert_eq!(prepare(&[0; 396], &mut table), Err(Refusal::NoInverse));
+    assert_eq!(table, [7; 540]);
+}
+
+#[test]
+fn program_accepts_the_file_of_zeros() {
+    assert_eq!(zero_file().len(), 244);
+    assert_eq!(clear(&input(&z_raw(), &zero_file())), "accepted 1 372\n");
+}
+
+#[test]
+fn program_refuses_claim_1() {
+    let mut file = zero_file();
+    file[12] = 1; // word 3 is the low 30 bits of the claim's first word
+    assert_eq!(clear(&input(&z_raw(), &file)), "refused 11 31 49\n");
+}
+
+#[test]
+fn the_file_of_zeros_is_what_pack_writes() {
+    let mut file = vec![7; 244];
+    assert_eq!(pack(&[0; 16], NO_CLAIM, &mut file), Ok(()));
+    assert_eq!(file, zero_file());
+    let mut taps = vec![7; 16];
+    assert_eq!(unpack(&file, &mut taps), Ok(NO_CLAIM));
+    assert_eq!(taps, [0; 16]);
+}

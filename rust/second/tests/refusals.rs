@@ -1,0 +1,328 @@
+//! The order of the refusals (document 01, "What is turned back"). Each test
+//! lends a call with everything wrong at once and mends one thing after the
+//! other, in the order of document 01; at each step the next refusal appears,
+//! and no lent destination changes.
+
+mod common;
+use common::*;
+use second::field::P;
+use second::{build, chain, check, clear, hash, pack, prepare, read_off, unpack, Refusal};
+
+const TABLE_LENGTH: Refusal = Refusal::TableLength;
+const TABLE_WORD: Refusal = Refusal::TableWord { index: 200 };
+const INVERSE_CELL: Refusal = Refusal::InverseCell { cell: 15 };
+const TRACE_WORD: Refusal = Refusal::TraceWord { index: 17 };
+const CLAIM_WORD: Refusal = Refusal::ClaimWord { index: 2 };
+
+/// A table in three states of damage, then mended: 1, 2, 4, none.
+fn tables() -> [Vec<u64>; 4] {
+    let mended = a();
+    let mut cell = mended.clone();
+    cell[144 + 15] = 1; // the stored inverse's row 1, column 3
+    let mut word = cell.clone();
+    word[539] = P + 1;
+    word[200] = P;
+    let mut length = word.clone();
+    length.push(0);
+    [length, word, cell, mended]
+}
+
+/// Trace and claim in four states of damage, then mended: 7, 9, 10, 11, none.
+fn traces() -> [(Vec<u64>, [u64; 4]); 5] {
+    let mut mended = vec![0; 768];
+    let claim = build(&a(), &[0; 28], &mut mended).expect("builds");
+    let mut cell = mended.clone();
+    cell[12 * 40 + 2] = 9;
+    let mut word = cell.clone();
+    word[767] = u64::MAX;
+    word[17] = P;
+    let length = vec![P; 384 * 3];
+    let bad_claim = [claim[0], claim[1], P, P];
+    [
+        (length, bad_claim),
+        (word.clone(), bad_claim),
+        (word, claim),
+        (cell, claim),
+        (mended, claim),
+    ]
+}
+
+/// Under A, back of row 40 is the first to see its cell 2: row 39, the test
+/// 21 + 2. Before it: 372 of batch 0, 16 at row 32, 6 x 12, and 2 at row 39.
+const FAILED: Refusal = Refusal::Constraint {
+    row: 39,
+    constraint: 23,
+    tests: 372 + 16 + 72 + 3,
+};
+
+#[test]
+fn numbers_and_places() {
+    let listed = [
+        (TABLE_LENGTH, 1, vec![]),
+        (TABLE_WORD, 2, vec![200]),
+        (Refusal::NoInverse, 3, vec![]),
+        (INVERSE_CELL, 4, vec![15]),
+        (Refusal::TapLength, 5, vec![]),
+        (Refusal::TapWord { index: 8 }, 6, vec![8]),
+        (Refusal::TraceLength, 7, vec![]),
+        (Refusal::DestinationLength, 8, vec![]),
+        (CLAIM_WORD, 9, vec![2]),
+        (TRACE_WORD, 10, vec![17]),
+        (FAILED, 11, vec![39, 23]),
+        (Refusal::FileLength, 12, vec![]),
+        (Refusal::Kind { word: 5 }, 13, vec![5]),
+        (Refusal::Value { word: 7 }, 14, vec![7]),
+    ];
+    for (refusal, number, place) in listed {
+        assert_eq!(refusal.number(), number);
+        assert_eq!(refusal.place(), place);
+    }
+}
+
+#[test]
+fn prepare_1_8_2_3() {
+    let singular = vec![0; 396];
+    let mut word = singular.clone();
+    word[395] = P;
+    word[200] = P;
+    let length = vec![P; 395];
+    let steps = [
+        (length, 541, Err(TABLE_LENGTH)),
+        (word.clone(), 541, Err(Refusal::DestinationLength)),
+        (word, 540, Err(TABLE_WORD)),
+        (singular, 540, Err(Refusal::NoInverse)),
+        (a_raw(), 540, Ok(())),
+    ];
+    for (raw, words, expected) in steps {
+        let mut destination = vec![7; words];
+        assert_eq!(prepare(&raw, &mut destination), expected);
+        let untouched = destination == vec![7; words];
+        assert_eq!(untouched, expected.is_err());
+    }
+}
+
+#[test]
+fn hash_1_2_4_6() {
+    let [length, word, cell, mended] = tables();
+    let mut words = [0, 0, 0, 0, 0, P, 0, P];
+    assert_eq!(hash(&length, words), Err(TABLE_LENGTH));
+    assert_eq!(hash(&word, words), Err(TABLE_WORD));
+    assert_eq!(hash(&cell, words), Err(INVERSE_CELL));
+    assert_eq!(hash(&mended, words), Err(Refusal::TapWord { index: 5 }));
+    words[5] = 0;
+    assert_eq!(hash(&mended, words), Err(Refusal::TapWord { index: 7 }));
+    words[7] = 0;
+    assert_eq!(hash(&mended, words), Ok([1, 0, 0, 0]));
+}
+
+#[test]
+fn chain_and_build_1_2_4_5_8_6() {
+    let [length, word, cell, mended] = tables();
+    let mut bad_word = vec![0; 28];
+    bad_word[8] = P;
+    bad_word[27] = P;
+    let bad_length = vec![P; 40];
+    let steps = [
+        (&length, &bad_length, 769, Err(TABLE_LENGTH)),
+        (&word, &bad_length, 769, Err(TABLE_WORD)),
+        (&cell, &bad_length, 769, Err(INVERSE_CELL)),
+        (&mended, &bad_length, 769, Err(Refusal::TapLength)),
+        (&mended, &bad_word, 769, Err(Refusal::DestinationLength)),
+        (&mended, &bad_word, 768, Err(Refusal::TapWord { index: 8 })),
+        (&mended, &vec![0; 28], 768, Ok([6, 0, 0, 0])),
+    ];
+    for (table, taps, words, expected) in steps {
+        let mut destination = vec![7; words];
+        assert_eq!(build(table, taps, &mut destination), expected);
+        let untouched = destination == vec![7; words];
+        assert_eq!(untouched, expected.is_err());
+        if expected != Err(Refusal::DestinationLength) {
+            assert_eq!(chain(table, taps), expected);
+        }
+    }
+}
+
+#[test]
+fn check_and_read_off_1_2_4_7_8_9_10_11() {
+    let [length, word, cell, mended] = tables();
+    let [bad_length, bad_claim, bad_word, bad_cell, honest] = traces();
+    let steps = [
+        (&length, &bad_length, 27, Err(TABLE_LENGTH)),
+        (&word, &bad_length, 27, Err(TABLE_WORD)),
+        (&cell, &bad_length, 27, Err(INVERSE_CELL)),
+        (&mended, &bad_length, 27, Err(Refusal::TraceLength)),
+        (&mended, &bad_claim, 27, Err(Refusal::DestinationLength)),
+        (&mended, &bad_claim, 28, Err(CLAIM_WORD)),
+        (&mended, &bad_word, 28, Err(TRACE_WORD)),
+        (&mended, &bad_cell, 28, Err(FAILED)),
+        (&mended, &honest, 28, Ok(744)),
+    ];
+    for (table, (trace, claim), words, expected) in steps {
+        let mut destination = vec![7; words];
+        let answer = read_off(table, trace, *claim, &mut destination);
+        assert_eq!(answer, expected);
+        let untouched = destination == vec![7; words];
+        assert_eq!(untouched, expected.is_err());
+        if expected != Err(Refusal::DestinationLength) {
+            assert_eq!(check(table, trace, *claim), expected);
+        }
+    }
+}
+
+/// The product is M times the stored inverse, cells taken row by row. Under S
+/// row 4 of M picks row 3 of the inverse; the other product would differ first
+/// at row 3, column 4.
+#[test]
+fn first_cell_unlike_the_identity() {
+    let mut table = s();
+    table[144 + 12 * 3 + 5] = 1;
+    let refused = Err(Refusal::InverseCell { cell: 12 * 4 + 5 });
+    assert_eq!(hash(&table, [0; 8]), refused);
+    table[144 + 12 * 2 + 7] = 1;
+    let refused = Err(Refusal::InverseCell { cell: 12 * 3 + 7 });
+    assert_eq!(hash(&table, [0; 8]), refused);
+}
+
+#[test]
+fn pack_5_8_9_6() {
+    let mut bad_word = vec![0; 16];
+    bad_word[3] = P;
+    let steps = [
+        (vec![P; 15], [P; 4], 243, Err(Refusal::TapLength)),
+        (
+            bad_word.clone(),
+            [0, 0, P, P],
+            243,
+            Err(Refusal::DestinationLength),
+        ),
+        (bad_word.clone(), [0, 0, P, P], 244, Err(CLAIM_WORD)),
+        (bad_word, [0; 4], 244, Err(Refusal::TapWord { index: 3 })),
+        (vec![0; 16], [0; 4], 244, Ok(())),
+    ];
+    for (taps, claim, bytes, expected) in steps {
+        let mut destination = vec![7; bytes];
+        assert_eq!(pack(&taps, claim, &mut destination), expected);
+        let untouched = destination == vec![7; bytes];
+        assert_eq!(untouched, expected.is_err());
+    }
+}
+
+/// Bytes of 32-bit words.
+fn bytes(words: &[u32]) -> Vec<u8> {
+    words.iter().flat_map(|word| word.to_le_bytes()).collect()
+}
+
+#[test]
+fn unpack_12_13_14_12_8_then_each_element() {
+    // Everything wrong from word 0 on, and a file that is too long.
+    let mut words = vec![0x40010003];
+    words.extend([0; 61]);
+    let run = |words: &[u32], destination: usize| {
+        let mut taps = vec![7; destination];
+        let answer = unpack(&bytes(words), &mut taps);
+        let untouched = taps == vec![7; destination];
+        assert_eq!(untouched, answer.is_err());
+        answer
+    };
+    let short = bytes(&words)[..3].to_vec();
+    assert_eq!(unpack(&short, &mut [7; 15]), Err(Refusal::FileLength));
+    assert_eq!(run(&words, 15), Err(Refusal::Kind { word: 0 }));
+    words[0] = 0x00010001; // the right kind and k, a spare bit
+    assert_eq!(run(&words, 15), Err(Refusal::Value { word: 0 }));
+    words[0] = 3; // k not permitted
+    assert_eq!(run(&words, 15), Err(Refusal::Value { word: 0 }));
+    words[0] = 1;
+    assert_eq!(run(&words, 15), Err(Refusal::FileLength));
+    words.pop();
+    assert_eq!(run(&words, 15), Err(Refusal::DestinationLength));
+    for element in 0..20 {
+        let first = 1 + 3 * element;
+        // Its value will be p once the kinds are right.
+        let parts = [0x40000000 + 2, 0x80000000 + 80, 0xC0000000 + 1];
+        for (place, part) in parts.into_iter().enumerate() {
+            let word = (first + place) as u64;
+            assert_eq!(run(&words, 16), Err(Refusal::Kind { word }));
+            words[first + place] = part;
+        }
+        let word = first as u64;
+        assert_eq!(run(&words, 16), Err(Refusal::Value { word }));
+        words[first + 2] -= 1; // p - 1
+    }
+    assert_eq!(run(&words, 16), Ok([P - 1; 4]));
+}
+
+#[test]
+fn elements_of_64_bits_and_more() {
+    let file = |high: u32| {
+        let mut words: Vec<u32> = vec![1];
+        for _ in 0..20 {
+            words.extend([0x40000000, 0x80000000, 0xC0000000]);
+        }
+        words[58] += high;
+        bytes(&words)
+    };
+    let unpacked = |high| unpack(&file(high), &mut [7; 16]);
+    for high in [0, 1, 2] {
+        // 2 x 2^60 is still below p
+        assert_eq!(unpacked(high), Ok([0; 4]), "{high}");
+    }
+    for high in [3, 4, 8, 15, 16, 17, 32, 1 << 20, (1 << 30) - 1] {
+        // 4 x 2^60 = 2^62; 16 x 2^60 = 2^64 is no word any more
+        assert_eq!(unpacked(high), Err(Refusal::Value { word: 58 }), "{high}");
+    }
+}
+
+#[test]
+fn the_programs_lines() {
+    let zeros = |count| vec![0; count];
+    // Both lengths come before anything else.
+    assert_eq!(clear(&[]), "refused 1\n");
+    assert_eq!(clear(&[255; 3167]), "refused 1\n");
+    assert_eq!(clear(&[255; 5573]), "too long\n");
+    // Then the table, then the file.
+    assert_eq!(clear(&[255; 5572]), "refused 2 0\n");
+    assert_eq!(clear(&zeros(3168)), "refused 3\n");
+    assert_eq!(clear(&zeros(5572)), "refused 3\n");
+    let mut raw = a_raw();
+    raw[17] = P;
+    assert_eq!(clear(&input(&raw, &[])), "refused 2 17\n");
+    let with_file = |file: &[u8]| clear(&input(&a_raw(), file));
+    for bytes in 0..4 {
+        assert_eq!(with_file(&zeros(bytes)), "refused 12\n");
+    }
+    assert_eq!(with_file(&[0, 0, 0, 0]), "refused 14 0\n");
+    assert_eq!(with_file(&[1, 0, 0, 0]), "refused 12\n");
+    assert_eq!(with_file(&[1, 0, 0, 64]), "refused 13 0\n");
+    // A permitted k above 16 cannot come with its length.
+    assert_eq!(with_file(&[32, 0, 0, 0]), "refused 12\n");
+    assert_eq!(with_file(&[0, 4, 0, 0]), "refused 12\n");
+    assert_eq!(with_file(&[0, 8, 0, 0]), "refused 14 0\n");
+    let mut file = zero_file();
+    file[23] = 0; // word 5's kind
+    assert_eq!(with_file(&file), "refused 13 5\n");
+    let mut file = zero_file();
+    file[4] = 4; // the claim's first word is 2^62
+    assert_eq!(with_file(&file), "refused 14 1\n");
+    // Four zero taps under A chain to (3,0,0,0).
+    let mut file = zero_file();
+    assert_eq!(with_file(&file), "refused 11 31 49\n");
+    file[12] = 3;
+    assert_eq!(with_file(&file), "accepted 1 372\n");
+    file[36 + 12] = 1; // the claim's last word
+    assert_eq!(with_file(&file), "refused 11 31 52\n");
+}
+
+#[test]
+fn the_program_takes_16_batches() {
+    let mut file = vec![0; 144 * 16 + 100];
+    assert_eq!(pack(&[0; 196], [48, 0, 0, 0], &mut file), Ok(()));
+    let lent = input(&a_raw(), &file);
+    assert_eq!(lent.len(), 5572);
+    assert_eq!(clear(&lent), "accepted 16 5952\n");
+    file[12] = 47;
+    let lent = input(&a_raw(), &file);
+    assert_eq!(clear(&lent), "refused 11 511 49\n");
+    let mut file = vec![0; 144 * 32 + 100];
+    assert_eq!(pack(&[0; 388], [96, 0, 0, 0], &mut file), Ok(()));
+    assert_eq!(clear(&input(&a_raw(), &file)), "too long\n");
+}

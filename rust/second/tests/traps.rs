@@ -1,0 +1,171 @@
+//! Document 01's "Traps", one test each. Each is a case where the mistake
+//! would give another answer than the one asserted.
+
+mod common;
+use common::*;
+use second::constraints::{tests, Test};
+use second::field::{mul, P};
+use second::{build, chain, check, hash, read_off, unpack, Refusal};
+
+fn failed_at(answer: Result<u64, Refusal>) -> (u64, u64) {
+    match answer {
+        Err(Refusal::Constraint {
+            row, constraint, ..
+        }) => (row, constraint),
+        other => panic!("not a failed constraint: {other:?}"),
+    }
+}
+
+/// S moves each cell one up at every step, twenty steps, so eight up; read
+/// transposed it would move them down, and the answer would be the four zeros.
+#[test]
+fn m_read_transposed() {
+    assert_eq!(
+        hash(&s(), [1, 2, 3, 4, 5, 6, 7, 9]),
+        Ok([5, 6, 7, 9]),
+        "cells 4 to 7 reach 0 to 3"
+    );
+    let mut trace = vec![0; 384];
+    build(&s(), &[1; 16], &mut trace).expect("builds");
+    assert_eq!(check(&s(), &trace, [1; 4]), Ok(372));
+}
+
+/// Each hash of a zero tap adds K_0[0] = 1 to cell 0.
+#[test]
+fn k_0_forgotten_at_the_second_hash() {
+    let mut trace = vec![0; 384];
+    assert_eq!(build(&a(), &[0; 16], &mut trace), Ok([3, 0, 0, 0]));
+    assert_eq!(check(&a(), &trace, [3, 0, 0, 0]), Ok(372));
+    // The trace of one who forgot it: cell 0 stays 1 from row 1 on.
+    let mut forgot = vec![0; 384];
+    for row in 1..32 {
+        forgot[12 * row] = 1;
+    }
+    assert_eq!(failed_at(check(&a(), &forgot, [1, 0, 0, 0])), (10, 21));
+}
+
+/// The known day (3,0,0,0) once more, with row 31 as one would have it who adds
+/// K_0 after the third hash too.
+#[test]
+fn k_0_added_at_row_30_too() {
+    let mut trace = vec![0; 384];
+    build(&a(), &[0; 16], &mut trace).expect("builds");
+    assert_eq!(trace[372], 3);
+    trace[372] = 4;
+    assert_eq!(failed_at(check(&a(), &trace, [4, 0, 0, 0])), (30, 33));
+}
+
+/// The new tap enters in columns 4 to 7 at rows 10 and 20, so back differs from
+/// forward there.
+#[test]
+fn constraints_25_to_32_kept_at_rows_10_and_20() {
+    let taps: Vec<u64> = (0..16).collect();
+    let mut trace = vec![0; 384];
+    let claim = build(&z(), &taps, &mut trace).expect("builds");
+    assert_eq!(check(&z(), &trace, claim), Ok(372));
+    for row in [10, 20] {
+        let numbers: Vec<usize> = tests(1)
+            .iter()
+            .filter(|test| test.row == row)
+            .map(|test| test.constraint)
+            .collect();
+        assert_eq!(numbers, [5, 6, 7, 8, 21, 22, 23, 24]);
+    }
+}
+
+#[test]
+fn zero_and_p_taken_as_equal() {
+    let mut trace = vec![0; 384];
+    trace[100] = P;
+    let refused = Err(Refusal::TraceWord { index: 100 });
+    assert_eq!(check(&z(), &trace, [0; 4]), refused);
+    let refused = Err(Refusal::ClaimWord { index: 3 });
+    assert_eq!(check(&z(), &[0; 384], [0, 0, 0, P]), refused);
+    let mut taps = vec![0; 16];
+    taps[0] = P;
+    assert_eq!(chain(&z(), &taps), Err(Refusal::TapWord { index: 0 }));
+    let mut table = z();
+    table[1] = P;
+    let refused = Err(Refusal::TableWord { index: 1 });
+    assert_eq!(chain(&table, &[0; 16]), refused);
+    // In a file p = 2 x 2^60 + 80 x 2^30 + 1: words 4, 5, 6 are element 1.
+    let mut file = zero_file();
+    file[16] = 2;
+    file[20] = 80;
+    file[24] = 1;
+    let refused = Err(Refusal::Value { word: 4 });
+    assert_eq!(unpack(&file, &mut [0; 16]), refused);
+    file[24] = 0; // p - 1
+    assert_eq!(unpack(&file, &mut [0; 16]), Ok([0, P - 1, 0, 0]));
+}
+
+/// With two batches, row 31 is compared with row 32, and the last row with the
+/// claim and not with row 0.
+#[test]
+fn the_last_row_compared_with_row_0() {
+    let taps: Vec<u64> = (1..=28).collect();
+    let mut trace = vec![0; 768];
+    let claim = build(&a(), &taps, &mut trace).expect("builds");
+    assert_ne!(trace[12 * 63], trace[0]);
+    assert_eq!(check(&a(), &trace, claim), Ok(744));
+    let order = tests(2);
+    for constraint in 45..=48 {
+        assert!(order.contains(&Test {
+            row: 31,
+            constraint
+        }));
+        assert!(!order.contains(&Test {
+            row: 63,
+            constraint
+        }));
+    }
+    for constraint in 49..=52 {
+        assert!(!order.contains(&Test {
+            row: 31,
+            constraint
+        }));
+        assert!(order.contains(&Test {
+            row: 63,
+            constraint
+        }));
+    }
+}
+
+/// The known days' single cells once more, in the second batch.
+#[test]
+fn the_second_batch_waved_through() {
+    let cases = [
+        ((32, 0), (31, 45)),
+        ((32, 3), (31, 48)),
+        ((32, 8), (32, 1)),
+        ((32, 4), (32, 13)),
+        ((43, 5), (43, 26)),
+        ((43, 9), (42, 6)),
+        ((63, 5), (62, 38)),
+    ];
+    for ((row, column), place) in cases {
+        let mut trace = vec![0; 768];
+        trace[12 * row + column] = 1;
+        assert_eq!(failed_at(check(&z(), &trace, [0; 4])), place);
+    }
+    assert_eq!(failed_at(check(&z(), &[0; 768], [0, 1, 0, 0])), (63, 50));
+}
+
+#[test]
+fn a_product_that_overflows_64_bits() {
+    assert_eq!(mul(1 << 31, 1 << 31), 2305842923314348031);
+    // 2^32 x 2^32 = 2^64 = 8 (p - 20 x 2^32 - 1) = -(160 x 2^32 + 8).
+    assert_eq!(mul(1 << 32, 1 << 32), P - (160 * (1 << 32) + 8));
+    assert_eq!(mul(P - 1, 2), P - 2);
+}
+
+/// Read-off of a tap in a later batch needs that batch's row 0 and its backs.
+#[test]
+fn every_tap_of_two_batches_is_read_off() {
+    let taps: Vec<u64> = (1..=28).collect();
+    let mut trace = vec![0; 768];
+    let claim = build(&s(), &taps, &mut trace).expect("builds");
+    let mut read = vec![0; 28];
+    assert_eq!(read_off(&s(), &trace, claim, &mut read), Ok(744));
+    assert_eq!(read, taps);
+}

@@ -1,0 +1,136 @@
+//! The yardstick answers what `second` answers. Its refusals are compared in the
+//! tests of `inputs`, case by case.
+
+use second::field::P;
+
+/// splitmix64 from a fixed seed.
+struct Random(u64);
+
+impl Random {
+    fn word(&mut self) -> u64 {
+        self.0 = self.0.wrapping_add(0x9e3779b97f4a7c15);
+        let mut x = self.0;
+        x = (x ^ (x >> 30)).wrapping_mul(0xbf58476d1ce4e5b9);
+        x = (x ^ (x >> 27)).wrapping_mul(0x94d049bb133111eb);
+        x ^ (x >> 31)
+    }
+
+    /// Below p; one in four near an end.
+    fn canonical(&mut self) -> u64 {
+        match self.word() % 8 {
+            0 => self.word() % 4,
+            1 => P - 1 - self.word() % 4,
+            _ => self.word() % P,
+        }
+    }
+
+    fn canonicals(&mut self, count: usize) -> Vec<u64> {
+        (0..count).map(|_| self.canonical()).collect()
+    }
+
+    fn table(&mut self) -> Vec<u64> {
+        let mut table = vec![0; 540];
+        loop {
+            if second::prepare(&self.canonicals(396), &mut table).is_ok() {
+                return table;
+            }
+        }
+    }
+}
+
+/// The words that make sums and products largest.
+const ENDS: [u64; 9] = [0, 1, 2, 1 << 32, 1 << 60, 1 << 61, P / 2, P - 2, P - 1];
+
+#[test]
+fn product_and_root() {
+    let mut random = Random(11);
+    for a in ENDS {
+        assert_eq!(yardstick::root(a), second::field::root(a), "{a}");
+        for b in ENDS {
+            assert_eq!(yardstick::product(a, b), second::field::mul(a, b));
+        }
+    }
+    for _ in 0..3000 {
+        let (a, b) = (random.canonical(), random.canonical());
+        assert_eq!(yardstick::product(a, b), second::field::mul(a, b));
+        assert_eq!(yardstick::root(a), second::field::root(a));
+    }
+}
+
+#[test]
+fn hash() {
+    let mut random = Random(12);
+    for _ in 0..30 {
+        let table = random.table();
+        let words = std::array::from_fn(|_| random.canonical());
+        let answer = second::hash(&table, words);
+        assert!(answer.is_ok());
+        assert_eq!(yardstick::hash(&table, words), answer);
+    }
+}
+
+/// M with p - 1 everywhere but on the diagonal, and constants p - 1: the sums
+/// reach their bounds.
+#[test]
+fn large_sums() {
+    let mut raw = vec![P - 1; 396];
+    for i in 0..12 {
+        raw[12 * i + i] = P - 2;
+    }
+    let mut table = vec![0; 540];
+    assert_eq!(second::prepare(&raw, &mut table), Ok(()));
+    for word in ENDS {
+        let answer = second::hash(&table, [word; 8]);
+        assert!(answer.is_ok());
+        assert_eq!(yardstick::hash(&table, [word; 8]), answer);
+    }
+}
+
+#[test]
+fn build_check_and_read_off() {
+    let mut random = Random(13);
+    for k in [1, 1, 2, 4, 8] {
+        let table = random.table();
+        let taps = random.canonicals(12 * k + 4);
+        let (mut trace, mut other) = (vec![7; 384 * k], vec![8; 384 * k]);
+        let answer = second::build(&table, &taps, &mut trace);
+        assert_eq!(yardstick::build(&table, &taps, &mut other), answer);
+        assert_eq!(other, trace);
+        let claim = answer.expect("builds");
+        let tests = Ok(372 * k as u64);
+        assert_eq!(yardstick::check(&table, &trace, claim), tests);
+        let mut read = vec![7; 12 * k + 4];
+        let answer = yardstick::read_off(&table, &trace, claim, &mut read);
+        assert_eq!(answer, tests);
+        assert_eq!(read, taps);
+    }
+}
+
+/// Every cell of a trace of two batches, altered alone, and the claim.
+#[test]
+fn altered_traces() {
+    let mut random = Random(14);
+    let table = random.table();
+    let mut trace = vec![0; 768];
+    let taps = random.canonicals(28);
+    let claim = second::build(&table, &taps, &mut trace).expect("builds");
+    for cell in 0..768 {
+        let honest = trace[cell];
+        trace[cell] = random.word() % P;
+        let answer = second::check(&table, &trace, claim);
+        assert!(answer.is_err(), "{cell}");
+        assert_eq!(yardstick::check(&table, &trace, claim), answer);
+        let mut read = vec![7; 28];
+        let other = yardstick::read_off(&table, &trace, claim, &mut read);
+        assert_eq!(other, answer);
+        assert_eq!(read, [7; 28]);
+        trace[cell] = honest;
+    }
+    for cell in 0..4 {
+        let mut claim = claim;
+        claim[cell] = random.word() % P;
+        let answer = second::check(&table, &trace, claim);
+        assert!(answer.is_err(), "{cell}");
+        assert_eq!(yardstick::check(&table, &trace, claim), answer);
+    }
+}
