@@ -7,7 +7,6 @@ use lib.ListN.{length}
 use Rattle.words.specs.Words.{AllCanonical}
 use Rattle.words.proofs.Laws.{all-good}
 use Rattle.counts.specs.Counts.{IsPermitted, traceBatches}
-use Rattle.counts.specs.declared.BatchCount.the-variants.{Permitted}
 use Rattle.counts.proofs.Laws.{trace-complete}
 use Rattle.refusals.specs.Refusals.{checkedAfter}
 use Rattle.refusals.specs.declared.Checked.{Checked}

@@ -9,10 +9,10 @@ use lib.ListN.{length, set}
 use Rattle.lists.specs.Lists.{cell, tab}
 use Rattle.lists.proofs.Tab.{filled, filled-more, filled-all, cell-tab}
 use Rattle.field.specs.Field.{Canonical}
-use Rattle.words.specs.Words.{AllCanonical, CanonicalTo}
+use Rattle.words.specs.Words.{CanonicalTo}
 use Rattle.table.specs.Table.{constant}
 use Rattle.hash.proofs.States.{state-cell}
-use Rattle.constraints.specs.Constraints.{row, within, round, minus, back}
+use Rattle.constraints.specs.Constraints.{row, round, minus, back}
 use Rattle.constraints.specs.ReadOff.{firstRow, readInput, readWord, readTaps}
 use Rattle.constraints.proofs.OneRound.{backStep-state}
 use Rattle.constraints.proofs.RowCells.{cell-row}

@@ -2,7 +2,6 @@
 -- Assumes nothing.
 use Rattle.readoff.proofs.ReadLaws.{four, first-word, next-word}
 use native.Mathlib.Omega.{arith}
-use borrow.Author.Needs.{needs}
 use Rattle.readoff.proofs.read_tap.Statement.{statement}
 use Rattle.readoff.proofs.read_tap.Tie as tie
 

@@ -1,12 +1,11 @@
 -- `readoff::write_taps` meets its contract: the taps passed are written, in rising order.
 -- Assumes nothing.
-use mathlib.Core.Path.{_≡_, refl, sym, _∙_}
+use mathlib.Core.Path.{_≡_, refl}
 use Prim.Native.Nat.{_+_, _*_, _-_, _≤_}
 use lib.ListN.{length, length-set}
 use Rattle.lists.proofs.Tab.{filled, filled-none}
 use Rattle.constraints.specs.ReadOff.{readWord}
 use Rattle.readoff.proofs.ReadLaws.{four-more, all-taps}
-use borrow.Author.Needs.{needs}
 use native.Mathlib.Omega.{arith}
 use Rattle.readoff.proofs.write_taps.Statement.{statement}
 use Rattle.readoff.proofs.write_taps.Tie as tie

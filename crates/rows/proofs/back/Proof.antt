@@ -7,13 +7,6 @@ use native.Mathlib.Omega.{arith}
 use borrow.Author.Needs.{needs}
 use Rattle.rows.proofs.back.Statement.{statement}
 use Rattle.rows.proofs.back.Tie as tie
-use Rattle.rows.proofs.back.Reads as reads
-use Rattle.rows.proofs.back.Lts as lts
-use Rattle.hash.proofs.cubes.Reads as cubes-reads
-use Rattle.matrix.proofs.times.Reads as times-reads
-use Rattle.rows.proofs.cells.Reads as cells-reads
-use Rattle.rows.proofs.less_constant.Reads as less-constant-reads
-use Rattle.rows.proofs.round_of.Reads as round-of-reads
 
 round-of-requires : tie.Need-round-of-requires
 round-of-requires c κs = search needs

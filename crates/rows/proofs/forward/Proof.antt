@@ -5,13 +5,6 @@ use Rattle.rows.proofs.RowLaws.{forward-plain, forward-entering, second
 use borrow.Author.Needs.{needs}
 use Rattle.rows.proofs.forward.Statement.{statement}
 use Rattle.rows.proofs.forward.Tie as tie
-use Rattle.rows.proofs.forward.Reads as reads
-use Rattle.rows.proofs.forward.Lts as lts
-use Rattle.hash.proofs.second_step.Reads as second-step-reads
-use Rattle.rows.proofs.cells.Reads as cells-reads
-use Rattle.rows.proofs.is_entering.Reads as is-entering-reads
-use Rattle.rows.proofs.plus_entering.Reads as plus-entering-reads
-use Rattle.rows.proofs.round_of.Reads as round-of-reads
 
 round-of-requires : tie.Need-round-of-requires
 round-of-requires c κs = search needs

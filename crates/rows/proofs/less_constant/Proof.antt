@@ -1,8 +1,8 @@
 -- `rows::less_constant` meets its contract: the cells passed are the differences.
 -- Assumes nothing.
-use mathlib.Core.Path.{_≡_, refl, sym, ap, _∙_, subst}
-use Prim.Native.Nat.{ℕ, _+_, _*_, _-_, _≤_, _<_}
-use lib.ListN.{length, length-set, replicate}
+use mathlib.Core.Path.{_≡_, refl, sym, subst}
+use Prim.Native.Nat.{_+_, _*_, _-_, _≤_}
+use lib.ListN.{length, length-set}
 use Rattle.lists.specs.Lists.{cell}
 use Rattle.lists.proofs.Tab.{filled, filled-none, filled-more}
 use Rattle.field.specs.Field.{sub}
@@ -10,13 +10,9 @@ use Rattle.words.specs.Words.{CanonicalTo}
 use Rattle.table.specs.Table.{constant}
 use Rattle.constraints.specs.Constraints.{minus}
 use Rattle.rows.proofs.RowLaws.{minus-canonical, minus-filled}
-use borrow.Author.Needs.{needs}
 use native.Mathlib.Omega.{arith}
 use Rattle.rows.proofs.less_constant.Statement.{statement}
 use Rattle.rows.proofs.less_constant.Tie as tie
-use Rattle.rows.proofs.less_constant.Reads as reads
-use Rattle.rows.proofs.less_constant.Lts as lts
-use Rattle.field.proofs.Fp.sub.Reads as sub-reads
 
 abbrev Inv-loop : tie.InvT-loop
 Inv-loop table n s start out₀ j₀ out j = (j ≤ 12) × (length out ≡ 12) × (out ≡ filled j (λ i. sub (cell s i) (cell table (start + i))) out₀)

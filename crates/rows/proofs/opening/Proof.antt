@@ -4,7 +4,6 @@ use mathlib.Core.Path.{sym}
 use Prim.Native.Nat.{_+_}
 use Rattle.table.proofs.Parts.{cell-constant}
 use native.Mathlib.Omega.{arith}
-use borrow.Author.Needs.{needs}
 use Rattle.rows.proofs.opening.Statement.{statement}
 use Rattle.rows.proofs.opening.Tie as tie
 

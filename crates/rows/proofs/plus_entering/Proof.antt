@@ -7,13 +7,9 @@ use Rattle.lists.specs.Lists.{cell}
 use Rattle.lists.proofs.Tab.{filled, filled-none, filled-more}
 use Rattle.field.specs.Field.{add}
 use Rattle.rows.proofs.RowLaws.{entering-filled}
-use borrow.Author.Needs.{needs}
 use native.Mathlib.Omega.{arith}
 use Rattle.rows.proofs.plus_entering.Statement.{statement}
 use Rattle.rows.proofs.plus_entering.Tie as tie
-use Rattle.rows.proofs.plus_entering.Reads as reads
-use Rattle.rows.proofs.plus_entering.Lts as lts
-use Rattle.field.proofs.Fp.add.Reads as add-reads
 
 abbrev Inv-loop : tie.InvT-loop
 Inv-loop table s out₀ j₀ out j = (j ≤ 4) × (length s ≡ 12) × (length out ≡ 12) × (out ≡ filled j (λ i. add (cell s i) (cell table (288 + i))) s)
