@@ -7,7 +7,7 @@ use native.Mathlib.Omega.{arith}
 use lib.Dec.{lit<, lit≤}
 use lib.Pow.{shr-lt}
 use Rattle.field.specs.Field.{P, mul}
-use Rattle.field.specs.Montgomery.{Short, element, timesWord, enterWord}
+use Rattle.field.specs.Montgomery.{Short, element, reduceWord, timesWord, enterWord}
 use Rattle.field.proofs.Modular.{mul-mod-l, mul-mod-r}
 
 -- numbers that differ by multiples of m
@@ -67,20 +67,24 @@ reduced t h l f u r et ef er = same P (r * 2 ^ 64) t f (2 ^ 64) (go P f er ef et
     go : (p f′ : ℕ) → r + u ≡ h + p → f′ * p ≡ u * 2 ^ 64 + l → t ≡ h * 2 ^ 64 + l → r * 2 ^ 64 + p * f′ ≡ t + p * 2 ^ 64
     go p f′ a b c = omega arith
 
-pub times-law : (a b l f u r : ℕ) → l ≡ a * b % 2 ^ 64 → f ≡ l * 16140900978596511745 % 2 ^ 64 → u ≡ f * P / 2 ^ 64 → r + u ≡ a * b / 2 ^ 64 + P → element r ≡ mul (element a) (element b)
-times-law a b l f u r el ef eu er = product-form P (2 ^ 64) 288230397626548624 inverse-of-unit a b r (reduced (a * b) (a * b / 2 ^ 64) l f u r split-t split-f er)
+-- what is taken off, from its words
+split : (l f u : ℕ) → l < 2 ^ 64 → f ≡ l * 16140900978596511745 % 2 ^ 64 → u ≡ f * P / 2 ^ 64 → f * P ≡ u * 2 ^ 64 + l
+split l f u h ef eu = sym (mod-add-div (f * P) (2 ^ 64)) ∙ turned (f * P % 2 ^ 64) (f * P / 2 ^ 64) ∙ ap₂ (λ x y. x * 2 ^ 64 + y) (sym eu) (lower-equal l f h ef)
+  where
+    turned : (x y : ℕ) → x + 2 ^ 64 * y ≡ y * 2 ^ 64 + x
+    turned x y = omega arith
+
+pub reduce-law : (h l f u r : ℕ) → l < 2 ^ 64 → f ≡ l * 16140900978596511745 % 2 ^ 64 → u ≡ f * P / 2 ^ 64 → r + u ≡ h + P → r % P ≡ element (h * 2 ^ 64 + l)
+reduce-law h l f u r hl ef eu er = divided P (2 ^ 64) 288230397626548624 inverse-of-unit r (h * 2 ^ 64 + l) (reduced (h * 2 ^ 64 + l) h l f u r refl (split l f u hl ef eu) er)
+
+times-law : (a b l f u r : ℕ) → l ≡ a * b % 2 ^ 64 → f ≡ l * 16140900978596511745 % 2 ^ 64 → u ≡ f * P / 2 ^ 64 → r + u ≡ a * b / 2 ^ 64 + P → element r ≡ mul (element a) (element b)
+times-law a b l f u r el ef eu er = product-form P (2 ^ 64) 288230397626548624 inverse-of-unit a b r (reduced (a * b) (a * b / 2 ^ 64) l f u r split-t (split l f u l-low ef eu) er)
   where
     l-low : l < 2 ^ 64
     l-low = subst (λ x. x < 2 ^ 64) (sym el) (mod-lt (a * b) (lit< tt))
 
     split-t : a * b ≡ a * b / 2 ^ 64 * 2 ^ 64 + l
     split-t = sym (mod-add-div (a * b) (2 ^ 64)) ∙ turned (a * b % 2 ^ 64) (a * b / 2 ^ 64) ∙ ap (λ x. a * b / 2 ^ 64 * 2 ^ 64 + x) (sym el)
-      where
-        turned : (x y : ℕ) → x + 2 ^ 64 * y ≡ y * 2 ^ 64 + x
-        turned x y = omega arith
-
-    split-f : f * P ≡ u * 2 ^ 64 + l
-    split-f = sym (mod-add-div (f * P) (2 ^ 64)) ∙ turned (f * P % 2 ^ 64) (f * P / 2 ^ 64) ∙ ap₂ (λ x y. x * 2 ^ 64 + y) (sym eu) (lower-equal l f l-low ef)
       where
         turned : (x y : ℕ) → x + 2 ^ 64 * y ≡ y * 2 ^ 64 + x
         turned x y = omega arith
@@ -117,14 +121,14 @@ module _ (a b : ℕ) (ha : Short a) (hb : Short b) where
   off-small = factor-small factor (mod-lt (a * b % 2 ^ 64 * 16140900978596511745) (lit< tt))
 
   pub times-element : element (timesWord a b) ≡ mul (element a) (element b)
-  unfolding factor timesWord
+  unfolding factor timesWord reduceWord
   times-element = times-law a b (a * b % 2 ^ 64) factor (factor * P / 2 ^ 64) (timesWord a b) refl refl refl (restored (a * b / 2 ^ 64) (factor * P / 2 ^ 64) off-small)
     where
       restored : (h u : ℕ) → u < P → ((h + P) - u) + u ≡ h + P
       restored h u l = omega arith
 
   pub times-short : Short (timesWord a b)
-  unfolding factor timesWord
+  unfolding factor timesWord reduceWord
   times-short = low (a * b / 2 ^ 64) (factor * P / 2 ^ 64) (upper-small a b ha hb)
     where
       low : (h u : ℕ) → h < P → (h + P) - u < 2 * P

@@ -11,10 +11,14 @@ Short v = v < 2 * P
 abbrev pub element : ℕ → ℕ
 element v = (v * 288230397626548624) % P
 
--- a b / 2^64: the upper word of a b less that of the multiple of p with the same lower word, kept above 0 by p.
+-- (upper 2^64 + lower) / 2^64: the upper word less that of the multiple of p with the same lower word, kept above 0 by p.
 -- 16140900978596511745 is 1 / p modulo 2^64
+unfoldable pub reduceWord : ℕ → ℕ → ℕ
+reduceWord upper lower = (upper + P) - lower * 16140900978596511745 % 2 ^ 64 * P / 2 ^ 64
+
+-- a b / 2^64
 unfoldable pub timesWord : ℕ → ℕ → ℕ
-timesWord a b = (a * b / 2 ^ 64 + P) - a * b % 2 ^ 64 * 16140900978596511745 % 2 ^ 64 * P / 2 ^ 64
+timesWord a b = reduceWord (a * b / 2 ^ 64) (a * b % 2 ^ 64)
 
 -- 2^128 mod p, which takes an element to its word
 abbrev pub enterWord : ℕ → ℕ

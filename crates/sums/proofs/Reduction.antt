@@ -5,7 +5,7 @@ use mathlib.Core.Path.{_≡_, refl, sym, ap, _∙_, subst}
 use mathlib.Core.Bool.{Bool, true, false}
 use native.Mathlib.Nat.{le-refl, le-trans, add-le-add, mul-le-mul, mul-le-mul-left, mul-le-mul-right, lt-of-mul-lt-mul-right, lt-of-le-of-lt, add-mul-mod-self-left, mul-comm, mod-eq-of-lt, add-mod}
 use native.Mathlib.Omega.{arith}
-use borrow.Author.Tests.{ltb-true, ltb-false}
+use borrow.Author.Tests.{ltb-true, ltb-false, le-ltb}
 use lib.Arith.{digits-lt}
 use lib.Dec.{ltb, lit<, lit≤}
 use lib.Pow.{shr-lt}
@@ -66,6 +66,30 @@ less-same x m k em = go (ltb x m) refl
       where
         s : x ≡ (x - m) + P * k
         s = omega (arith, ltb-false x m e)
+
+-- the difference, which wraps where m is not reached, is the lesser exactly where it is
+pub taken-off : (x m y : ℕ) → x < 2 ^ 64 → m < 2 ^ 64 → (y + m) % 2 ^ 64 ≡ x → y < x → y ≡ lessOnce x m
+taken-off x m y hx hm e h = rw (le-ltb x m reached) (omega (arith, reached))
+  where
+    reached : m ≤ x
+    reached = omega arith
+
+pub left-alone : (x m y : ℕ) → x < 2 ^ 64 → m < 2 ^ 64 → y < 2 ^ 64 → (y + m) % 2 ^ 64 ≡ x → x ≤ y → x ≡ lessOnce x m
+left-alone x m y hx hm hy e h = go (ltb x m) refl
+  where
+    go : (b : Bool) → ltb x m ≡ b → x ≡ choose b x (x - m)
+    go true q = refl
+    go false q = omega (arith, ltb-false x m q)
+
+-- a number below 2^64, less 4p and 2p where it reaches them
+pub shortened : (n left a r : ℕ) → left < 2 ^ 64 → left % P ≡ n → a ≡ lessOnce left (4 * P) → r ≡ lessOnce a (2 * P) → (r % P ≡ n) × (r < 2 * P)
+shortened n left a r h e ea er = (
+  ap (λ x. x % P) er ∙ less-same a (2 * P) 2 refl ∙ ap (λ x. x % P) ea ∙ less-same left (4 * P) 4 refl ∙ e,
+  subst (λ x. x < 2 * P) (sym er) (less-lt a (2 * P) (omega (arith, a-low))),
+)
+  where
+    a-low : a < 4 * P
+    a-low = subst (λ x. x < 4 * P) (sym ea) (less-lt left (4 * P) (omega arith))
 
 -- ---- a sum of two words, with its carry
 pub carries : (u s p l h n : ℕ) → s < 2 ^ 64 → p ≡ n % 2 ^ 64 → h ≡ n / 2 ^ 64 → l ≡ (s + p) % 2 ^ 64 → l < p → (u + h + 1) * 2 ^ 64 + l ≡ u * 2 ^ 64 + s + n

@@ -1,9 +1,11 @@
-// Sums of products of two elements, which have 128 bits, reduced by p once.
+// Sums of products of two words, which have 128 bits, reduced by p once.
 ghost use mathlib.Core.Path.{_≡_};
-ghost use Prim.Native.Nat.{_+_, _*_, _%_, _^_, _<_};
+ghost use Prim.Native.Nat.{_+_, _*_, _/_, _%_, _^_, _<_};
 ghost use Rattle.field.specs.Field.{P, Canonical};
+ghost use Rattle.field.specs.Montgomery.{Short, element};
 ghost use Rattle.sums.specs.Sums.{valueOf, lessOnce};
 use field::Fp;
+use field::montgomery;
 
 // An upper and a lower word.
 pub struct Wide(pub u64, pub u64);
@@ -16,7 +18,7 @@ impl Wide {
 
     // The sum with a * b.
     pub fn plus(self, a: u64, b: u64) -> Wide
-        requires { ⌜ (self .0 < 2 ^ 62) × Canonical a × Canonical b ⌝ }
+        requires { ⌜ self .0 + a * b / 2 ^ 64 + 1 < 2 ^ 64 ⌝ }
         ensures { λ r. ⌜ valueOf r ≡ valueOf self + a * b ⌝ }
     {
         let part = wide::low(a, b);
@@ -38,11 +40,21 @@ impl Wide {
         let left = std::num::wrapping_sub_u64(self.1, wide::low(quotient, Fp::P));
         less_once(less_once(less_once(left, 4 * Fp::P), 2 * Fp::P), Fp::P)
     }
+
+    // The number divided by 2^64, by Montgomery's method, and short.
+    pub fn divided(self) -> u64
+        requires { ⌜ self .0 + P < 2 ^ 64 ⌝ }
+        ensures { λ r. ⌜ (r % P ≡ element (valueOf self)) × Short r ⌝ }
+    {
+        let left = montgomery::reduce(self.0, self.1);
+        less_once(less_once(left, 4 * Fp::P), 2 * Fp::P)
+    }
 }
 
-// x, less m where it reaches m.
-fn less_once(x: u64, m: u64) -> u64
+// x, less m where it reaches m: the lesser of x and the difference, which wraps where m is not reached. In this form the compiler takes no branch.
+pub fn less_once(x: u64, m: u64) -> u64
     ensures { λ r. ⌜ r ≡ lessOnce x m ⌝ }
 {
-    if x < m { x } else { x - m }
+    let less = std::num::wrapping_sub_u64(x, m);
+    if less < x { less } else { x }
 }

@@ -13,6 +13,7 @@ use Rattle.lists.specs.Lists.{cell, sum as total}
 use Rattle.lists.proofs.Sum.{sum-zero, sum-suc, sum-le}
 use Rattle.field.specs.Field.{P, Canonical}
 use Rattle.sums.specs.Sums.{valueOf}
+use Rattle.sums.proofs.Reduction.{upper-small}
 use Rattle.words.specs.Words.{AllCanonical, CanonicalTo}
 use Rattle.matrix.specs.Matrix.{entry, timesColumn}
 use Rattle.matrix.proofs.dot.Statement.{statement}
@@ -65,11 +66,10 @@ small m row s hr e cm cs n hn i h = term-small (entry m row i) (cell s i) (cm (1
 plus-requires : tie.Need-plus-requires Inv-loop μ-loop
 plus-requires c κs =
     let a = c .before .before .before .before in
-    let l = c .before .before .loop in (
-      room (l .j) (l .sum .0) (l .sum .1) _ (l .inv .0) (small (a .args .m .now) (a .args .row) (a .args .t3) (a .pre .0) (a .pre .1) (a .pre .2) (a .pre .3) (l .j) (l .inv .0)) (l .inv .1),
-      a .pre .2 (12 * a .args .row + l .j) (omega arith),
-      a .pre .3 (l .j) (omega arith),
-    )
+    let l = c .before .before .loop in
+    let below = room (l .j) (l .sum .0) (l .sum .1) _ (l .inv .0) (small (a .args .m .now) (a .args .row) (a .args .t3) (a .pre .0) (a .pre .1) (a .pre .2) (a .pre .3) (l .j) (l .inv .0)) (l .inv .1) in
+    let upper = upper-small (entry (a .args .m .now) (a .args .row) (l .j)) (cell (a .args .t3) (l .j)) (a .pre .2 (12 * a .args .row + l .j) (omega arith)) (a .pre .3 (l .j) (omega arith)) in
+    omega (arith, below, upper)
 
 add-j : tie.Need-add-j Inv-loop μ-loop
 add-j c = omega arith

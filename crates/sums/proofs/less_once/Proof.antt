@@ -1,14 +1,18 @@
 -- `sums::less_once` meets its contract.
 -- Assumes nothing.
-use borrow.Author.Tests.{lt-ltb, le-ltb}
+use borrow.Author.Needs.{needs}
+use Rattle.sums.proofs.Reduction.{taken-off, left-alone}
 use Rattle.sums.proofs.less_once.Statement.{statement}
 use Rattle.sums.proofs.less_once.Tie as tie
 
+wrapping-sub-u64-requires : tie.Need-wrapping-sub-u64-requires
+wrapping-sub-u64-requires c κs = search needs
+
 returns : tie.Need-returns
-returns c = rw (lt-ltb _ _ (c .if1 .taken))
+returns c = taken-off _ _ _ (search needs) (search needs) (c .before .wrapping-sub-u64 .ensures) (c .if1 .taken)
 
 returns-2 : tie.Need-returns-2
-returns-2 c = rw (le-ltb _ _ (c .if1 .left))
+returns-2 c = left-alone _ _ _ (search needs) (search needs) (search needs) (c .before .wrapping-sub-u64 .ensures) (c .if1 .left)
 
 pub less-once-spec : {M : Type 1} → statement M
-less-once-spec = tie.close (tie.spec returns returns-2)
+less-once-spec = tie.close (tie.spec wrapping-sub-u64-requires returns returns-2)

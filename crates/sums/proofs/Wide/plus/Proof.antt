@@ -3,7 +3,7 @@
 use Prim.Native.Nat.{_*_}
 use native.Mathlib.Omega.{arith}
 use borrow.Author.Needs.{needs}
-use Rattle.sums.proofs.Reduction.{carries, carries-none, upper-small}
+use Rattle.sums.proofs.Reduction.{carries, carries-none}
 use Rattle.sums.proofs.Wide.plus.Statement.{statement}
 use Rattle.sums.proofs.Wide.plus.Tie as tie
 
@@ -18,16 +18,16 @@ high-requires c κs = search needs
 
 -- the upper words' sum and a carry fit
 add-t9 : tie.Need-add-t9
-add-t9 c = let a = c .before .before .before .before .before in omega (arith, c .before .high .ensures, upper-small (a .args .a) (a .args .b) (a .pre .1) (a .pre .2), a .pre .0)
+add-t9 c = let a = c .before .before .before .before .before in omega (arith, c .before .high .ensures, a .pre)
 
 add-t10 : tie.Need-add-t10
-add-t10 c = let a = c .before .before .before .before .before in omega (arith, c .before .high .ensures, upper-small (a .args .a) (a .args .b) (a .pre .1) (a .pre .2), a .pre .0)
+add-t10 c = let a = c .before .before .before .before .before in omega (arith, c .before .high .ensures, a .pre)
 
 high-requires-2 : tie.Need-high-requires-2
 high-requires-2 c κs = search needs
 
 add-t12 : tie.Need-add-t12
-add-t12 c = let a = c .before .before .before .before .before in omega (arith, c .before .high2 .ensures, upper-small (a .args .a) (a .args .b) (a .pre .1) (a .pre .2), a .pre .0)
+add-t12 c = let a = c .before .before .before .before .before in omega (arith, c .before .high2 .ensures, a .pre)
 
 returns : tie.Need-returns
 returns c =
