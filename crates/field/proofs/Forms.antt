@@ -127,6 +127,19 @@ module _ (a b : ℕ) (ha : Short a) (hb : Short b) where
       restored : (h u : ℕ) → u < P → ((h + P) - u) + u ≡ h + P
       restored h u l = omega arith
 
+  -- the product divided by 2^64
+  pub times-divided : timesWord a b % P ≡ element (a * b)
+  unfolding factor timesWord reduceWord
+  times-divided =
+      reduce-law (a * b / 2 ^ 64) (a * b % 2 ^ 64) factor (factor * P / 2 ^ 64) (timesWord a b) (mod-lt (a * b) (lit< tt)) refl refl (restored (a * b / 2 ^ 64) (factor * P / 2 ^ 64) off-small)
+      ∙ ap element (joined (a * b % 2 ^ 64) (a * b / 2 ^ 64) ∙ mod-add-div (a * b) (2 ^ 64))
+    where
+      restored : (h u : ℕ) → u < P → ((h + P) - u) + u ≡ h + P
+      restored h u l = omega arith
+
+      joined : (x y : ℕ) → y * 2 ^ 64 + x ≡ x + 2 ^ 64 * y
+      joined x y = omega arith
+
   pub times-short : Short (timesWord a b)
   unfolding factor timesWord reduceWord
   times-short = low (a * b / 2 ^ 64) (factor * P / 2 ^ 64) (upper-small a b ha hb)

@@ -91,6 +91,13 @@ shortened n left a r h e ea er = (
     a-low : a < 4 * P
     a-low = subst (λ x. x < 4 * P) (sym ea) (less-lt left (4 * P) (omega arith))
 
+-- a short word, less p where it reaches it
+pub made-canonical : (n x r : ℕ) → x < 2 * P → x % P ≡ n → r ≡ lessOnce x P → (r ≡ n) × (r < P)
+made-canonical n x r h e er = (sym (mod-eq-of-lt low) ∙ ap (λ y. y % P) er ∙ less-same x P 1 refl ∙ e, low)
+  where
+    low : r < P
+    low = subst (λ y. y < P) (sym er) (less-lt x P h)
+
 -- ---- a sum of two words, with its carry
 pub carries : (u s p l h n : ℕ) → s < 2 ^ 64 → p ≡ n % 2 ^ 64 → h ≡ n / 2 ^ 64 → l ≡ (s + p) % 2 ^ 64 → l < p → (u + h + 1) * 2 ^ 64 + l ≡ u * 2 ^ 64 + s + n
 carries u s p l h n hs ep eh el lt = omega arith
