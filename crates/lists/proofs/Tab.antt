@@ -6,8 +6,8 @@ use Prim.Native.Nat.{ℕ, zero, suc, _+_, _-_, _<_, _≤_}
 use native.Mathlib.Nat.{zero-add, suc-add, add-zero, add-suc, le-of-suc-le-suc}
 use native.Mathlib.Numerals.{add-one}
 use native.Mathlib.Omega.{arith}
-use lib.ListN.{length, getD, drop, set, length-append, length-drop, drop-of-length-le, List·getD-append}
-use lib.Seq.{drop-cons, set-append-seam, getD-append-add, ext-getD, getD-drop}
+use lib.ListN.{length, getD, take, drop, set, take-append-drop, length-append, length-drop, drop-of-length-le, List·getD-append}
+use lib.Seq.{drop-cons, set-append-seam, getD-append-add, ext-getD, getD-drop, getD-take, length-take-le}
 use Rattle.lists.specs.Lists.{tab, cell}
 
 pub length-tab : (n : ℕ) (f : ℕ → ℕ) → length (tab n f) ≡ n
@@ -100,3 +100,8 @@ filled-after n f s i h =
 pub filled-before : (n : ℕ) (f : ℕ → ℕ) (s : List ℕ) (i : ℕ) → i < n → cell (filled n f s) i ≡ f i
 unfolding filled
 filled-before n f s i h = List·getD-append (tab n f) (drop n s) 0 i (omega (arith, length-tab n f)) ∙ cell-tab n f i h
+
+-- a list whose first cells are right already
+pub filled-same : (n : ℕ) (f : ℕ → ℕ) (s : List ℕ) → n ≤ length s → ((i : ℕ) → i < n → cell s i ≡ f i) → s ≡ filled n f s
+unfolding filled
+filled-same n f s h e = sym (take-append-drop n s) ∙ ap (λ l. l ++ drop n s) (tab-unique n (take n s) f (length-take-le n s h) (λ i l. getD-take n s i 0 l ∙ e i l))

@@ -163,11 +163,10 @@ returns : tie.Need-returns Inv-loop μ-loop
 returns c =
     let l = c .before .before in
     let a = l .before .before .before .before in
-    let e : l .loop .j ≡ 6 = omega arith in
-    (
+    let e : l .loop .j ≡ 6 = omega arith in (
       c .divided .ensures .0
-      ∙ ap element (l .loop .inv .1 ∙ ap (λ n. (end a - a .args .within + a .args .k) * 2 ^ 64 + total n (cross (row a) (column a))) e)
-      ∙ inner (row a) (column a) (end a - a .args .within + a .args .k) (a .args .k) (ap (λ w. (end a - a .args .within + a .args .k) + (neighbours (row a) + w)) (sym (a .pre .4)) ∙ over a .1),
+          ∙ ap element (l .loop .inv .1 ∙ ap (λ n. (end a - a .args .within + a .args .k) * 2 ^ 64 + total n (cross (row a) (column a))) e)
+          ∙ inner (row a) (column a) (end a - a .args .within + a .args .k) (a .args .k) (ap (λ w. (end a - a .args .within + a .args .k) + (neighbours (row a) + w)) (sym (a .pre .4)) ∙ over a .1),
       c .divided .ensures .1,
     )
 
