@@ -32,19 +32,6 @@ module _ (t : List ℕ) (i : ℕ) (h : HasRow t i) where
     h .canonical (start + j) (omega (arith, h .inside)),
   )
 
--- a cell of minus, from the words
-pub minus-canonical : (s k : List ℕ) → CanonicalTo 12 (minus s k)
-unfolding minus
-minus-canonical s k j l = subst Canonical (sym (cell-tab 12 (λ n. sub (cell s n) (cell k n)) j l)) (mod-lt _ (omega arith))
-
-pub minus-filled : (T s : List ℕ) (n start : ℕ) → start ≡ 288 + 12 * n → (out : List ℕ) (m : ℕ) → m ≡ 12 → out ≡ filled m (λ j. sub (cell s j) (cell T (start + j))) (replicate 12 0) → out ≡ minus s (constant T n)
-unfolding minus
-minus-filled T s n start e out m q f =
-    f
-    ∙ ap (λ x. filled x (λ j. sub (cell s j) (cell T (start + j))) (replicate 12 0)) q
-    ∙ filled-all 12 _ (replicate 12 0) refl
-    ∙ tab-ext 12 (λ j. sub (cell s j) (cell T (start + j))) (λ j. sub (cell s j) (cell (constant T n) j)) (λ j l. ap (sub (cell s j)) (ap (λ x. cell T (x + j)) e ∙ sym (cell-constant T n j l)))
-
 -- K_0 added in columns 0 to 3 only: the others are as they were
 pub entering-filled : (T s : List ℕ) → length s ≡ 12 → CanonicalTo 12 s → (out : List ℕ) (m : ℕ) → m ≡ 4 → out ≡ filled m (λ j. add (cell s j) (cell T (288 + j))) s → out ≡ plus s (take 4 (constant T 0))
 unfolding plus

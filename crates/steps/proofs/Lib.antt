@@ -1,0 +1,3 @@
+pub mod Differences
+pub mod Scales
+pub mod Made

@@ -1,0 +1,62 @@
+-- The second step, and the first step undone, from the cells that the loops store.
+-- Assumes nothing.
+use mathlib.Core.Path.{_≡_, refl, sym, ap, ap₂, _∙_, subst}
+use mathlib.Core.List.{List}
+use Prim.Native.Nat.{ℕ, _+_, _*_, _%_, _<_}
+use native.Mathlib.Nat.{mod-eq-of-lt, add-zero}
+use native.Mathlib.Omega.{arith}
+use Rattle.lists.specs.Lists.{cell, tab, sum}
+use Rattle.lists.proofs.Tab.{cell-tab, tab-ext}
+use Rattle.field.specs.Field.{P, add, cube}
+use Rattle.field.specs.Montgomery.{element}
+use Rattle.field.proofs.Forms.{element-lt}
+use Rattle.matrix.specs.Matrix.{entry, timesColumn, times}
+use Rattle.matrix.proofs.Linear.{times-ext}
+use Rattle.matrix.proofs.States.{cell-times}
+use Rattle.winograd.specs.Winograd.{scaled, IsReady}
+use Rattle.winograd.proofs.ReadyWords.{cell-ready, ready-is}
+use Rattle.table.specs.Table.{matrixOf, inverseOf, constant}
+use Rattle.table.proofs.Parts.{cell-constant}
+use Rattle.hash.specs.Hash.{cubes, plus, mix, secondStep}
+use Rattle.constraints.specs.Constraints.{minus, backStep}
+use Rattle.steps.specs.Steps.{thinCube, forwardReady, backReady}
+use Rattle.steps.proofs.Scales.{forward-cell, back-cell}
+
+pub forward-is : (T ready : List ℕ) → ready ≡ forwardReady T → IsReady ready
+unfolding forwardReady
+forward-is T ready e = subst IsReady (sym e) (ready-is (matrixOf T) 700181197168064166)
+
+pub back-is : (T ready : List ℕ) → ready ≡ backReady T → IsReady ready
+unfolding backReady
+back-is T ready e = subst IsReady (sym e) (ready-is (inverseOf T) 573374571730495292)
+
+-- row i of a ready matrix times a column, divided by 2^64
+abbrev pub inner : List ℕ → List ℕ → ℕ → ℕ
+inner ready x i = element (sum 12 (λ j. cell ready (12 * i + j) * cell x j))
+
+-- ---- the second step
+pub second-made : (T ready s cubed out : List ℕ) (round start : ℕ) → ready ≡ forwardReady T → cubed ≡ tab 12 (λ j. thinCube (cell s j)) → start ≡ 288 + 12 * (2 * round + 2)
+    → out ≡ tab 12 (λ i. add (inner ready cubed i) (cell T (start + i))) → out ≡ secondStep T round s
+unfolding secondStep plus mix cubes forwardReady
+second-made T ready s cubed out round start er ec es e =
+    e ∙ tab-ext 12 (λ i. add (inner ready cubed i) (cell T (start + i))) (λ i. add (cell (mix T (cubes s)) i) (cell (constant T (2 * round + 2)) i)) (λ i h. ap₂ add (mixed i h) (ap (λ x. cell T (x + i)) es ∙ sym (cell-constant T (2 * round + 2) i h)))
+  where
+    mixed : (i : ℕ) → i < 12 → inner ready cubed i ≡ cell (mix T (cubes s)) i
+    mixed i h =
+        forward-cell (matrixOf T) i (λ j. cell ready (12 * i + j)) (cell cubed) (λ j l. ap (λ x. cell x (12 * i + j)) er ∙ cell-ready (matrixOf T) 700181197168064166 (12 * i + j) (omega arith)) (cell s) (λ j l. ap (λ x. cell x j) ec ∙ cell-tab 12 (λ n. thinCube (cell s n)) j l)
+        ∙ times-ext 12 (entry (matrixOf T)) (entry (matrixOf T)) (λ j. cube (cell s j)) (cell (cubes s)) i (λ j l. refl) (λ j l. sym (cell-tab 12 (λ n. cube (cell s n)) j l))
+        ∙ sym (cell-times (matrixOf T) (cubes s) i h)
+
+-- ---- the first step undone
+
+-- the cell that is stored, from a word that is the inner product
+pub back-word : (T ready less : List ℕ) (i y : ℕ) → i < 12 → ready ≡ backReady T → y % P ≡ (inner ready less i + 0) % P → thinCube y ≡ cube (timesColumn 12 (entry (inverseOf T)) (cell less) i)
+unfolding backReady
+back-word T ready less i y h er e = back-cell (inverseOf T) i (λ j. cell ready (12 * i + j)) (cell less) (λ j l. ap (λ x. cell x (12 * i + j)) er ∙ cell-ready (inverseOf T) 573374571730495292 (12 * i + j) (omega arith)) y (e ∙ ap (λ x. x % P) (add-zero (inner ready less i)) ∙ mod-eq-of-lt (element-lt _))
+
+pub undone-made : (T s less out : List ℕ) (round : ℕ) → less ≡ minus s (constant T (2 * round + 1)) → out ≡ tab 12 (λ i. cube (timesColumn 12 (entry (inverseOf T)) (cell less) i)) → out ≡ backStep T round s
+unfolding backStep cubes
+undone-made T s less out round el e =
+    e
+    ∙ tab-ext 12 (λ i. cube (timesColumn 12 (entry (inverseOf T)) (cell less) i)) (λ i. cube (cell (times (inverseOf T) less) i)) (λ i h. ap cube (sym (cell-times (inverseOf T) less i h)))
+    ∙ ap (λ x. cubes (times (inverseOf T) x)) el

@@ -1,0 +1,100 @@
+-- The scales make up for cubes divided by 2^128.
+-- Assumes nothing.
+use Prim.Native.Nat.{ℕ, _+_, _*_, _%_, _^_, _<_}
+use mathlib.Core.Path.{_≡_, refl, sym, ap, ap₂, _∙_, subst}
+use mathlib.Core.List.{List}
+use native.Mathlib.Nat.{mul-one, mod-mod}
+use native.Mathlib.Omega.{arith}
+use Rattle.lists.specs.Lists.{cell, sum}
+use Rattle.lists.proofs.Sum.{sum-mul-r}
+use Rattle.field.specs.Field.{P, cube}
+use Rattle.field.specs.Montgomery.{element}
+use Rattle.field.proofs.Modular.{mul-mod-l, mul-mod-r}
+use Rattle.matrix.specs.Matrix.{entry, timesColumn}
+use Rattle.matrix.proofs.Modulo.{mul-eq, sum-eq}
+use Rattle.winograd.specs.Winograd.{scaled}
+use Rattle.steps.specs.Steps.{thinCube}
+
+-- ---- modulo p, where j is the inverse of 2^64
+module _ (p j : ℕ) where
+  -- x^3 / 2^128, in one piece
+  thin-flat : (x : ℕ) → ((x * x * j) % p * x * j) % p ≡ (x * x * x * (j * j)) % p
+  thin-flat x = ap (λ z. z % p) (turned ((x * x * j) % p)) ∙ mul-mod-l p (x * x * j) (x * j) ∙ ap (λ z. z % p) spread
+    where
+      turned : (a : ℕ) → a * x * j ≡ a * (x * j)
+      turned a = omega arith
+
+      spread : x * x * j * (x * j) ≡ x * x * x * (j * j)
+      spread = omega arith
+
+  cube-flat : (x : ℕ) → ((x * x) % p * x) % p ≡ (x * x * x) % p
+  cube-flat x = mul-mod-l p (x * x) x
+
+  -- a scale c with c j^4 = 1: a scaled cell times a thin cube, divided by 2^64, is the cell times the cube
+  module _ (c : ℕ) (inv : (c * (j * j * j * j)) % p ≡ 1) where
+    pub forward-term : (m x : ℕ) → ((m * c * j) % p * (((x * x * j) % p * x * j) % p) * j) % p ≡ (m * (((x * x) % p * x) % p)) % p
+    forward-term m x =
+        ap (λ z. z % p) (turned ((m * c * j) % p) (((x * x * j) % p * x * j) % p))
+        ∙ mul-eq p ((m * c * j) % p) (m * c * j) ((((x * x * j) % p * x * j) % p) * j) (x * x * x * (j * j) * j) (mod-mod (m * c * j) p) (mul-eq p (((x * x * j) % p * x * j) % p) (x * x * x * (j * j)) j j (mod-mod _ p ∙ thin-flat x) refl)
+        ∙ ap (λ z. z % p) gathered
+        ∙ sym (mul-mod-r p (m * (x * x * x)) (c * (j * j * j * j)))
+        ∙ ap (λ z. (m * (x * x * x) * z) % p) inv
+        ∙ ap (λ z. z % p) (mul-one (m * (x * x * x)))
+        ∙ sym (mul-eq p m m (((x * x) % p * x) % p) (x * x * x) refl (mod-mod _ p ∙ cube-flat x))
+      where
+        turned : (a b : ℕ) → a * b * j ≡ a * (b * j)
+        turned a b = omega arith
+
+        gathered : m * c * j * (x * x * x * (j * j) * j) ≡ m * (x * x * x) * (c * (j * j * j * j))
+        gathered = omega arith
+
+  -- a scale c with (c j^2)^3 j^2 = 1: the thin cube of what is c j^2 times n is the cube of n
+  module _ (c : ℕ) (inv : (c * j * j * (c * j * j) * (c * j * j) * (j * j)) % p ≡ 1) where
+    pub back-cube : (y n : ℕ) → y % p ≡ (n * (c * j * j)) % p → ((y * y * j) % p * y * j) % p ≡ ((n % p * (n % p)) % p * (n % p)) % p
+    back-cube y n e =
+        thin-flat y
+        ∙ mul-eq p (y * y * y) (d * d * d) (j * j) (j * j) (mul-eq p (y * y) (d * d) y d (mul-eq p y d y d e e) e) refl
+        ∙ ap (λ z. z % p) gathered
+        ∙ sym (mul-mod-r p (n * n * n) (c * j * j * (c * j * j) * (c * j * j) * (j * j)))
+        ∙ ap (λ z. (n * n * n * z) % p) inv
+        ∙ ap (λ z. z % p) (mul-one (n * n * n))
+        ∙ sym (cube-flat (n % p) ∙ mul-eq p (n % p * (n % p)) (n * n) (n % p) n (mul-eq p (n % p) n (n % p) n (mod-mod n p) (mod-mod n p)) (mod-mod n p))
+      where
+        d : ℕ
+        d = n * (c * j * j)
+
+        gathered : d * d * d * (j * j) ≡ n * n * n * (c * j * j * (c * j * j) * (c * j * j) * (j * j))
+        gathered = go (c * j * j)
+          where
+            go : (f : ℕ) → n * f * (n * f) * (n * f) * (j * j) ≡ n * n * n * (f * f * f * (j * j))
+            go f = omega arith
+
+    -- a scaled cell times x, divided by 2^64
+    pub back-term : (m x : ℕ) → ((m * c * j) % p * x * j) % p ≡ (m * x * (c * j * j)) % p
+    back-term m x = ap (λ z. z % p) (turned ((m * c * j) % p)) ∙ mul-mod-l p (m * c * j) (x * j) ∙ ap (λ z. z % p) gathered
+      where
+        turned : (a : ℕ) → a * x * j ≡ a * (x * j)
+        turned a = omega arith
+
+        gathered : m * c * j * (x * j) ≡ m * x * (c * j * j)
+        gathered = omega arith
+
+-- ---- rows of a matrix made ready
+pub forward-cell : (m : List ℕ) (i : ℕ) (r x : ℕ → ℕ) → ((n : ℕ) → n < 12 → r n ≡ scaled m 700181197168064166 (12 * i + n)) → (s : ℕ → ℕ) → ((n : ℕ) → n < 12 → x n ≡ thinCube (s n))
+    → element (sum 12 (λ n. r n * x n)) ≡ timesColumn 12 (entry m) (λ n. cube (s n)) i
+unfolding timesColumn scaled
+forward-cell m i r x hr s hx =
+    ap (λ z. z % P) (sym (sum-mul-r 12 288230397626548624 (λ n. r n * x n)))
+    ∙ sum-eq P 12 (λ n. r n * x n * 288230397626548624) (λ n. entry m i n * cube (s n)) (λ n l. ap₂ (λ a b. (a * b * 288230397626548624) % P) (hr n l) (hx n l) ∙ forward-term P 288230397626548624 700181197168064166 refl (entry m i n) (s n))
+
+pub back-cell : (m : List ℕ) (i : ℕ) (r x : ℕ → ℕ) → ((n : ℕ) → n < 12 → r n ≡ scaled m 573374571730495292 (12 * i + n))
+    → (y : ℕ) → y % P ≡ element (sum 12 (λ n. r n * x n)) → thinCube y ≡ cube (timesColumn 12 (entry m) x i)
+unfolding timesColumn scaled
+back-cell m i r x hr y e = back-cube P 288230397626548624 573374571730495292 refl y (sum 12 (λ n. entry m i n * x n)) (e ∙ ap (λ z. z % P) (sym (sum-mul-r 12 288230397626548624 (λ n. r n * x n))) ∙ sum-eq P 12 (λ n. r n * x n * 288230397626548624) (λ n. entry m i n * x n * (573374571730495292 * 288230397626548624 * 288230397626548624)) (λ n l. ap (λ a. (a * x n * 288230397626548624) % P) (hr n l) ∙ back-term P 288230397626548624 573374571730495292 refl (entry m i n) (x n)) ∙ ap (λ z. z % P) (sum-mul-r 12 (573374571730495292 * 288230397626548624 * 288230397626548624) (λ n. entry m i n * x n)))
+
+-- ---- a thin cube from its two products
+pub thin-made : (x square : ℕ) → square % P ≡ element (x * x) → element (square * x) ≡ thinCube x
+thin-made x square e = ap (λ z. z % P) (turned square) ∙ sym (mul-mod-l P square (x * 288230397626548624)) ∙ ap (λ z. (z * (x * 288230397626548624)) % P) e ∙ ap (λ z. z % P) (sym (turned (element (x * x))))
+  where
+    turned : (a : ℕ) → a * x * 288230397626548624 ≡ a * (x * 288230397626548624)
+    turned a = omega arith

@@ -1,0 +1,138 @@
+-- `steps::second_step` meets its contract.
+-- Assumes nothing.
+use mathlib.Core.Path.{_≡_, refl, sym, ap, _∙_}
+use Prim.Native.Nat.{ℕ, _+_, _*_, _-_, _≤_, _<_}
+use native.Mathlib.Omega.{arith}
+use borrow.Author.Needs.{needs}
+use lib.ListN.{length, length-set, replicate}
+use Rattle.lists.specs.Lists.{cell}
+use Rattle.lists.proofs.Tab.{filled, filled-none, filled-more, filled-all, length-tab}
+use Rattle.field.specs.Field.{add}
+use Rattle.sums.proofs.Reduction.{made-canonical}
+use Rattle.steps.proofs.Made.{inner, forward-is, second-made}
+use Rattle.steps.proofs.second_step.Statement.{statement}
+use Rattle.steps.proofs.second_step.Tie as tie
+
+abbrev Inv-loop : tie.InvT-loop
+Inv-loop ready table round cubed within start out₀ i₀ out i = (i ≤ 12) × (length out ≡ 12) × (out ≡ filled i (λ n. add (inner ready cubed n) (cell table (start + n))) out₀)
+
+abbrev μ-loop : tie.MeasureT-loop
+μ-loop ready table round cubed within start out₀ i₀ out i = 12 - i
+
+thin-cubes-requires : tie.Need-thin-cubes-requires Inv-loop μ-loop
+thin-cubes-requires c κs = search needs
+
+slice-aggregate-neighbours : tie.Need-slice-aggregate-neighbours Inv-loop μ-loop
+slice-aggregate-neighbours c = omega arith
+
+length-of : (c : tie.After-cubed Inv-loop μ-loop) → length (c .before .thin-cubes .result) ≡ 12
+length-of c = ap length (c .before .thin-cubes .ensures .0) ∙ length-tab 12 _
+
+neighbours-requires : tie.Need-neighbours-requires Inv-loop μ-loop
+neighbours-requires c κs =
+    let q = c .before .thin-cubes in
+    (length-of c, q .ensures .1)
+
+mul-start : tie.Need-mul-start Inv-loop μ-loop
+mul-start c = omega arith
+
+add-start : tie.Need-add-start Inv-loop μ-loop
+add-start c = omega arith
+
+mul-start-2 : tie.Need-mul-start-2 Inv-loop μ-loop
+mul-start-2 c = omega arith
+
+add-start-2 : tie.Need-add-start-2 Inv-loop μ-loop
+add-start-2 c = omega arith
+
+loop-holds : tie.Need-loop-holds Inv-loop μ-loop
+loop-holds c = (omega arith, refl, filled-none _ _)
+
+slice-aggregate-cell-plus : tie.Need-slice-aggregate-cell-plus Inv-loop μ-loop
+slice-aggregate-cell-plus c = omega arith
+
+add-cell-plus : tie.Need-add-cell-plus Inv-loop μ-loop
+add-cell-plus c = omega arith
+
+mul-cell-plus : tie.Need-mul-cell-plus Inv-loop μ-loop
+mul-cell-plus c = omega arith
+
+shared-slice-read-cell-plus : tie.Need-shared-slice-read-cell-plus Inv-loop μ-loop
+shared-slice-read-cell-plus c =
+    let a = c .before .before .before .before .before .before .before .before .before in
+    omega (arith, a .pre .0 .size, a .pre .2)
+
+cell-plus-requires : tie.Need-cell-plus-requires Inv-loop μ-loop
+cell-plus-requires c κs =
+    let l = c .before .before .before in
+    let q = l .before .before in
+    let a = q .before .before .before .before in
+    let i = l .loop .i in (
+      forward-is (a .args .table .now) (a .args .ready .now) (a .pre .1),
+      omega arith,
+      length-of q,
+      q .before .thin-cubes .ensures .1,
+      l .before .neighbours .ensures .0,
+      a .pre .0 .canonical (288 + 12 * (2 * a .args .round + 2) + i) (omega (arith, a .pre .0 .size, a .pre .2)),
+    )
+
+less-once-requires : tie.Need-less-once-requires Inv-loop μ-loop
+less-once-requires c κs = search needs
+
+mul-out : tie.Need-mul-out Inv-loop μ-loop
+mul-out c = omega arith
+
+array-write-out : tie.Need-array-write-out Inv-loop μ-loop
+array-write-out c = omega arith
+
+add-i : tie.Need-add-i Inv-loop μ-loop
+add-i c = omega arith
+
+loop-less : tie.Need-loop-less Inv-loop μ-loop
+loop-less c = omega arith
+
+loop-again : tie.Need-loop-again Inv-loop μ-loop
+loop-again c =
+    let y = c .before in
+    let l = y .before .before .before .before in
+    let q = l .loop in
+    let a = l .before .before .before .before .before .before in
+    let cubed = l .before .before .before .thin-cubes .result in
+    let f : ℕ → ℕ = λ n. add (inner (a .args .ready .now) cubed n) (cell (a .args .table .now) (288 + 12 * (2 * a .args .round + 2) + n)) in
+    let v : c .less-once .result ≡ f (q .i) = made-canonical (f (q .i)) (y .cell-plus .result) (c .less-once .result) (y .cell-plus .ensures .1) (y .cell-plus .ensures .0) (c .less-once .ensures) .0 in
+    (omega arith, length-set (q .out) (q .i) (c .less-once .result) ∙ q .inv .1, filled-more f (q .i) (c .less-once .result) _ (q .out) (omega arith) v (q .inv .2))
+
+returns : tie.Need-returns Inv-loop μ-loop
+returns c =
+    let l = c .before in
+    let q = l .before .before .before in
+    let a = q .before .before .before in
+    let e : l .loop .i ≡ 12 = omega arith in
+    second-made (a .args .table .now) (a .args .ready .now) (a .args .s) (q .thin-cubes .result) (l .loop .out) (a .args .round) _ (a .pre .1) (q .thin-cubes .ensures .0) refl (l .loop .inv .2 ∙ rw e (filled-all 12 _ (replicate 12 0) refl))
+
+pub second-step-spec : {M : Type 1} → statement M
+second-step-spec =
+    tie.close
+    (tie.spec
+    Inv-loop
+    μ-loop
+    thin-cubes-requires
+    slice-aggregate-neighbours
+    neighbours-requires
+    mul-start
+    add-start
+    mul-start-2
+    add-start-2
+    loop-holds
+    slice-aggregate-cell-plus
+    add-cell-plus
+    mul-cell-plus
+    shared-slice-read-cell-plus
+    cell-plus-requires
+    less-once-requires
+    mul-out
+    array-write-out
+    add-i
+    loop-less
+    loop-again
+    returns)

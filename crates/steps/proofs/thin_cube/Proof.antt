@@ -1,0 +1,34 @@
+-- `steps::thin_cube` meets its contract.
+-- Assumes nothing.
+use mathlib.Core.Path.{_≡_, ap, _∙_}
+use Prim.Native.Nat.{_*_, _%_}
+use borrow.Author.Needs.{needs}
+use Rattle.field.specs.Field.{P}
+use Rattle.field.specs.Montgomery.{element}
+use Rattle.field.proofs.Forms.{times-divided}
+use Rattle.sums.proofs.Reduction.{made-canonical}
+use Rattle.steps.specs.Steps.{thinCube}
+use Rattle.steps.proofs.Scales.{thin-made}
+use Rattle.steps.proofs.thin_cube.Statement.{statement}
+use Rattle.steps.proofs.thin_cube.Tie as tie
+
+times-requires : tie.Need-times-requires
+times-requires c κs = search needs
+
+times-requires-2 : tie.Need-times-requires-2
+times-requires-2 c κs = search needs
+
+less-once-requires : tie.Need-less-once-requires
+less-once-requires c κs = search needs
+
+returns : tie.Need-returns
+returns c =
+    let p = c .before in
+    let q = p .before in
+    let a = q .before in
+    let x = a .args .x in
+    let s = q .times .result in
+    made-canonical (thinCube x) (p .times2 .result) (c .less-once .result) (p .times2 .ensures .2) (ap (λ y. y % P) (p .times2 .ensures .0) ∙ times-divided s x (q .times .ensures .2) (a .pre) ∙ thin-made x s (ap (λ y. y % P) (q .times .ensures .0) ∙ times-divided x x (a .pre) (a .pre))) (c .less-once .ensures)
+
+pub thin-cube-spec : {M : Type 1} → statement M
+thin-cube-spec = tie.close (tie.spec times-requires times-requires-2 less-once-requires returns)

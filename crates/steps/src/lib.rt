@@ -1,0 +1,111 @@
+// The second step of a round, and the first step undone, over matrices made ready once for all rows (document 01, "The 52 constraints").
+// Cubes come out divided by 2^128, as two products in Montgomery's form leave them; the matrices' scales make up for that.
+ghost use mathlib.Core.Path.{_≡_};
+ghost use Prim.Native.Nat.{_<_};
+ghost use Rattle.lists.specs.Lists.{cell, tab};
+ghost use Rattle.field.specs.Field.{Canonical};
+ghost use Rattle.field.specs.Montgomery.{Short};
+ghost use Rattle.words.specs.Words.{CanonicalTo};
+ghost use Rattle.table.specs.Table.{IsTable, constant};
+ghost use Rattle.hash.specs.Hash.{secondStep};
+ghost use Rattle.constraints.specs.Constraints.{minus, backStep};
+ghost use Rattle.steps.specs.Steps.{thinCube, forwardReady, backReady};
+use field::Fp;
+use field::montgomery;
+
+// Where K_0 stands in the table.
+const CONSTANTS: usize = 288;
+
+// 2^256 mod p: 2^128 for the cubes, 2^128 for the two divisions.
+const FORWARD: u64 = 700181197168064166;
+
+// The cube root of 2^128, times 2^128, mod p.
+const BACK: u64 = 573374571730495292;
+
+// x^3 / 2^128.
+fn thin_cube(x: u64) -> u64
+    requires { ⌜ Short x ⌝ }
+    ensures { λ r. ⌜ (r ≡ thinCube x) × Canonical r ⌝ }
+{
+    let square = montgomery::times(x, x);
+    sums::less_once(montgomery::times(square, x), Fp::P)
+}
+
+// The cube of every cell, divided by 2^128.
+fn thin_cubes(s: [u64; 12]) -> [u64; 12]
+    requires { ⌜ CanonicalTo 12 s ⌝ }
+    ensures { λ r. ⌜ (r ≡ tab 12 (λ j. thinCube (cell s j))) × CanonicalTo 12 r ⌝ }
+{
+    let mut out = [0u64; 12];
+    let mut j: usize = 0;
+    while j < 12 {
+        out[j] = thin_cube(s[j]);
+        j += 1;
+    }
+    out
+}
+
+// The cells less K_n.
+pub fn less_constant(table: &[u64], n: usize, s: [u64; 12]) -> [u64; 12]
+    requires { ⌜ IsTable (now table) × (n < 21) × CanonicalTo 12 s ⌝ }
+    ensures { λ r. ⌜ (r ≡ minus s (constant (now (table .entry)) n)) × CanonicalTo 12 r ⌝ }
+{
+    let start = CONSTANTS + 12 * n;
+    let mut out = [0u64; 12];
+    let mut j: usize = 0;
+    while j < 12 {
+        out[j] = Fp(s[j]).sub(Fp(table[start + j])).0;
+        j += 1;
+    }
+    out
+}
+
+// M made ready for the second steps.
+pub fn forward_ready(table: &[u64]) -> [u64; 156]
+    requires { ⌜ IsTable (now table) ⌝ }
+    ensures { λ r. ⌜ r ≡ forwardReady (now (table .entry)) ⌝ }
+{
+    winograd::ready(&table[0..144], FORWARD)
+}
+
+// The inverse of M made ready for undoing the first steps.
+pub fn back_ready(table: &[u64]) -> [u64; 156]
+    requires { ⌜ IsTable (now table) ⌝ }
+    ensures { λ r. ⌜ r ≡ backReady (now (table .entry)) ⌝ }
+{
+    winograd::ready(&table[144..288], BACK)
+}
+
+// The second step of the round: the cells cubed, times M, plus K_(2 round + 2).
+pub fn second_step(ready: &[u64], table: &[u64], round: usize, s: [u64; 12]) -> [u64; 12]
+    requires { ⌜ IsTable (now table) × (now ready ≡ forwardReady (now table)) × (round < 10) × CanonicalTo 12 s ⌝ }
+    ensures { λ r. ⌜ r ≡ secondStep (now (table .entry)) round s ⌝ }
+{
+    let cubed = thin_cubes(s);
+    let within = winograd::neighbours(&cubed);
+    let start = CONSTANTS + 12 * (2 * round + 2);
+    let mut out = [0u64; 12];
+    let mut i: usize = 0;
+    while i < 12 {
+        let mixed = winograd::cell_plus(ready, i, &cubed, within, table[start + i]);
+        out[i] = sums::less_once(mixed, Fp::P);
+        i += 1;
+    }
+    out
+}
+
+// The first step of the round undone: the cells less K_(2 round + 1), times the inverse of M, then cubed.
+pub fn back_step(ready: &[u64], table: &[u64], round: usize, s: [u64; 12]) -> [u64; 12]
+    requires { ⌜ IsTable (now table) × (now ready ≡ backReady (now table)) × (round < 10) × CanonicalTo 12 s ⌝ }
+    ensures { λ r. ⌜ r ≡ backStep (now (table .entry)) round s ⌝ }
+{
+    let less = less_constant(table, 2 * round + 1, s);
+    let within = winograd::neighbours(&less);
+    let mut out = [0u64; 12];
+    let mut i: usize = 0;
+    while i < 12 {
+        out[i] = thin_cube(winograd::cell_plus(ready, i, &less, within, 0));
+        i += 1;
+    }
+    out
+}
