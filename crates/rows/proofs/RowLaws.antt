@@ -4,21 +4,19 @@ use mathlib.Core.Path.{_≡_, refl, sym, ap, ap₂, _∙_, subst}
 use mathlib.Core.Bool.{true, false}
 use mathlib.Core.List.{List}
 use Prim.Native.Nat.{ℕ, _+_, _*_, _<_}
-use native.Mathlib.Nat.{mod-lt}
 use native.Mathlib.Omega.{arith}
 use native.Mathlib.Decide.{decLt}
-use lib.ListN.{length, take, replicate, length-take, List·getD-eq-default}
+use lib.ListN.{length, take, length-take, List·getD-eq-default}
 use lib.Seq.{getD-take}
 use Rattle.lists.specs.Lists.{cell}
-use Rattle.lists.proofs.Tab.{filled, filled-all, filled-before, filled-after, length-filled, cell-tab, tab-ext, tab-unique}
-use Rattle.field.specs.Field.{Canonical, add, sub}
+use Rattle.lists.proofs.Tab.{filled, filled-before, filled-after, length-filled, tab-unique}
+use Rattle.field.specs.Field.{Canonical, add}
 use Rattle.words.specs.Words.{CanonicalTo}
-use Rattle.matrix.specs.Matrix.{times}
-use Rattle.table.specs.Table.{inverseOf, constant}
+use Rattle.table.specs.Table.{constant}
 use Rattle.table.proofs.Parts.{cell-constant}
-use Rattle.hash.specs.Hash.{plus, cubes, secondStep}
+use Rattle.hash.specs.Hash.{plus, secondStep}
 use Rattle.hash.proofs.States.{state-cell, secondStep-state}
-use Rattle.constraints.specs.Constraints.{row, round, entering, forward, minus, backStep, back}
+use Rattle.constraints.specs.Constraints.{row, round, entering, forward, backStep, back}
 use Rattle.constraints.proofs.RowCells.{cell-row}
 use Rattle.rows.specs.Lent.{HasRow}
 
@@ -63,9 +61,9 @@ module _ (T t : List ℕ) (i : ℕ) {r : ℕ} (q : r ≡ round i) {s : List ℕ}
   unfolding forward
   forward-entering b e f = rw b (f ∙ ap (λ x. plus x (take 4 (constant T 0))) (second-made e))
 
-  pub back-made : {l m out : List ℕ} → l ≡ minus s (constant T (2 * r + 1)) → m ≡ times (inverseOf T) l → out ≡ cubes m → out ≡ back T t i
-  unfolding back backStep
-  back-made e f g = g ∙ ap cubes (f ∙ ap (times (inverseOf T)) (e ∙ ap₂ (λ x n. minus x (constant T (2 * n + 1))) at-row q))
+  pub back-made : {out : List ℕ} → out ≡ backStep T r s → out ≡ back T t i
+  unfolding back
+  back-made e = e ∙ ap₂ (backStep T) q at-row
 
 pub second-canonical : (T : List ℕ) (r : ℕ) (s : List ℕ) {n : List ℕ} → n ≡ secondStep T r s → CanonicalTo 12 n
 second-canonical T r s e j l = subst (λ x. Canonical (cell x j)) (sym e) (state-cell (secondStep-state T r s) j)

@@ -5,7 +5,8 @@ ghost use Rattle.lists.specs.Lists.{cell};
 ghost use Rattle.field.specs.Field.{Canonical};
 ghost use Rattle.words.specs.Words.{CanonicalTo};
 ghost use Rattle.table.specs.Table.{IsTable, constant};
-ghost use Rattle.constraints.specs.Constraints.{row as cells-of, within, round, entering, forward, minus, back};
+ghost use Rattle.constraints.specs.Constraints.{row as cells-of, within, round, entering, forward, back};
+ghost use Rattle.steps.specs.Steps.{forwardReady, backReady};
 ghost use Rattle.rows.specs.Lent.{HasRow};
 ghost use lib.ListN.{take};
 ghost use Rattle.hash.specs.Hash.{plus};
@@ -45,21 +46,6 @@ fn round_of(row: RowNumber) -> usize
     (row.within() - 1) % 10
 }
 
-// The cells less K_n.
-pub fn less_constant(table: &[u64], n: usize, s: [u64; 12]) -> [u64; 12]
-    requires { ⌜ IsTable (now table) × (n < 21) × CanonicalTo 12 s ⌝ }
-    ensures { λ r. ⌜ (r ≡ minus s (constant (now (table .entry)) n)) × CanonicalTo 12 r ⌝ }
-{
-    let start = 288 + 12 * n;
-    let mut out = [0u64; 12];
-    let mut j: usize = 0;
-    while j < 12 {
-        out[j] = Fp(s[j]).sub(Fp(table[start + j])).0;
-        j += 1;
-    }
-    out
-}
-
 // Rows 10 and 20 of a batch, after which a new tap enters.
 pub fn is_entering(row: RowNumber) -> bool
     ensures { λ r. ⌜ r ≡ entering (row .0) ⌝ }
@@ -83,11 +69,11 @@ fn plus_entering(table: &[u64], s: [u64; 12]) -> [u64; 12]
 }
 
 // Forward of the row: its cells cubed, times M, plus its round's second-step constant; at rows 10 and 20 K_0 is added too.
-pub fn forward(table: &[u64], trace: &[u64], row: RowNumber) -> [u64; 12]
-    requires { ⌜ IsTable (now table) × HasRow (now trace) (row .0) × (1 ≤ within (row .0)) ⌝ }
+pub fn forward(ready: &[u64], table: &[u64], trace: &[u64], row: RowNumber) -> [u64; 12]
+    requires { ⌜ IsTable (now table) × (now ready ≡ forwardReady (now table)) × HasRow (now trace) (row .0) × (1 ≤ within (row .0)) ⌝ }
     ensures { λ r. ⌜ r ≡ forward (now (table .entry)) (now (trace .entry)) (row .0) ⌝ }
 {
-    let next = hash::second_step(table, round_of(row), cells(trace, row));
+    let next = steps::second_step(ready, table, round_of(row), cells(trace, row));
     if is_entering(row) {
         plus_entering(table, next)
     } else {
@@ -96,10 +82,9 @@ pub fn forward(table: &[u64], trace: &[u64], row: RowNumber) -> [u64; 12]
 }
 
 // Back of the row: its cells less its round's first-step constant, times the inverse of M, then cubed.
-pub fn back(table: &[u64], trace: &[u64], row: RowNumber) -> [u64; 12]
-    requires { ⌜ IsTable (now table) × HasRow (now trace) (row .0) × (1 ≤ within (row .0)) ⌝ }
+pub fn back(ready: &[u64], table: &[u64], trace: &[u64], row: RowNumber) -> [u64; 12]
+    requires { ⌜ IsTable (now table) × (now ready ≡ backReady (now table)) × HasRow (now trace) (row .0) × (1 ≤ within (row .0)) ⌝ }
     ensures { λ r. ⌜ r ≡ back (now (table .entry)) (now (trace .entry)) (row .0) ⌝ }
 {
-    let less = less_constant(table, 2 * round_of(row) + 1, cells(trace, row));
-    hash::cubes(matrix::times(&table[144..288], less))
+    steps::back_step(ready, table, round_of(row), cells(trace, row))
 }

@@ -21,20 +21,20 @@ is-entering-requires c κs = search needs
 plus-entering-requires : tie.Need-plus-entering-requires
 plus-entering-requires c κs =
     let n = c .before .before in
-    (n .before .before .before .before .before .pre .0, second-canonical _ _ _ (n .second-step .ensures))
+    (n .before .before .before .before .before .before .pre .0, second-canonical _ _ _ (n .second-step .ensures))
 
 returns : tie.Need-returns
 returns c =
     let n = c .before .before .before in
     let r = n .before .before in
-    let a = r .before .before .before .args in
+    let a = r .before .before .before .before .args in
     forward-entering (a .table .now) (a .trace .now) (a .row .0) (r .round-of .ensures .0) (n .before .cells .ensures .0) (sym (c .before .before .is-entering .ensures) ∙ c .before .if1 .taken) (n .second-step .ensures) (c .plus-entering .ensures)
 
 returns-2 : tie.Need-returns-2
 returns-2 c =
     let n = c .before .before in
     let r = n .before .before in
-    let a = r .before .before .before .args in
+    let a = r .before .before .before .before .args in
     forward-plain (a .table .now) (a .trace .now) (a .row .0) (r .round-of .ensures .0) (n .before .cells .ensures .0) (sym (c .before .is-entering .ensures) ∙ c .if1 .left) (n .second-step .ensures)
 
 pub forward-spec : {M : Type 1} → statement M
