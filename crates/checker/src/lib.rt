@@ -5,6 +5,7 @@ ghost use lib.ListN.{length};
 ghost use Rattle.words.specs.Words.{AllCanonical};
 ghost use Rattle.table.specs.Table.{IsTable};
 ghost use Rattle.constraints.specs.Constraints.{verdict};
+ghost use Rattle.steps.specs.Steps.{forwardReady, backReady};
 ghost use Rattle.checker.specs.Answers.{judged, checkAnswer};
 use counts::BatchCount;
 use counts::RowNumber;
@@ -12,9 +13,16 @@ use refusals::Answer;
 use refusals::Checked;
 use refusals::Refusal;
 
-// The walk through the tests in their order, which stops at the first that fails.
-pub fn walk_tests(table: &[u64], trace: &[u64], claim: &[u64; 4], k: usize) -> Checked
-    requires { ⌜ IsTable (now table) × AllCanonical (now trace) × (length (now trace) ≡ 384 * k) × (k < 2 ^ 32) ⌝ }
+// The walk through the tests in their order, which stops at the first that fails. M and its inverse come made ready.
+pub fn walk_tests(
+    m: &[u64],
+    inverse: &[u64],
+    table: &[u64],
+    trace: &[u64],
+    claim: &[u64; 4],
+    k: usize,
+) -> Checked
+    requires { ⌜ (now m ≡ forwardReady (now table)) × (now inverse ≡ backReady (now table)) × IsTable (now table) × AllCanonical (now trace) × (length (now trace) ≡ 384 * k) × (k < 2 ^ 32) ⌝ }
     ensures { λ r. ⌜ r ≡ verdict (now (table .entry)) (now (trace .entry)) (now (claim .entry)) k ⌝ }
 {
     let rows = 32 * k;
@@ -25,8 +33,8 @@ pub fn walk_tests(table: &[u64], trace: &[u64], claim: &[u64; 4], k: usize) -> C
             break 'walk Checked::Accepted(tests);
         }
         let row = RowNumber(i);
-        let forward = rowtests::forward_of(table, trace, row);
-        let back = rowtests::back_after(table, trace, row);
+        let forward = rowtests::forward_of(m, table, trace, row);
+        let back = rowtests::back_after(inverse, table, trace, row);
         let span = rowtests::span_of(row);
         let last = span.1;
         let mut constraint = span.0;
@@ -60,7 +68,9 @@ pub fn judge(table: &[u64], trace: &[u64], claim: [u64; 4], k: usize) -> Checked
     if bad_trace != trace.len() {
         return Checked::Refused(Refusal::TraceWord(bad_trace));
     }
-    walk_tests(table, trace, &claim, k)
+    let m = steps::forward_ready(table);
+    let inverse = steps::back_ready(table);
+    walk_tests(&m, &inverse, table, trace, &claim, k)
 }
 
 // Check: 1, 2, 4; 7; 9; 10; 11.

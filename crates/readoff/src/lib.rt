@@ -7,6 +7,7 @@ ghost use Rattle.words.specs.Words.{AllCanonical};
 ghost use Rattle.refusals.specs.Refusals.{checkedKept};
 ghost use Rattle.table.specs.Table.{IsTable};
 ghost use Rattle.constraints.specs.ReadOff.{readInput, readWord, readTaps};
+ghost use Rattle.steps.specs.Steps.{backReady};
 ghost use Rattle.readoff.specs.Answers.{readOffAnswer};
 ghost use Rattle.readoff.specs.Lent.{HasTap};
 use counts::BatchCount;
@@ -18,8 +19,8 @@ use refusals::Checked;
 use refusals::Refusal;
 
 // The input of a hash of the chain: row 0 of the batch for the first of its three hashes, for the others back less K_0 at rows 10 and 20.
-fn read_input(table: &[u64], trace: &[u64], hash: HashNumber) -> [u64; 12]
-    requires { ⌜ IsTable (now table) × HasTap (now trace) (hash .0 + 1) ⌝ }
+fn read_input(inverse: &[u64], table: &[u64], trace: &[u64], hash: HashNumber) -> [u64; 12]
+    requires { ⌜ (now inverse ≡ backReady (now table)) × IsTable (now table) × HasTap (now trace) (hash .0 + 1) ⌝ }
     ensures { λ r. ⌜ r ≡ readInput (now (table .entry)) (now (trace .entry)) (hash .0) ⌝ }
 {
     let batch = BatchNumber(hash.0 / 3);
@@ -27,31 +28,31 @@ fn read_input(table: &[u64], trace: &[u64], hash: HashNumber) -> [u64; 12]
     if within == 0 {
         return rows::cells(trace, batch.row(0));
     }
-    let back = rows::back(table, trace, batch.row(10 * within + 1));
-    rows::less_constant(table, 0, back)
+    let back = rows::back(inverse, table, trace, batch.row(10 * within + 1));
+    steps::less_constant(table, 0, back)
 }
 
 // w_i: columns 0 to 3 of the first row 0 for w_0, columns 4 to 7 of the input of the hash that takes it in for the others.
-fn read_tap(table: &[u64], trace: &[u64], tap: TapNumber) -> [u64; 4]
-    requires { ⌜ IsTable (now table) × HasTap (now trace) (tap .0) ⌝ }
+fn read_tap(inverse: &[u64], table: &[u64], trace: &[u64], tap: TapNumber) -> [u64; 4]
+    requires { ⌜ (now inverse ≡ backReady (now table)) × IsTable (now table) × HasTap (now trace) (tap .0) ⌝ }
     ensures { λ r. ⌜ r ≡ tab 4 (λ j. readWord (now (table .entry)) (now (trace .entry)) (4 * tap .0 + j)) ⌝ }
 {
     if tap.0 == 0 {
         return [trace[0], trace[1], trace[2], trace[3]];
     }
-    let input = read_input(table, trace, HashNumber(tap.0 - 1));
+    let input = read_input(inverse, table, trace, HashNumber(tap.0 - 1));
     [input[4], input[5], input[6], input[7]]
 }
 
 // The taps of a trace of k batches.
-fn write_taps(table: &[u64], trace: &[u64], k: usize, destination: &mut [u64])
-    requires { ⌜ IsTable (now table) × AllCanonical (now trace) × (length (now trace) ≡ 384 * k) × (1 ≤ k) × (k < 2 ^ 32) × (length (now destination) ≡ 12 * k + 4) ⌝ }
+fn write_taps(inverse: &[u64], table: &[u64], trace: &[u64], k: usize, destination: &mut [u64])
+    requires { ⌜ (now inverse ≡ backReady (now table)) × IsTable (now table) × AllCanonical (now trace) × (length (now trace) ≡ 384 * k) × (1 ≤ k) × (k < 2 ^ 32) × (length (now destination) ≡ 12 * k + 4) ⌝ }
     ensures { λ r. ⌜ now (destination .exit) ≡ readTaps (now (table .entry)) (now (trace .entry)) k ⌝ }
 {
     let mut i: usize = 0;
     while i < 3 * k + 1 {
         let tap = TapNumber(i);
-        let words = read_tap(table, trace, tap);
+        let words = read_tap(inverse, table, trace, tap);
         let start = tap.start();
         destination[start] = words[0];
         destination[start + 1] = words[1];
@@ -80,6 +81,7 @@ pub fn read_off(table: &[u64], trace: &[u64], claim: [u64; 4], destination: &mut
     let Checked::Accepted(_) = answer else {
         return answer;
     };
-    write_taps(table, trace, k, destination);
+    let inverse = steps::back_ready(table);
+    write_taps(&inverse, table, trace, k, destination);
     answer
 }

@@ -4,6 +4,7 @@ ghost use Prim.Native.Nat.{_+_, _*_, _<_, _^_};
 ghost use lib.Dec.{eqb};
 ghost use Rattle.table.specs.Table.{IsTable};
 ghost use Rattle.constraints.specs.Constraints.{applies, between, within, holds};
+ghost use Rattle.steps.specs.Steps.{forwardReady, backReady};
 ghost use Rattle.rowtests.specs.RowTests.{forwardOf, backAfter, lowest, highest, InTrace, Tested};
 use counts::RowNumber;
 use field::Fp;
@@ -64,8 +65,8 @@ pub fn span_of(row: RowNumber) -> Span
 }
 
 // Forward of the row, at rows 1 to 30.
-pub fn forward_of(table: &[u64], trace: &[u64], row: RowNumber) -> [u64; 12]
-    requires { ⌜ IsTable (now table) × InTrace (now trace) (row .0) ⌝ }
+pub fn forward_of(ready: &[u64], table: &[u64], trace: &[u64], row: RowNumber) -> [u64; 12]
+    requires { ⌜ IsTable (now table) × (now ready ≡ forwardReady (now table)) × InTrace (now trace) (row .0) ⌝ }
     ensures { λ r. ⌜ r ≡ forwardOf (now (table .entry)) (now (trace .entry)) (row .0) ⌝ }
 {
     let within = row.within();
@@ -75,18 +76,18 @@ pub fn forward_of(table: &[u64], trace: &[u64], row: RowNumber) -> [u64; 12]
     if 30 < within {
         return [0u64; 12];
     }
-    rows::forward(table, trace, row)
+    rows::forward(ready, table, trace, row)
 }
 
 // Back of the next row, at rows 0 to 29.
-pub fn back_after(table: &[u64], trace: &[u64], row: RowNumber) -> [u64; 12]
-    requires { ⌜ IsTable (now table) × InTrace (now trace) (row .0) ⌝ }
+pub fn back_after(ready: &[u64], table: &[u64], trace: &[u64], row: RowNumber) -> [u64; 12]
+    requires { ⌜ IsTable (now table) × (now ready ≡ backReady (now table)) × InTrace (now trace) (row .0) ⌝ }
     ensures { λ r. ⌜ r ≡ backAfter (now (table .entry)) (now (trace .entry)) (row .0) ⌝ }
 {
     if 29 < row.within() {
         return [0u64; 12];
     }
-    rows::back(table, trace, RowNumber(row.0 + 1))
+    rows::back(ready, table, trace, RowNumber(row.0 + 1))
 }
 
 // Whether the constraint holds at the row, from forward of this row and back of the next, each computed once for all of the row's tests.

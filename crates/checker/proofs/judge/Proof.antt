@@ -25,14 +25,28 @@ returns-2 c =
     let d = c .before .before in
     bad-trace _ _ _ _ (d .before .first-bad .ensures) (d .if1 .left) (c .before .first-bad2 .ensures) (c .if2 .taken)
 
+forward-ready-requires : tie.Need-forward-ready-requires
+forward-ready-requires c κs = search needs
+
+back-ready-requires : tie.Need-back-ready-requires
+back-ready-requires c κs = search needs
+
+slice-aggregate-walk-tests : tie.Need-slice-aggregate-walk-tests
+slice-aggregate-walk-tests c = omega arith
+
+slice-aggregate-walk-tests-2 : tie.Need-slice-aggregate-walk-tests-2
+slice-aggregate-walk-tests-2 c = omega arith
+
 walk-tests-requires : tie.Need-walk-tests-requires
 walk-tests-requires c κs =
-    let a = c .before .before .before .before .before .before .before .before in
-    (a .pre .0, good-all _ (sym (c .before .before .first-bad2 .ensures) ∙ c .before .if2 .left), a .pre .1, a .pre .2)
+    let b = c .before .before .before in
+    let e = b .before .before in
+    let a = e .before .before .before .before .before .before .before in
+    (b .before .forward-ready .ensures, b .back-ready .ensures, a .pre .0, good-all _ (sym (e .before .first-bad2 .ensures) ∙ e .if2 .left), a .pre .1, a .pre .2)
 
 returns-3 : tie.Need-returns-3
 returns-3 c =
-    let e = c .before .before in
+    let e = c .before .before .before .before .before .before in
     let d = e .before .before in
     c .walk-tests .ensures ∙ good-words _ _ _ _ (d .before .first-bad .ensures) (d .if1 .left) (e .before .first-bad2 .ensures) (e .if2 .left)
 
@@ -45,5 +59,9 @@ judge-spec =
     returns
     first-bad-requires-2
     returns-2
+    forward-ready-requires
+    back-ready-requires
+    slice-aggregate-walk-tests
+    slice-aggregate-walk-tests-2
     walk-tests-requires
     returns-3)

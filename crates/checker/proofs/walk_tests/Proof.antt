@@ -14,17 +14,17 @@ use Rattle.checker.proofs.walk_tests.Statement.{statement}
 use Rattle.checker.proofs.walk_tests.Tie as tie
 
 abbrev Inv-loop : tie.InvT-loop
-Inv-loop table trace claim k rows tests₀ i row forward back last constraint₀ tests constraint =
+Inv-loop m inverse table trace claim k rows tests₀ i row forward back last constraint₀ tests constraint =
     (1 ≤ constraint) × (constraint ≤ last + 1) × (last ≤ 52) × (tests < 52 * i + constraint) × (left table trace claim k i constraint (rows - (i + 1)) tests ≡ verdict table trace claim k)
 
 abbrev μ-loop : tie.MeasureT-loop
-μ-loop table trace claim k rows tests₀ i row forward back last constraint₀ tests constraint = last + 1 - constraint
+μ-loop m inverse table trace claim k rows tests₀ i row forward back last constraint₀ tests constraint = last + 1 - constraint
 
 abbrev Inv-walk : tie.InvT-walk
-Inv-walk table trace claim k rows tests₀ i₀ tests i = (i ≤ rows) × (tests ≤ 52 * i) × (from-row table trace claim k i (rows - i) tests ≡ verdict table trace claim k)
+Inv-walk m inverse table trace claim k rows tests₀ i₀ tests i = (i ≤ rows) × (tests ≤ 52 * i) × (from-row table trace claim k i (rows - i) tests ≡ verdict table trace claim k)
 
 abbrev μ-walk : tie.MeasureT-walk
-μ-walk table trace claim k rows tests₀ i₀ tests i = rows - i
+μ-walk m inverse table trace claim k rows tests₀ i₀ tests i = rows - i
 
 mul-rows : tie.Need-mul-rows Inv-loop μ-loop Inv-walk μ-walk
 mul-rows c = omega arith
@@ -34,20 +34,20 @@ walk-holds c = (omega arith, omega arith, rw sub-zero (start _ _ _ _))
 
 forward-of-requires : tie.Need-forward-of-requires Inv-loop μ-loop Inv-walk μ-walk
 forward-of-requires c κs =
-    let a = c .before .before .before .before in
-    (a .pre .0, record { k = a .args .k; canonical = a .pre .1; size = a .pre .2; few = a .pre .3; inside = c .if1 .left })
+    let a = c .before .before .before .before .before .before in
+    (a .pre .2, a .pre .0, record { k = a .args .k; canonical = a .pre .3; size = a .pre .4; few = a .pre .5; inside = c .if1 .left })
 
 back-after-requires : tie.Need-back-after-requires Inv-loop μ-loop Inv-walk μ-walk
 back-after-requires c κs =
-    let a = c .before .before .before .before .before in
-    (a .pre .0, record { k = a .args .k; canonical = a .pre .1; size = a .pre .2; few = a .pre .3; inside = c .before .if1 .left })
+    let a = c .before .before .before .before .before .before .before in
+    (a .pre .2, a .pre .1, record { k = a .args .k; canonical = a .pre .3; size = a .pre .4; few = a .pre .5; inside = c .before .if1 .left })
 
 span-of-requires : tie.Need-span-of-requires Inv-loop μ-loop Inv-walk μ-walk
 span-of-requires c κs = search needs
 
 loop-holds : tie.Need-loop-holds Inv-loop μ-loop Inv-walk μ-walk
 loop-holds c =
-    let a = c .before .before .before .before .before .before .before .args in
+    let a = c .before .before .before .before .before .before .before .before .before .args in
     let w = c .before .before .before .before .walk in
     let s = spans-of (w .i) (c .span-of .ensures .0) (c .span-of .ensures .1) in
     (s .from-one, omega (arith, s .some), s .to-last, omega (arith, s .from-one), sym (enter (a .table .now) (a .trace .now) (a .claim .now) (a .k) (w .i) _ _ s (32 * a .k) (w .tests) (c .before .before .before .if1 .left)) ∙ w .inv .2)
@@ -60,9 +60,9 @@ add-tests c = omega arith
 
 holds-requires : tie.Need-holds-requires Inv-loop μ-loop Inv-walk μ-walk
 holds-requires c κs =
-    let a = c .before .before .before .before .before .before .before .before .before .before .before .before .before in (
-      a .pre .0,
-      record { place = record { k = a .args .k; canonical = a .pre .1; size = a .pre .2; few = a .pre .3; inside = c .before .before .before .before .before .before .before .before .before .if1 .left }; applied = sym (c .before .before .before .applies .ensures) ∙ c .before .before .if2 .taken },
+    let a = c .before .before .before .before .before .before .before .before .before .before .before .before .before .before .before in (
+      a .pre .2,
+      record { place = record { k = a .args .k; canonical = a .pre .3; size = a .pre .4; few = a .pre .5; inside = c .before .before .before .before .before .before .before .before .before .if1 .left }; applied = sym (c .before .before .before .applies .ensures) ∙ c .before .before .if2 .taken },
       c .before .before .before .before .before .before .before .before .forward-of .ensures,
       c .before .before .before .before .before .before .before .back-after .ensures,
     )
@@ -75,10 +75,10 @@ loop-less c = omega arith
 
 loop-again : tie.Need-loop-again Inv-loop μ-loop Inv-walk μ-walk
 loop-again c =
-    let a = c .before .before .before .before .before .before .before .before .before .before .before .args in
+    let a = c .before .before .before .before .before .before .before .before .before .before .before .before .before .args in
     let i = c .before .before .before .before .before .before .before .before .walk .i in
     let l = c .before .before .before .loop in
-    let m = 32 * a .k - (i + 1) in
+    let n = 32 * a .k - (i + 1) in
     ⊎-elim
     (λ w. (
       omega arith,
@@ -86,7 +86,7 @@ loop-again c =
       l .inv .2,
       omega arith,
       rw (w .5)
-          (sym (pass (a .table .now) (a .trace .now) (a .claim .now) (a .k) i (l .constraint) m (l .tests) (omega arith) (sym (c .before .applies .ensures) ∙ w .0 .taken) (sym (w .3 .ensures) ∙ not-false _ (w .4 .left))) ∙ l .inv .4),
+          (sym (pass (a .table .now) (a .trace .now) (a .claim .now) (a .k) i (l .constraint) n (l .tests) (omega arith) (sym (c .before .applies .ensures) ∙ w .0 .taken) (sym (w .3 .ensures) ∙ not-false _ (w .4 .left))) ∙ l .inv .4),
     ))
     (λ w. (
       omega arith,
@@ -94,7 +94,7 @@ loop-again c =
       l .inv .2,
       omega arith,
       rw (w .1)
-          (sym (skip (a .table .now) (a .trace .now) (a .claim .now) (a .k) i (l .constraint) m (l .tests) (omega arith) (sym (c .before .applies .ensures) ∙ w .0 .left)) ∙ l .inv .4),
+          (sym (skip (a .table .now) (a .trace .now) (a .claim .now) (a .k) i (l .constraint) n (l .tests) (omega arith) (sym (c .before .applies .ensures) ∙ w .0 .left)) ∙ l .inv .4),
     ))
     (c .if2 .came)
 
@@ -106,7 +106,7 @@ walk-less c = omega arith
 
 walk-again : tie.Need-walk-again Inv-loop μ-loop Inv-walk μ-walk
 walk-again c =
-    let a = c .before .before .before .before .before .before .before .before .before .args in
+    let a = c .before .before .before .before .before .before .before .before .before .before .before .args in
     let i = c .before .before .before .before .before .before .walk .i in
     let l = c .before .loop in
     let s = spans-of i (c .before .before .span-of .ensures .0) (c .before .before .span-of .ensures .1) in
@@ -114,13 +114,13 @@ walk-again c =
 
 returns : tie.Need-returns Inv-loop μ-loop Inv-walk μ-walk
 returns c =
-    let a = c .before .before .before .before .args in
+    let a = c .before .before .before .before .before .before .args in
     let w = c .before .walk in
     sym (done (a .table .now) (a .trace .now) (a .claim .now) (a .k) (w .i) (32 * a .k - w .i) (w .tests) (omega arith)) ∙ w .inv .2
 
 returns-2 : tie.Need-returns-2 Inv-loop μ-loop Inv-walk μ-walk
 returns-2 c =
-    let a = c .before .before .before .before .before .before .before .before .before .before .before .before .before .before .before .args in
+    let a = c .before .before .before .before .before .before .before .before .before .before .before .before .before .before .before .before .before .args in
     let i = c .before .before .before .before .before .before .before .before .before .before .before .before .walk .i in
     let l = c .before .before .before .before .before .before .before .loop in
     sym (fail (a .table .now) (a .trace .now) (a .claim .now) (a .k) i (l .constraint) (32 * a .k - (i + 1)) (l .tests) (omega arith) (sym (c .before .before .before .before .before .applies .ensures) ∙ c .before .before .before .before .if2 .taken) (sym (c .before .holds .ensures) ∙ not-true _ (c .if3 .taken))) ∙ l .inv .4

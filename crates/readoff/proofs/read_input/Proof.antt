@@ -10,7 +10,7 @@ row-requires : tie.Need-row-requires
 row-requires c κs = search needs
 
 cells-requires : tie.Need-cells-requires
-cells-requires c κs = input-row _ _ (c .before .before .before .before .before .before .pre .1) (omega arith)
+cells-requires c κs = input-row _ _ (c .before .before .before .before .before .before .before .pre .2) (omega arith)
 
 returns : tie.Need-returns
 returns c =
@@ -28,11 +28,11 @@ row-requires-2 c κs = search needs
 
 back-requires : tie.Need-back-requires
 back-requires c κs =
-    let p = c .before .before .before .before .before .before .pre in
-    (p .0, input-row _ _ (p .1) (omega arith), omega arith)
+    let p = c .before .before .before .before .before .before .before .pre in
+    (p .1, p .0, input-row _ _ (p .2) (omega arith), omega arith)
 
 less-constant-requires : tie.Need-less-constant-requires
-less-constant-requires c κs = (c .before .before .before .before .before .before .before .pre .0, omega arith, back-canonical _ _ _ (c .back .ensures))
+less-constant-requires c κs = (c .before .before .before .before .before .before .before .before .pre .1, omega arith, back-canonical _ _ _ (c .back .ensures))
 
 returns-2 : tie.Need-returns-2
 returns-2 c =

@@ -87,14 +87,24 @@ returns-4 c =
     let a = d .before .before .before .before .args in
     (by-judge (a .table .now) (a .trace .now) (a .claim) (length (a .destination .now)) (d .test .ensures) (e .before .enum-told .given .1) (e .trace-batches .ensures) (f .counted .given .1) (j .before .if1 .left) (j .judge .ensures), kept-old _ _ (c .enum-told5 .given .1))
 
+back-ready-requires : tie.Need-back-ready-requires
+back-ready-requires c κs =
+    let e = c .before .before .before .before .before .before .before in
+    let d = e .before .before .before in
+    is-table _ (d .test .ensures) (e .before .enum-told .given .1)
+
+slice-aggregate-write-taps : tie.Need-slice-aggregate-write-taps
+slice-aggregate-write-taps c = omega arith
+
 write-taps-requires : tie.Need-write-taps-requires
 write-taps-requires c κs =
-    let j = c .before .before .before in
+    let r = c .before .before in
+    let j = r .before .before .before in
     let f = j .before .before .before in
     let e = f .before .before in
     let d = e .before .before .before in
     let b = batches _ (e .trace-batches .ensures) (f .counted .given .1) in
-    (is-table _ (d .test .ensures) (e .before .enum-told .given .1), words-canonical _ _ _ _ (sym (j .judge .ensures) ∙ c .before .enum-told4 .given .1), b .0, b .1, b .2, j .before .if1 .left)
+    (r .back-ready .ensures, is-table _ (d .test .ensures) (e .before .enum-told .given .1), words-canonical _ _ _ _ (sym (j .judge .ensures) ∙ r .before .enum-told4 .given .1), b .0, b .1, b .2, j .before .if1 .left)
 
 same-length : tie.Need-same-length
 same-length c = search needs
@@ -102,7 +112,7 @@ same-length c = search needs
 returns-5 : tie.Need-returns-5
 returns-5 c =
     let w = c .before .before in
-    let j = w .before .before .before .before in
+    let j = w .before .before .before .before .before .before in
     let f = j .before .before .before in
     let e = f .before .before in
     let d = e .before .before .before in
@@ -110,7 +120,7 @@ returns-5 c =
     let b = batches (length (a .trace .now)) (e .trace-batches .ensures) (f .counted .given .1) in
     let k : f .counted .given .0 .0 ≡ length (a .trace .now) / 384 = omega (arith, b .0) in (
       by-judge (a .table .now) (a .trace .now) (a .claim) (length (a .destination .now)) (d .test .ensures) (e .before .enum-told .given .1) (e .trace-batches .ensures) (f .counted .given .1) (j .before .if1 .left) (j .judge .ensures),
-      w .write-taps .ensures ∙ ap (readTaps (a .table .now) (a .trace .now)) k ∙ kept-new _ _ (w .before .before .enum-told4 .given .1),
+      w .write-taps .ensures ∙ ap (readTaps (a .table .now) (a .trace .now)) k ∙ kept-new _ _ (w .before .before .before .before .enum-told4 .given .1),
     )
 
 pub read-off-spec : {M : Type 1} → statement M
@@ -133,6 +143,8 @@ read-off-spec =
     enum-told-4
     enum-told-5
     returns-4
+    back-ready-requires
+    slice-aggregate-write-taps
     write-taps-requires
     same-length
     returns-5)

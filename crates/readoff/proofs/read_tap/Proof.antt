@@ -5,21 +5,21 @@ use native.Mathlib.Omega.{arith}
 use Rattle.readoff.proofs.read_tap.Statement.{statement}
 use Rattle.readoff.proofs.read_tap.Tie as tie
 
-shared-slice-read-t7 : tie.Need-shared-slice-read-t7
-shared-slice-read-t7 c = omega arith
+shared-slice-read-t8 : tie.Need-shared-slice-read-t8
+shared-slice-read-t8 c = omega arith
 
-shared-slice-read-t9 : tie.Need-shared-slice-read-t9
-shared-slice-read-t9 c = omega arith
+shared-slice-read-t10 : tie.Need-shared-slice-read-t10
+shared-slice-read-t10 c = omega arith
 
-shared-slice-read-t11 : tie.Need-shared-slice-read-t11
-shared-slice-read-t11 c = omega arith
+shared-slice-read-t12 : tie.Need-shared-slice-read-t12
+shared-slice-read-t12 c = omega arith
 
-shared-slice-read-t13 : tie.Need-shared-slice-read-t13
-shared-slice-read-t13 c = omega arith
+shared-slice-read-t14 : tie.Need-shared-slice-read-t14
+shared-slice-read-t14 c = omega arith
 
 returns : tie.Need-returns
 returns c =
-    let a = c .before .before .before .before .before .before .before .before .args in
+    let a = c .before .before .before .before .before .before .before .before .before .args in
     let z = c .before .before .before .before .if1 .taken in
     four _
     (first-word (a .table .now) (a .trace .now) (a .tap .0) 0 (omega arith) z)
@@ -27,29 +27,29 @@ returns c =
     (first-word (a .table .now) (a .trace .now) (a .tap .0) 2 (omega arith) z)
     (first-word (a .table .now) (a .trace .now) (a .tap .0) 3 (omega arith) z)
 
-sub-t15 : tie.Need-sub-t15
-sub-t15 c = omega arith
+sub-t16 : tie.Need-sub-t16
+sub-t16 c = omega arith
 
 read-input-requires : tie.Need-read-input-requires
 read-input-requires c κs =
-    let p = c .before .before .before .before .before .pre in
-    (p .0, record { k = p .1 .k; canonical = p .1 .canonical; size = p .1 .size; some = p .1 .some; few = p .1 .few; inside = omega arith })
+    let p = c .before .before .before .before .before .before .pre in
+    (p .0, p .1, record { k = p .2 .k; canonical = p .2 .canonical; size = p .2 .size; some = p .2 .some; few = p .2 .few; inside = omega arith })
 
-array-read-t19 : tie.Need-array-read-t19
-array-read-t19 c = omega arith
+array-read-t20 : tie.Need-array-read-t20
+array-read-t20 c = omega arith
 
-array-read-t22 : tie.Need-array-read-t22
-array-read-t22 c = omega arith
+array-read-t23 : tie.Need-array-read-t23
+array-read-t23 c = omega arith
 
-array-read-t25 : tie.Need-array-read-t25
-array-read-t25 c = omega arith
+array-read-t26 : tie.Need-array-read-t26
+array-read-t26 c = omega arith
 
-array-read-t28 : tie.Need-array-read-t28
-array-read-t28 c = omega arith
+array-read-t29 : tie.Need-array-read-t29
+array-read-t29 c = omega arith
 
 returns-2 : tie.Need-returns-2
 returns-2 c =
-    let a = c .before .before .before .before .before .before .args in
+    let a = c .before .before .before .before .before .before .before .args in
     let e = c .read-input .ensures in
     four _
     (next-word (a .table .now) (a .trace .now) (a .tap .0) 0 (omega arith) (omega arith) e)
@@ -61,15 +61,15 @@ pub read-tap-spec : {M : Type 1} → statement M
 read-tap-spec =
     tie.close
     (tie.spec
-    shared-slice-read-t7
-    shared-slice-read-t9
-    shared-slice-read-t11
-    shared-slice-read-t13
+    shared-slice-read-t8
+    shared-slice-read-t10
+    shared-slice-read-t12
+    shared-slice-read-t14
     returns
-    sub-t15
+    sub-t16
     read-input-requires
-    array-read-t19
-    array-read-t22
-    array-read-t25
-    array-read-t28
+    array-read-t20
+    array-read-t23
+    array-read-t26
+    array-read-t29
     returns-2)

@@ -11,10 +11,10 @@ use Rattle.readoff.proofs.write_taps.Statement.{statement}
 use Rattle.readoff.proofs.write_taps.Tie as tie
 
 abbrev Inv-loop : tie.InvT-loop
-Inv-loop table trace k destination₀ i₀ destination i = (i ≤ 3 * k + 1) × (length destination ≡ length destination₀) × (destination ≡ filled (4 * i) (readWord table trace) destination₀)
+Inv-loop inverse table trace k destination₀ i₀ destination i = (i ≤ 3 * k + 1) × (length destination ≡ length destination₀) × (destination ≡ filled (4 * i) (readWord table trace) destination₀)
 
 abbrev μ-loop : tie.MeasureT-loop
-μ-loop table trace k destination₀ i₀ destination i = 3 * k + 1 - i
+μ-loop inverse table trace k destination₀ i₀ destination i = 3 * k + 1 - i
 
 loop-holds : tie.Need-loop-holds Inv-loop μ-loop
 loop-holds c = (omega arith, refl, filled-none _ _)
@@ -27,9 +27,9 @@ add-loop c = omega arith
 
 read-tap-requires : tie.Need-read-tap-requires Inv-loop μ-loop
 read-tap-requires c κs =
-    let a = c .before .before .before .before .before in
+    let a = c .before .before .before .before .before .before in
     let p = a .pre in
-    (p .0, record { k = a .args .k; canonical = p .1; size = p .2; some = p .3; few = p .4; inside = omega arith })
+    (p .0, p .1, record { k = a .args .k; canonical = p .2; size = p .3; some = p .4; few = p .5; inside = omega arith })
 
 start-requires : tie.Need-start-requires Inv-loop μ-loop
 start-requires c κs = omega arith
@@ -87,7 +87,7 @@ loop-less c = omega arith
 
 loop-again : tie.Need-loop-again Inv-loop μ-loop
 loop-again c =
-    let a = c .before .before .before .before .before .before .before .args in
+    let a = c .before .before .before .before .before .before .before .before .args in
     let l = c .before .before .before .loop in (
       omega arith,
       simp length-set (l .inv .1),
@@ -99,9 +99,9 @@ same-length c = c .before .loop .inv .1
 
 returns : tie.Need-returns Inv-loop μ-loop
 returns c =
-    let a = c .before .before .before .before .before in
+    let a = c .before .before .before .before .before .before in
     let l = c .before .loop in
-    all-taps (a .args .table .now) (a .args .trace .now) (a .args .k) (l .i) (a .args .destination .now) (l .destination) (a .pre .5) (omega arith) (l .inv .2)
+    all-taps (a .args .table .now) (a .args .trace .now) (a .args .k) (l .i) (a .args .destination .now) (l .destination) (a .pre .6) (omega arith) (l .inv .2)
 
 pub write-taps-spec : {M : Type 1} → statement M
 write-taps-spec =

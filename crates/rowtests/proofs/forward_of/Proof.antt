@@ -18,8 +18,8 @@ returns-2 c = no-forward-31 _ _ _ (c .before .before .within .ensures) (c .if2 .
 
 forward-requires : tie.Need-forward-requires
 forward-requires c κs =
-    let p = c .before .before .before .before .before .pre in
-    (p .0, has-row (p .1), subst (λ w. 1 ≤ w) (c .before .before .within .ensures) (c .before .if1 .left))
+    let p = c .before .before .before .before .before .before .pre in
+    (p .0, p .1, has-row (p .2), subst (λ w. 1 ≤ w) (c .before .before .within .ensures) (c .before .if1 .left))
 
 returns-3 : tie.Need-returns-3
 returns-3 c = some-forward _ _ _ (c .before .before .before .within .ensures) (c .before .before .if1 .left) (c .before .if2 .left) (c .forward .ensures)
