@@ -21,12 +21,13 @@ impl Wide {
         requires { ⌜ self .0 + a * b / 2 ^ 64 + 1 < 2 ^ 64 ⌝ }
         ensures { λ r. ⌜ valueOf r ≡ valueOf self + a * b ⌝ }
     {
+        let upper = wide::high(a, b);
         let part = wide::low(a, b);
         let lower = std::num::wrapping_add_u64(self.1, part);
         if lower < part {
-            Wide(self.0 + wide::high(a, b) + 1, lower)
+            Wide(self.0 + upper + 1, lower)
         } else {
-            Wide(self.0 + wide::high(a, b), lower)
+            Wide(self.0 + upper, lower)
         }
     }
 
