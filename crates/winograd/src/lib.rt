@@ -63,9 +63,11 @@ pub fn cell_plus(ready: &[u64], i: usize, s: &[u64], within: u64, k: u64) -> u64
     ensures { λ r. ⌜ (r % P ≡ (element (sum 12 (λ j. cell (now (ready .entry)) (12 * i + j) * cell (now (s .entry)) j)) + k) % P) × Short r ⌝ }
 {
     let start = 12 * i;
+    // Six, but the compiler shall learn it in the callers, into whose loops it then takes this one.
+    let pairs = s.len() / 2;
     let mut sum = Wide(ready[144 + i] - within + k, 0);
     let mut j: usize = 0;
-    while j < 6 {
+    while j < pairs {
         let even = 2 * j;
         let odd = 2 * j + 1;
         let next = sum.plus(ready[start + even] + s[odd], ready[start + odd] + s[even]);

@@ -18,10 +18,10 @@ use Rattle.winograd.proofs.cell_plus.Statement.{statement}
 use Rattle.winograd.proofs.cell_plus.Tie as tie
 
 abbrev Inv-loop : tie.InvT-loop
-Inv-loop ready i s within k start sum₀ j₀ sum j = (j ≤ 6) × (valueOf sum ≡ (cell ready (144 + i) - within + k) * 2 ^ 64 + total j (cross (λ n. cell ready (12 * i + n)) (cell s)))
+Inv-loop ready i s within k start pairs sum₀ j₀ sum j = (j ≤ 6) × (valueOf sum ≡ (cell ready (144 + i) - within + k) * 2 ^ 64 + total j (cross (λ n. cell ready (12 * i + n)) (cell s)))
 
 abbrev μ-loop : tie.MeasureT-loop
-μ-loop ready i s within k start sum₀ j₀ sum j = 6 - j
+μ-loop ready i s within k start pairs sum₀ j₀ sum j = 6 - j
 
 -- ---- what is known from the start
 module _ (a : tie.Start Inv-loop μ-loop) where
@@ -46,20 +46,20 @@ module _ (a : tie.Start Inv-loop μ-loop) where
 mul-start : tie.Need-mul-start Inv-loop μ-loop
 mul-start c = omega arith
 
-add-t12 : tie.Need-add-t12 Inv-loop μ-loop
-add-t12 c = omega arith
+add-t13 : tie.Need-add-t13 Inv-loop μ-loop
+add-t13 c = omega arith
 
-mul-t13 : tie.Need-mul-t13 Inv-loop μ-loop
-mul-t13 c = omega arith
+mul-t14 : tie.Need-mul-t14 Inv-loop μ-loop
+mul-t14 c = omega arith
 
-shared-slice-read-t15 : tie.Need-shared-slice-read-t15 Inv-loop μ-loop
-shared-slice-read-t15 c = let a = c .before .before .before in omega (arith, a .pre .0 .size, a .pre .1)
+shared-slice-read-t16 : tie.Need-shared-slice-read-t16 Inv-loop μ-loop
+shared-slice-read-t16 c = let a = c .before .before .before in omega (arith, a .pre .0 .size, a .pre .1)
 
-sub-t16 : tie.Need-sub-t16 Inv-loop μ-loop
-sub-t16 c = omega (arith, over (c .before .before .before) .0)
+sub-t17 : tie.Need-sub-t17 Inv-loop μ-loop
+sub-t17 c = omega (arith, over (c .before .before .before) .0)
 
-add-t17 : tie.Need-add-t17 Inv-loop μ-loop
-add-t17 c = let a = c .before .before .before in omega (arith, over a .1, a .pre .5)
+add-t18 : tie.Need-add-t18 Inv-loop μ-loop
+add-t18 c = let a = c .before .before .before in omega (arith, over a .1, a .pre .5)
 
 loop-holds : tie.Need-loop-holds Inv-loop μ-loop
 loop-holds c =
@@ -177,11 +177,11 @@ cell-plus-spec =
     Inv-loop
     μ-loop
     mul-start
-    add-t12
-    mul-t13
-    shared-slice-read-t15
-    sub-t16
-    add-t17
+    add-t13
+    mul-t14
+    shared-slice-read-t16
+    sub-t17
+    add-t18
     loop-holds
     mul-even
     mul-odd
