@@ -29,7 +29,8 @@ pub fn times(a: u64, b: u64) -> u64
     requires { ⌜ Short a × Short b ⌝ }
     ensures { λ r. ⌜ (r ≡ timesWord a b) × (element r ≡ mul (element a) (element b)) × Short r ⌝ }
 {
-    reduce(wide::high(a, b), wide::low(a, b))
+    let lower = wide::low(a, b);
+    reduce(wide::high(a, b), lower)
 }
 
 // The word that stands for the element x.

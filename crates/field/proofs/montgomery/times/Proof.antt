@@ -10,28 +10,27 @@ use Rattle.field.proofs.Forms.{upper-small, times-element, times-short}
 use Rattle.field.proofs.montgomery.times.Statement.{statement}
 use Rattle.field.proofs.montgomery.times.Tie as tie
 
-high-requires : tie.Need-high-requires
-high-requires c κs = search needs
-
 low-requires : tie.Need-low-requires
 low-requires c κs = search needs
 
+high-requires : tie.Need-high-requires
+high-requires c κs = search needs
+
 reduce-requires : tie.Need-reduce-requires
 reduce-requires c κs =
-    let h = c .before in
-    let a = h .before in
-    omega (arith, h .high .ensures, upper-small (a .args .a) (a .args .b) (a .pre .0) (a .pre .1))
+    let a = c .before .before in
+    omega (arith, c .high .ensures, upper-small (a .args .a) (a .args .b) (a .pre .0) (a .pre .1))
 
 returns : tie.Need-returns
 unfolding timesWord
 returns c =
-    let h = c .before .before in
-    let a = h .before in
-    let e : c .reduce .result ≡ timesWord (a .args .a) (a .args .b) = c .reduce .ensures .0 ∙ ap₂ reduceWord (h .high .ensures) (c .before .low .ensures) in (
+    let h = c .before in
+    let a = h .before .before in
+    let e : c .reduce .result ≡ timesWord (a .args .a) (a .args .b) = c .reduce .ensures .0 ∙ ap₂ reduceWord (h .high .ensures) (h .before .low .ensures) in (
       e,
       subst (λ r. element r ≡ mul (element (a .args .a)) (element (a .args .b))) (sym e) (times-element (a .args .a) (a .args .b) (a .pre .0) (a .pre .1)),
       subst Short (sym e) (times-short (a .args .a) (a .args .b) (a .pre .0) (a .pre .1)),
     )
 
 pub times-spec : {M : Type 1} → statement M
-times-spec = tie.close (tie.spec high-requires low-requires reduce-requires returns)
+times-spec = tie.close (tie.spec low-requires high-requires reduce-requires returns)
