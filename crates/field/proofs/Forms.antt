@@ -2,9 +2,9 @@
 -- Assumes nothing.
 use Prim.Native.Nat.{ℕ, _+_, _*_, _-_, _/_, _%_, _^_, _<_, _≤_}
 use mathlib.Core.Path.{_≡_, refl, sym, ap, ap₂, _∙_, subst}
-use native.Mathlib.Nat.{add-mul-mod-self-left, mod-mod, mod-lt, mod-eq-of-lt, mul-one, mul-comm, mul-assoc, mod-add-div, mul-le-mul, lt-of-le-of-lt, div-lt-iff-lt-mul, mul-lt-mul-of-pos-right, le-of-lt}
+use native.Mathlib.Nat.{add-mul-mod-self-left, mod-mod, mod-lt, mod-eq-of-lt, mul-one, mul-comm, mul-assoc, mod-add-div, mul-le-mul, lt-of-le-of-lt, div-lt-iff-lt-mul, mul-lt-mul-of-pos-right}
 use native.Mathlib.Omega.{arith}
-use lib.Dec.{lit<, lit≤}
+use lib.Dec.{lit<}
 use lib.Pow.{shr-lt}
 use Rattle.field.specs.Field.{P, mul}
 use Rattle.field.specs.Montgomery.{Short, element, timesWord, enterWord}
@@ -70,20 +70,17 @@ reduced t h l f u r et ef er = same P (r * 2 ^ 64) t f (2 ^ 64) (go P f er ef et
 pub times-law : (a b l f u r : ℕ) → l ≡ a * b % 2 ^ 64 → f ≡ l * 16140900978596511745 % 2 ^ 64 → u ≡ f * P / 2 ^ 64 → r + u ≡ a * b / 2 ^ 64 + P → element r ≡ mul (element a) (element b)
 times-law a b l f u r el ef eu er = product-form P (2 ^ 64) 288230397626548624 inverse-of-unit a b r (reduced (a * b) (a * b / 2 ^ 64) l f u r split-t split-f er)
   where
+    turned : (x y : ℕ) → x + 2 ^ 64 * y ≡ y * 2 ^ 64 + x
+    turned x y = omega arith
+
     l-low : l < 2 ^ 64
     l-low = subst (λ x. x < 2 ^ 64) (sym el) (mod-lt (a * b) (lit< tt))
 
     split-t : a * b ≡ a * b / 2 ^ 64 * 2 ^ 64 + l
     split-t = sym (mod-add-div (a * b) (2 ^ 64)) ∙ turned (a * b % 2 ^ 64) (a * b / 2 ^ 64) ∙ ap (λ x. a * b / 2 ^ 64 * 2 ^ 64 + x) (sym el)
-      where
-        turned : (x y : ℕ) → x + 2 ^ 64 * y ≡ y * 2 ^ 64 + x
-        turned x y = omega arith
 
     split-f : f * P ≡ u * 2 ^ 64 + l
     split-f = sym (mod-add-div (f * P) (2 ^ 64)) ∙ turned (f * P % 2 ^ 64) (f * P / 2 ^ 64) ∙ ap₂ (λ x y. x * 2 ^ 64 + y) (sym eu) (lower-equal l f l-low ef)
-      where
-        turned : (x y : ℕ) → x + 2 ^ 64 * y ≡ y * 2 ^ 64 + x
-        turned x y = omega arith
 
 -- ---- into the form and out of it
 pub enter-law : (x r : ℕ) → x < P → element r ≡ mul (element x) (element 2288261904184696897) → element r ≡ x
