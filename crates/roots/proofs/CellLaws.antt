@@ -8,7 +8,7 @@ use lib.ListN.{length, replicate, getD-replicate}
 use Rattle.lists.specs.Lists.{cell, tab}
 use Rattle.lists.proofs.Tab.{length-tab, cell-tab, tab-ext}
 use Rattle.field.specs.Field.{mul, power, third, root}
-use Rattle.field.specs.Montgomery.{Short, unit, element, timesWord, enterWord}
+use Rattle.field.specs.Montgomery.{Short, element, timesWord, enterWord}
 use Rattle.field.proofs.Forms.{element-lt, times-element, times-short, enter-element, enter-short}
 use Rattle.field.proofs.Power.{times-one, times-even, times-odd, one-times}
 use Rattle.words.specs.Words.{CanonicalTo}
@@ -74,12 +74,12 @@ powers-odd a x e h z =
     (λ j l. times-odd (cell a j) (cell x j) e _ _ _ h z (cell-products a x j l) (cell-products x x j l) (ap (mul (cell (products a x) j)) (cell-powers (products x x) (e / 2) j l)) ∙ sym (ap (mul (cell a j)) (cell-powers x e j l)))
 
 -- twelve words for 1
-pub ones-short : ShortTo 12 (replicate 12 unit)
-ones-short j h = subst Short (sym (getD-replicate 12 j unit 0 h)) (omega arith)
+pub ones-short : ShortTo 12 (replicate 12 2305842407918272505)
+ones-short j h = subst Short (sym (getD-replicate 12 j 2305842407918272505 0 h)) (omega arith)
 
 -- from them, the roots
-pub roots-of-powers : (s : List ℕ) → products (elements (replicate 12 unit)) (powers (tab 12 (cell s)) third) ≡ tab 12 (λ j. root (cell s j))
+pub roots-of-powers : (s : List ℕ) → products (elements (replicate 12 2305842407918272505)) (powers (tab 12 (cell s)) third) ≡ tab 12 (λ j. root (cell s j))
 unfolding products root
 roots-of-powers s =
-    tab-ext 12 (λ j. mul (cell (elements (replicate 12 unit)) j) (cell (powers (tab 12 (cell s)) third) j)) (λ j. root (cell s j))
-    (λ j h. ap₂ mul (cell-elements (replicate 12 unit) j h ∙ ap element (getD-replicate 12 j unit 0 h)) (cell-powers (tab 12 (cell s)) third j h ∙ ap (λ x. power x third) (cell-tab 12 (cell s) j h)) ∙ one-times (cell s j) third (omega arith))
+    tab-ext 12 (λ j. mul (cell (elements (replicate 12 2305842407918272505)) j) (cell (powers (tab 12 (cell s)) third) j)) (λ j. root (cell s j))
+    (λ j h. ap₂ mul (cell-elements (replicate 12 2305842407918272505) j h ∙ ap element (getD-replicate 12 j 2305842407918272505 0 h)) (cell-powers (tab 12 (cell s)) third j h ∙ ap (λ x. power x third) (cell-tab 12 (cell s) j h)) ∙ one-times (cell s j) third (omega arith))

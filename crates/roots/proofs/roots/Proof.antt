@@ -6,7 +6,7 @@ use lib.ListN.{length, replicate}
 use Rattle.lists.specs.Lists.{cell}
 use Rattle.lists.proofs.Tab.{length-tab}
 use Rattle.field.specs.Field.{third}
-use Rattle.field.specs.Montgomery.{unit, enterWord}
+use Rattle.field.specs.Montgomery.{enterWord}
 use Rattle.roots.specs.Cells.{ShortTo, elements, words, products, powers}
 use Rattle.roots.proofs.CellLaws.{words-short, elements-of-words, ones-short, roots-of-powers}
 use Rattle.roots.proofs.roots.Statement.{statement}
@@ -31,7 +31,7 @@ returns c =
     let s = w .before .args .s in
     c .leave .ensures
     ∙ c .before .powers-times .ensures .0
-    ∙ ap (λ x. products (elements (replicate 12 unit)) (powers x third)) (ap elements (w .enter .ensures) ∙ elements-of-words s (w .before .pre))
+    ∙ ap (λ x. products (elements (replicate 12 2305842407918272505)) (powers x third)) (ap elements (w .enter .ensures) ∙ elements-of-words s (w .before .pre))
     ∙ roots-of-powers s
 
 pub roots-spec : {M : Type 1} → statement M

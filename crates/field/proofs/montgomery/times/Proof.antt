@@ -1,13 +1,13 @@
 -- `field::montgomery::times` meets its contract: what is taken off has the product's lower word, so that 2^64 divides the rest.
 -- Assumes nothing.
 use mathlib.Core.Path.{_≡_, sym, ap, ap₂, _∙_, subst}
-use Prim.Native.Nat.{_+_, _*_, _-_, _/_, _%_, _^_, _<_}
+use Prim.Native.Nat.{ℕ, _+_, _*_, _-_, _/_, _%_, _^_, _<_}
 use native.Mathlib.Nat.{mod-lt}
 use native.Mathlib.Omega.{arith}
 use borrow.Author.Needs.{needs}
 use lib.Dec.{lit<}
 use Rattle.field.specs.Field.{P}
-use Rattle.field.specs.Montgomery.{primeInverse, timesWord}
+use Rattle.field.specs.Montgomery.{timesWord}
 use Rattle.field.proofs.Forms.{upper-small, factor-small, times-law}
 use Rattle.field.proofs.montgomery.times.Statement.{statement}
 use Rattle.field.proofs.montgomery.times.Tie as tie
@@ -46,7 +46,7 @@ returns c =
     let h = c .before .high .result in
     let u = c .high2 .result in
     let e : (h + P - u) + u ≡ h + P = omega (arith, off c) in (
-      ap₂ (λ x y. x + P - y) (c .before .high .ensures) (c .high2 .ensures ∙ ap (λ f. f * P / 2 ^ 64) (c .before .before .low2 .ensures ∙ ap (λ l. l * primeInverse % 2 ^ 64) (c .before .before .before .low .ensures))),
+      ap₂ (λ x y. x + P - y) (c .before .high .ensures) (c .high2 .ensures ∙ ap (λ f. f * P / 2 ^ 64) (c .before .before .low2 .ensures ∙ ap (λ l. l * 16140900978596511745 % 2 ^ 64) (c .before .before .before .low .ensures))),
       times-law (a .args .a) (a .args .b) _ _ _ _ (c .before .before .before .low .ensures) (c .before .before .low2 .ensures) (c .high2 .ensures) (e ∙ ap (λ x. x + P) (c .before .high .ensures)),
       omega (arith, upper (c .before)),
     )
