@@ -3,7 +3,6 @@
 
 #include <inttypes.h>
 #include <stdio.h>
-#include <string.h>
 
 static void show(const char *day, lemoncolumn_code code)
 {
@@ -37,17 +36,17 @@ static lemoncolumn_code prepare(int shift, uint64_t first, uint64_t *table)
 
 static void hashes(const uint64_t *z, const uint64_t *a, const uint64_t *s)
 {
-    uint64_t out[4] = {0};
+    uint64_t out[LEMONCOLUMN_DIGEST_WORDS] = {0};
     uint64_t taps[LEMONCOLUMN_TAP_WORDS(1)] = {0};
-    lemoncolumn_hash(z, LEMONCOLUMN_TABLE_WORDS, 8, 27, 1, 0, 0, 0, 0, 0, out, 4);
+    lemoncolumn_hash(z, LEMONCOLUMN_TABLE_WORDS, 8, 27, 1, 0, 0, 0, 0, 0, out, LEMONCOLUMN_DIGEST_WORDS);
     show_words("Z, (8,27,1,0) and zeros", out);
-    lemoncolumn_hash(a, LEMONCOLUMN_TABLE_WORDS, 0, 0, 0, 0, 0, 0, 0, 0, out, 4);
+    lemoncolumn_hash(a, LEMONCOLUMN_TABLE_WORDS, 0, 0, 0, 0, 0, 0, 0, 0, out, LEMONCOLUMN_DIGEST_WORDS);
     show_words("A, zeros", out);
-    lemoncolumn_hash(s, LEMONCOLUMN_TABLE_WORDS, 1, 2, 3, 4, 5, 6, 7, 9, out, 4);
+    lemoncolumn_hash(s, LEMONCOLUMN_TABLE_WORDS, 1, 2, 3, 4, 5, 6, 7, 9, out, LEMONCOLUMN_DIGEST_WORDS);
     show_words("S, any and (5,6,7,9)", out);
-    lemoncolumn_chain(a, LEMONCOLUMN_TABLE_WORDS, taps, LEMONCOLUMN_TAP_WORDS(1), out, 4);
+    lemoncolumn_chain(a, LEMONCOLUMN_TABLE_WORDS, taps, LEMONCOLUMN_TAP_WORDS(1), out, LEMONCOLUMN_DIGEST_WORDS);
     show_words("A, four zero taps", out);
-    show("p among the words", lemoncolumn_hash(z, LEMONCOLUMN_TABLE_WORDS, 0, 0, 0, 0, 0, LEMONCOLUMN_P, 0, 0, out, 4));
+    show("p among the words", lemoncolumn_hash(z, LEMONCOLUMN_TABLE_WORDS, 0, 0, 0, 0, 0, LEMONCOLUMN_P, 0, 0, out, LEMONCOLUMN_DIGEST_WORDS));
     show("an output of three words", lemoncolumn_hash(z, LEMONCOLUMN_TABLE_WORDS, 0, 0, 0, 0, 0, LEMONCOLUMN_P, 0, 0, out, 3));
 }
 
@@ -55,8 +54,10 @@ static void traces(const uint64_t *z)
 {
     uint64_t trace[LEMONCOLUMN_TRACE_WORDS(1)];
     uint64_t taps[LEMONCOLUMN_TAP_WORDS(1)] = {0};
-    uint64_t out[4];
-    show("zero taps built", lemoncolumn_build(z, LEMONCOLUMN_TABLE_WORDS, taps, LEMONCOLUMN_TAP_WORDS(1), trace, LEMONCOLUMN_TRACE_WORDS(1), out, 4));
+    uint64_t out[LEMONCOLUMN_DIGEST_WORDS];
+    show("zero taps built",
+         lemoncolumn_build(z, LEMONCOLUMN_TABLE_WORDS, taps, LEMONCOLUMN_TAP_WORDS(1), trace, LEMONCOLUMN_TRACE_WORDS(1), out,
+                           LEMONCOLUMN_DIGEST_WORDS));
     show("checked", lemoncolumn_check(z, LEMONCOLUMN_TABLE_WORDS, trace, LEMONCOLUMN_TRACE_WORDS(1), 0, 0, 0, 0));
     show("claim (1,0,0,0)", lemoncolumn_check(z, LEMONCOLUMN_TABLE_WORDS, trace, LEMONCOLUMN_TRACE_WORDS(1), 1, 0, 0, 0));
     trace[12 * 11 + 5] = 1;
@@ -71,23 +72,22 @@ static void traces(const uint64_t *z)
 static void files(void)
 {
     uint64_t taps[LEMONCOLUMN_TAP_WORDS(1)] = {0};
-    uint64_t claim[4];
+    uint64_t claim[LEMONCOLUMN_DIGEST_WORDS];
     uint8_t file[LEMONCOLUMN_FILE_BYTES(1)];
     show("packed", lemoncolumn_pack(taps, LEMONCOLUMN_TAP_WORDS(1), 0, 0, 0, 0, file, sizeof file));
     printf("its first bytes:");
     for (int i = 0; i < 16; i++)
         printf(" %02x", file[i]);
     printf("\n");
-    show("unpacked", lemoncolumn_unpack(file, sizeof file, taps, LEMONCOLUMN_TAP_WORDS(1), claim, 4));
+    show("unpacked", lemoncolumn_unpack(file, sizeof file, taps, LEMONCOLUMN_TAP_WORDS(1), claim, LEMONCOLUMN_DIGEST_WORDS));
     file[4 * 7 + 3] = 0;
-    show("word 7 of kind 0", lemoncolumn_unpack(file, sizeof file, taps, LEMONCOLUMN_TAP_WORDS(1), claim, 4));
+    show("word 7 of kind 0", lemoncolumn_unpack(file, sizeof file, taps, LEMONCOLUMN_TAP_WORDS(1), claim, LEMONCOLUMN_DIGEST_WORDS));
 }
 
 int main(void)
 {
     uint64_t z[LEMONCOLUMN_TABLE_WORDS], a[LEMONCOLUMN_TABLE_WORDS], s[LEMONCOLUMN_TABLE_WORDS];
-    uint64_t nothing[LEMONCOLUMN_RAW_WORDS];
-    memset(nothing, 0, sizeof nothing);
+    uint64_t nothing[LEMONCOLUMN_RAW_WORDS] = {0};
     show("Z", prepare(0, 0, z));
     show("A", prepare(0, 1, a));
     show("S", prepare(11, 0, s));

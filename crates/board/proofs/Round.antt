@@ -1,7 +1,7 @@
 -- The two ways round: what is packed is read back, and what is read packs to what was there.
 -- Assumes nothing.
 use mathlib.Core.Path.{_≡_, sym, ap, _∙_}
-use mathlib.Core.List.{List, [], _∷_, _++_}
+use mathlib.Core.List.{List, _∷_, _++_}
 use Prim.Native.Nat.{ℕ, zero, suc, _+_, _*_, _<_}
 use native.Mathlib.Numerals.{one-add}
 use native.Mathlib.Omega.{arith}
@@ -9,6 +9,7 @@ use lib.ListN.{length, length-append, take, drop}
 use lib.Seq.{take-at, drop-at}
 use Rattle.lists.specs.Lists.{cell, tab}
 use Rattle.words.specs.Words.{AllCanonical}
+use Rattle.words.proofs.Laws.{append-canonical}
 use Rattle.counts.specs.Counts.{IsPermitted}
 use Rattle.fileword.specs.Words.{wordAt, AllBytes, bytesOf}
 use Rattle.fileword.proofs.Laws.{bytes-unique}
@@ -22,14 +23,9 @@ use Rattle.board.proofs.Cases.{batches-is}
 use Rattle.board.proofs.Files as files
 
 -- ---- the file of canonical taps and a canonical claim is a board file, and is read as those
-both-canonical : (s t : List ℕ) → AllCanonical s → AllCanonical t → AllCanonical (s ++ t)
-both-canonical [] t a b i h = b i h
-both-canonical (x ∷ s) t a b zero h = a 0 (omega arith)
-both-canonical (x ∷ s) t a b (suc i) h = both-canonical s t (λ j l. a (suc j) (omega arith)) b i (omega arith)
-
 module _ (taps claim : List ℕ) (k : ℕ) (permitted : IsPermitted k) (t : length taps ≡ 12 * k + 4) (t-canonical : AllCanonical taps) (c : length claim ≡ 4) (c-canonical : AllCanonical claim) where
   all : AllCanonical (claim ++ taps)
-  all = both-canonical claim taps c-canonical t-canonical
+  all = append-canonical claim taps c-canonical t-canonical
 
   count : length (claim ++ taps) ≡ 12 * k + 8
   count = length-append claim taps ∙ omega arith
@@ -91,17 +87,18 @@ module _ (file : List ℕ) (bytes : AllBytes file) (h : IsBoard file (batchesIn 
       ap (λ s. bytesOf (countWord k ∷ wordsOf s)) board-elements
       ∙ bytes-unique file (countWord k ∷ wordsOf elements) bytes (omega (arith, h .size, length-words elements, length-elements file 1 (12 * k + 8))) board-words
 
-  pub board-canonical : AllCanonical (claimIn file) × AllCanonical (tapsIn file)
-  unfolding claimIn tapsIn
-  board-canonical = (
-    elements-canonical file 1 4 (λ i l. h .elements i (omega arith)),
-    elements-canonical file 13 (12 * batchesIn file + 4) (λ i l. rw (after-claim i) at (h .elements (4 + i) (omega arith))),
-  )
-    where
-      after-claim : (i : ℕ) → 1 + 3 * (4 + i) ≡ 13 + 3 * i
-      after-claim i = omega arith
+-- the taps stand after the claim's four elements
+pub after-claim : (i : ℕ) → 1 + 3 * (4 + i) ≡ 13 + 3 * i
+after-claim i = omega arith
 
 -- what an accepted file holds
+pub board-canonical : (file : List ℕ) → IsBoard file (batchesIn file) → AllCanonical (claimIn file) × AllCanonical (tapsIn file)
+unfolding claimIn tapsIn
+board-canonical file h = (
+  elements-canonical file 1 4 (λ i l. h .elements i (omega arith)),
+  elements-canonical file 13 (12 * batchesIn file + 4) (λ i l. rw (after-claim i) at (h .elements (4 + i) (omega arith))),
+)
+
 pub claim-is : (file : List ℕ) (d : Digest) → digest (claimIn file) ≡ d → claimIn file ≡ claimOf d
 unfolding claimIn elementsAt tab
 claim-is file d e = ap claimOf e

@@ -53,7 +53,7 @@ pack-unpack file size d bytes e =
     let r = returned file size d e in
     let h = unpack-accepted file size (r .0) .0 in
     let c = claim-is file d (r .1) in
-    let canonical = board-canonical file bytes h in
+    let canonical = board-canonical file h in
     let k-is : length (tapsIn file) / 12 ≡ batchesIn file = omega (arith, taps-length file) in (
       pack-complete (tapsIn file) (claimOf d) (length file) (batchesIn file) (record {
         permitted = h .permitted;

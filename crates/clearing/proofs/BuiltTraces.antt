@@ -1,7 +1,7 @@
 -- The verdict on a built trace is about the claim alone: accepted exactly where the taps chain to it, and else refused at the last row.
 -- Assumes nothing.
 use mathlib.Core.Path.{_≡_, refl, sym, ap, _∙_, subst}
-use mathlib.Core.Bool.{Bool, true, false}
+use mathlib.Core.Bool.{true, true≢false}
 use mathlib.Core.List.{List, List·Memᴰ, Memᴰ·append-right}
 use Prim.Native.Nat.{ℕ, _+_, _*_, _-_, _≤_, _<_}
 use native.Mathlib.Decide.{decLe}
@@ -65,9 +65,6 @@ module _ (T w : List ℕ) (k : ℕ) (table : IsTable T) (permitted : IsPermitted
       holding : holds T (trace T w k) (chain T w k) i c ≡ true
       holding = own-output i c (listed .0) (listed .1)
 
-      yes-no : (b : Bool) → b ≡ true → b ≡ false → ⊥
-      yes-no b p q = let z : _≡_ {A = ℕ} 0 1 = cc in omega arith
-
       place : 49 ≤ c → Applies k i c → (i + 1 ≡ 32 * k) × (c < 53)
       place h (zero-columns j l q r) = absurd (omega arith)
       place h (new-zeros j l q r) = absurd (omega arith)
@@ -79,7 +76,7 @@ module _ (T w : List ℕ) (k : ℕ) (table : IsTable T) (permitted : IsPermitted
       place h (claims j l q r) = (r, omega arith)
 
       go : Dec (c ≤ 48) → (i + 1 ≡ 32 * k) × (49 ≤ c) × (c < 53) × (cell (chain T w k) (c - 49) ≡ cell claim (c - 49) → ⊥)
-      go (yes h) = absurd (yes-no _ (claim-unread (chain T w k) i c h ∙ holding) (first .fails))
+      go (yes h) = absurd (true≢false (sym (claim-unread (chain T w k) i c h ∙ holding) ∙ first .fails))
       go (no h) =
           let large : 49 ≤ c = omega arith in
           let p = place large (applies-cases k i c (listed .1)) in

@@ -20,12 +20,12 @@ use Rattle.exact.proofs.Exactness.{whole-order, first-failing}
 use Rattle.elements.proofs.Round.{length-elements}
 use Rattle.board.specs.Board.{batchesIn, claimIn, tapsIn, unpackTest}
 use Rattle.board.proofs.Cases.{batches-is, unpack-accepted, unpack-complete}
-use Rattle.board.proofs.Round.{taps-length}
+use Rattle.board.proofs.Round.{board-canonical, taps-length}
 use Rattle.outcome.specs.declared.Outcome.{Outcome}
 use Rattle.outcome.specs.declared.Outcome.the-variants.{Accepted, Refused}
 use Rattle.clearing.specs.Clearing.{rawIn, fileIn, fileAfter, reported, checkedTaps, cleared, unprepared, IsJudged, IsUnlike}
 use Rattle.clearing.proofs.BuiltTraces.{accepted-chains, refused-last}
-use Rattle.clearing.proofs.Stages.{is-table, taps-canonical}
+use Rattle.clearing.proofs.Stages.{is-table}
 
 -- where table and file are accepted, the answer is that of the check
 pub judged-answer : (input T : List ℕ) (k : ℕ) → IsJudged input T k → let file = fileIn input in cleared T file ≡ reported k (verdict T (trace T (tapsIn file) k) (claimIn file) k)
@@ -48,7 +48,7 @@ module _ (input T : List ℕ) (k : ℕ) (h : IsJudged input T k) where
   judged-size = taps-length (fileIn input) ∙ ap (λ n. 12 * n + 4) file-k
 
   pub judged-canonical : AllCanonical (tapsIn (fileIn input))
-  judged-canonical = taps-canonical (fileIn input) (rw file-k (h .board))
+  judged-canonical = board-canonical (fileIn input) (rw file-k (h .board)) .1
 
   pub four-words : length (claimIn (fileIn input)) ≡ 4
   unfolding claimIn

@@ -5,13 +5,10 @@ use mathlib.Core.List.{List, _++_}
 use Prim.Native.Nat.{ℕ, _+_, _*_, _-_, _/_, _≤_}
 use native.Mathlib.Decide.{ℕ-discrete}
 use native.Mathlib.Omega.{arith}
-use borrow.Author.Tests.{eq-eqb, ne-eqb}
+use borrow.Author.Tests.{ne-eqb}
 use lib.ListN.{length, length-append, length-drop, take, drop}
 use lib.Seq.{length-take-le, take-all, take-at}
-use Rattle.words.specs.Words.{AllCanonical, firstBad}
-use Rattle.words.proofs.Laws.{all-good}
-use Rattle.counts.specs.Counts.{IsPermitted}
-use Rattle.counts.proofs.Laws.{tap-complete, trace-complete}
+use Rattle.words.specs.Words.{AllCanonical}
 use Rattle.refusals.specs.declared.Refusal.{Refusal}
 use Rattle.refusals.specs.declared.Answer.{Answer}
 use Rattle.refusals.specs.declared.Answer.the-variants as answer
@@ -19,48 +16,23 @@ use Rattle.refusals.specs.declared.Checked.{Checked}
 use Rattle.refusals.specs.declared.Digest.{Digest}
 use Rattle.refusals.specs.declared.Digested.{Digested}
 use Rattle.refusals.specs.declared.Digested.the-variants.{Accepted, Refused}
-use Rattle.refusals.specs.Refusals.{digest, digestedKept}
+use Rattle.refusals.specs.Refusals.{digest}
 use Rattle.table.specs.Table.{IsTable, Prepares}
-use Rattle.table.proofs.Theorems.{test-complete, test-sound, prepared-accepted, refused-kept}
+use Rattle.table.proofs.Theorems.{test-sound, prepared-accepted, refused-kept}
 use Rattle.hash.specs.Hash.{chain}
 use Rattle.trace.specs.Trace.{trace}
 use Rattle.trace.specs.Answers.{buildAnswer, buildLeaves}
 use Rattle.trace.proofs.TraceCells.{length-trace, trace-canonical}
-use Rattle.constraints.specs.Constraints.{verdict}
+use Rattle.trace.proofs.Theorems.{build-accepts, build-leaves}
 use Rattle.checker.specs.Answers.{checkAnswer}
-use Rattle.checker.proofs.AnswerLaws.{good-words}
-use Rattle.elements.proofs.Round.{elements-canonical}
+use Rattle.checker.proofs.Theorems.{check-verdict}
 use Rattle.board.specs.Board.{fileSize, batchesIn, claimIn, tapsIn, claimOf, unpackTest, unpackAnswer, IsBoard}
 use Rattle.board.proofs.Cases.{unpack-complete}
-use Rattle.board.proofs.Round.{taps-length}
+use Rattle.board.proofs.Round.{board-canonical, taps-length}
 use Rattle.board.proofs.Theorems.{accepted-board}
 use Rattle.outcome.specs.declared.Outcome.{Outcome}
 use Rattle.outcome.specs.declared.Outcome.the-variants as outcome
 use Rattle.clearing.specs.Clearing.{Taps, rawIn, fileIn, fileAfter, reported, checkedTaps, cleared, unprepared, Clears, turned-back, judged}
-
-module _ (T w : List ℕ) (k : ℕ) (table : IsTable T) (permitted : IsPermitted k) (size : length w ≡ 12 * k + 4) (canonical : AllCanonical w) where
-  pub builds : buildAnswer T w (384 * k) ≡ Accepted (digest (chain T w k))
-  unfolding buildAnswer
-  builds = rw (
-    test-complete T table,
-    size,
-    tap-complete k permitted,
-    eq-eqb (384 * k) (384 * k) refl,
-    eq-eqb (firstBad w) (12 * k + 4) (all-good w canonical ∙ size),
-  )
-
-  pub leaves : (old : List ℕ) → length old ≡ 384 * k → buildLeaves T w old ≡ trace T w k
-  unfolding buildLeaves
-  leaves old e =
-      let batches : length w / 12 ≡ k = omega arith in
-      ap (λ a. digestedKept a (trace T w (length w / 12)) old) (ap (buildAnswer T w) e ∙ builds) ∙ ap (trace T w) batches
-
-  pub checks : (claim : List ℕ) → length claim ≡ 4 → AllCanonical claim → checkAnswer T (trace T w k) claim ≡ verdict T (trace T w k) claim k
-  unfolding checkAnswer
-  checks claim four good =
-      let t : List ℕ = trace T w k in
-      rw (test-complete T table, length-trace T w k, trace-complete k permitted)
-      (sym (good-words T t claim k {c = firstBad claim} refl (all-good claim good ∙ four) {b = firstBad t} refl (all-good t (trace-canonical T w k size canonical))))
 
 -- ---- a part of a longer room that was lent and came back
 module _ (room last : List ℕ) (n : ℕ) (fits : n ≤ length room) where
@@ -81,7 +53,7 @@ module _ (room last : List ℕ) (n : ℕ) (fits : n ≤ length room) where
 module _ (T w : List ℕ) (table : IsTable T) (taps : Taps w) where
   pub never-refused : (b : Digested) (size : ℕ) (r : Refusal) → size ≡ 384 * (length w / 12) → b ≡ buildAnswer T w size → b ≡ Refused r → ⊥
   never-refused b size r s e q =
-      let accepted : b ≡ Accepted (digest (chain T w (length w / 12))) = e ∙ ap (buildAnswer T w) s ∙ builds T w (length w / 12) table (taps .permitted) (taps .size) (taps .canonical) in
+      let accepted : b ≡ Accepted (digest (chain T w (length w / 12))) = e ∙ ap (buildAnswer T w) s ∙ build-accepts T w (length w / 12) table (taps .permitted) (taps .size) (taps .canonical) in
       let z : _≡_ {A = ℕ} 0 1 = cc in
       omega arith
 
@@ -90,8 +62,12 @@ module _ (T w : List ℕ) (table : IsTable T) (taps : Taps w) where
   unfolding checkedTaps
   taps-cleared claim old t a o four good room built checked told =
       let k : ℕ = length w / 12 in
-      let t-is : t ≡ trace T w k = built ∙ leaves T w k table (taps .permitted) (taps .size) (taps .canonical) old room in
-      told ∙ ap (reported k) (checked ∙ ap (λ s. checkAnswer T s claim) t-is ∙ checks T w k table (taps .permitted) (taps .size) (taps .canonical) claim four good)
+      let t-is : t ≡ trace T w k = built ∙ build-leaves T w k table (taps .permitted) (taps .size) (taps .canonical) old room in
+      told
+      ∙ ap (reported k)
+      (checked
+      ∙ ap (λ s. checkAnswer T s claim) t-is
+      ∙ check-verdict T (trace T w k) claim k table (taps .permitted) (length-trace T w k) (trace-canonical T w k (taps .size) (taps .canonical)) four good)
 
 -- ---- the file
 
@@ -106,19 +82,8 @@ any-room file size e = go (ℕ-discrete (length file) (fileSize (batchesIn file)
         ap (unpackTest file) room
     go (no l) = rw (ne-eqb _ _ l)
 
--- the claim and the taps of an accepted file
+-- the taps of an accepted file
 module _ (file : List ℕ) (board : IsBoard file (batchesIn file)) where
-  pub claim-canonical : AllCanonical (claimIn file)
-  unfolding claimIn
-  claim-canonical = elements-canonical file 1 4 (λ i l. board .elements i (omega arith))
-
-  pub taps-canonical : AllCanonical (tapsIn file)
-  unfolding tapsIn
-  taps-canonical = elements-canonical file 13 (12 * batchesIn file + 4) (λ i l. rw (after-claim i) at (board .elements (4 + i) (omega arith)))
-    where
-      after-claim : (i : ℕ) → 1 + 3 * (4 + i) ≡ 13 + 3 * i
-      after-claim i = omega arith
-
   pub batches-are : length (tapsIn file) / 12 ≡ batchesIn file
   batches-are = omega (arith, taps-length file)
 
@@ -127,7 +92,7 @@ module _ (file : List ℕ) (board : IsBoard file (batchesIn file)) where
     size = omega (arith, taps-length file);
     permitted = rw batches-are (board .permitted);
     few = omega (arith, taps-length file, board .size);
-    canonical = taps-canonical;
+    canonical = board-canonical file board .1;
   }
 
 -- unpacked into the room that its length gives

@@ -42,6 +42,7 @@ fn read_table(input: &[u8], raw: &mut [u64])
     }
 }
 
+// Prepares the raw table.
 fn prepare(input: &[u8], table: &mut [u64]) -> Answer
     requires { ⌜ 3168 ≤ length (now input) ⌝ }
     ensures { λ r. ⌜ Prepares (rawIn (now (input .entry))) (now (table .entry)) r (now (table .exit)) ⌝ }
@@ -70,6 +71,7 @@ fn trace_room() -> [u64; 6144]
     [0; 6144]
 }
 
+// What a check of k batches comes to.
 fn reported(k: usize, checked: Checked) -> Outcome
     ensures { λ r. ⌜ r ≡ reported k checked ⌝ }
 {

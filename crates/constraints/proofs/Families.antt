@@ -1,12 +1,13 @@
 -- Where each constraint applies, as document 01 lists them, by row and column.
 -- Assumes nothing.
-use mathlib.Core.Path.{_≡_, refl}
-use mathlib.Core.Bool.{Bool, true, false, _&&_, _||_, not, or-true}
-use mathlib.Core.Logic.{_⊎_, inl, inr, ⊎-elim}
+use mathlib.Core.Path.{_≡_}
+use mathlib.Core.Bool.{true, false, _&&_, not, or-true}
+use mathlib.Core.Logic.{_⊎_, ⊎-elim}
 use Prim.Native.Nat.{ℕ, _+_, _*_, _-_, _≤_, _<_}
 use native.Mathlib.Omega.{arith}
 use borrow.Author.Tests.{le-leb, leb-true, eq-eqb, ne-eqb, eqb-true, eqb-false, not-true}
 use lib.Dec.{leb, eqb}
+use Rattle.lists.proofs.Bools.{or-cases, and-both, and-intro}
 use Rattle.constraints.specs.Constraints.{within, entering, between, applies}
 
 -- constraint c applies at row i of k batches, at column j
@@ -20,19 +21,7 @@ pub data Applies (k i c : ℕ) : Type 0 where
   joins : (j : ℕ) → j < 4 → c ≡ 45 + j → within i ≡ 31 → (i + 1 ≡ 32 * k → ⊥) → Applies k i c
   claims : (j : ℕ) → j < 4 → c ≡ 49 + j → i + 1 ≡ 32 * k → Applies k i c
 
--- ---- Boolean laws
-pub or-cases : (a b : Bool) → (a || b) ≡ true → (a ≡ true) ⊎ (b ≡ true)
-or-cases true b e = inl refl
-or-cases false b e = inr e
-
-and-both : (a b : Bool) → (a && b) ≡ true → (a ≡ true) × (b ≡ true)
-and-both true b e = (refl, e)
-and-both false b e = absurd (let z : _≡_ {A = ℕ} 0 1 = cc in omega arith)
-
-and-intro : (a b : Bool) → a ≡ true → b ≡ true → (a && b) ≡ true
-and-intro true b p q = q
-and-intro false b p q = p
-
+-- ---- a number between two
 range : (a b c : ℕ) → between a b c ≡ true → (a ≤ c) × (c ≤ b)
 range a b c e =
     let s = and-both (leb a c) (leb c b) e in

@@ -11,6 +11,7 @@ use borrow.Author.Tests.{eq-eqb, ne-eqb, eqb-true}
 use lib.Dec.{eqb}
 use lib.ListN.{take}
 use Rattle.lists.specs.Lists.{cell}
+use Rattle.lists.proofs.Bools.{or-cases}
 use Rattle.field.specs.Field.{add}
 use Rattle.table.specs.Table.{IsTable, constant}
 use Rattle.hash.specs.Hash.{firstStep, secondStep}
@@ -18,7 +19,6 @@ use Rattle.hash.proofs.States.{IsState, cell-plus}
 use Rattle.hash.proofs.Inputs.{cell-take}
 use Rattle.constraints.specs.Constraints.{row, within, round, entering, forward, backStep, back}
 use Rattle.constraints.specs.ReadOff.{firstRow}
-use Rattle.constraints.proofs.Families.{or-cases}
 use Rattle.constraints.proofs.OneRound.{first-back, backStep-state}
 
 -- ---- rows 10 and 20

@@ -7,8 +7,9 @@ use native.Mathlib.Nat.{mod-lt}
 use native.Mathlib.Omega.{arith}
 use Rattle.lists.specs.Lists.{cell}
 use Rattle.lists.proofs.Tab.{cell-tab}
-use Rattle.field.specs.Field.{P, add, sub, cube, root}
+use Rattle.field.specs.Field.{add, sub, cube, root}
 use Rattle.field.proofs.Fermat.{cube-root, root-cube}
+use Rattle.field.proofs.Ring.{sub-add, add-sub}
 use Rattle.matrix.specs.Matrix.{times}
 use Rattle.table.specs.Table.{IsTable, matrixOf, inverseOf, constant}
 use Rattle.table.proofs.Theorems.{undo-mix, mix-undo}
@@ -17,12 +18,6 @@ use Rattle.hash.proofs.States.{IsState, state-cell, same-state, tab-state, root
 use Rattle.constraints.specs.Constraints.{minus, backStep}
 
 -- ---- addition and subtraction
-add-sub : (a b : ℕ) → a < P → b < P → add (sub a b) b ≡ a
-add-sub a b p q = omega arith
-
-sub-add : (a b : ℕ) → a < P → b < P → sub (add a b) b ≡ a
-sub-add a b p q = omega arith
-
 pub minus-state : (s k : List ℕ) → IsState (minus s k)
 unfolding minus
 minus-state s k = tab-state _ (λ j h. mod-lt _ (omega arith))
@@ -34,12 +29,12 @@ cell-minus s k j h = cell-tab 12 _ j h
 pub plus-minus : {s k : List ℕ} → IsState s → IsState k → plus (minus s k) k ≡ s
 plus-minus {s} {k} p q =
     same-state (plus-state (minus s k) k) p
-    (λ j h. cell-plus (minus s k) k j h ∙ ap (λ x. add x (cell k j)) (cell-minus s k j h) ∙ add-sub (cell s j) (cell k j) (state-cell p j) (state-cell q j))
+    (λ j h. cell-plus (minus s k) k j h ∙ ap (λ x. add x (cell k j)) (cell-minus s k j h) ∙ sub-add (cell s j) (cell k j) (state-cell p j) (state-cell q j))
 
 pub minus-plus : {s k : List ℕ} → IsState s → IsState k → minus (plus s k) k ≡ s
 minus-plus {s} {k} p q =
     same-state (minus-state (plus s k) k) p
-    (λ j h. cell-minus (plus s k) k j h ∙ ap (λ x. sub x (cell k j)) (cell-plus s k j h) ∙ sub-add (cell s j) (cell k j) (state-cell p j) (state-cell q j))
+    (λ j h. cell-minus (plus s k) k j h ∙ ap (λ x. sub x (cell k j)) (cell-plus s k j h) ∙ add-sub (cell s j) (cell k j) (state-cell p j) (state-cell q j))
 
 -- ---- cubes and roots
 cubes-roots : {s : List ℕ} → IsState s → cubes (roots s) ≡ s

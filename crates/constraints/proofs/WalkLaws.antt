@@ -1,7 +1,7 @@
 -- The walk accepts exactly where every test holds, with the number of all tests; else it names the first test that fails, and its place.
 -- Assumes nothing.
 use mathlib.Core.Path.{_≡_, refl, sym, ap, _∙_, subst, subst₃}
-use mathlib.Core.Bool.{Bool, true, false}
+use mathlib.Core.Bool.{Bool, true, false, true≢false}
 use mathlib.Core.Logic.{_⊎_, inl, inr}
 use mathlib.Core.List.{List, [], _∷_, _++_, List·Memᴰ, List·Memᴰ·cases-cons, List·Memᴰ·not-nil, Memᴰ·append-right}
 use Prim.Native.Nat.{ℕ, suc, _+_}
@@ -60,13 +60,10 @@ module _ (T t claim : List ℕ) where
 
   -- the two ends exclude each other: the test that fails is one of the list
   pub not-both : (xs : List Test) (i c n : ℕ) → AllHold T t claim xs → IsFirstFailing T t claim xs i c n → ⊥
-  not-both xs i c n a f = yes-and-no (holds T t claim i c) (a x (subst (λ l. List·Memᴰ x l) (sym (f .order)) (Memᴰ·append-right (f .before) (List·Memᴰ.List·Memᴰ·head refl)))) (f .fails)
+  not-both xs i c n a f = true≢false (sym (a x (subst (λ l. List·Memᴰ x l) (sym (f .order)) (Memᴰ·append-right (f .before) (List·Memᴰ.List·Memᴰ·head refl)))) ∙ f .fails)
     where
       x : Test
       x = record { at = i; number = c }
-
-      yes-and-no : (b : Bool) → b ≡ true → b ≡ false → ⊥
-      yes-and-no b p q = let z : _≡_ {A = ℕ} 0 1 = cc in omega arith
 
   -- a walk stops at the test that fails, where all before it hold
   walk-stops : (xs : List Test) (i c : ℕ) (rest : List Test) (n : ℕ) → AllHold T t claim xs → holds T t claim i c ≡ false

@@ -1,4 +1,4 @@
--- The 52 constraints, and the ordered list of all tests of a trace (document 01, "The 52 constraints").
+-- The 52 constraints, and the ordered list of all tests of a trace (document 01, "The 52 constraints"; Rescue STARK documentation 1.0, section 3.3.2).
 -- T is a prepared table, t a trace of k batches, row by row; i is the number of a row in the whole trace, c that of a constraint.
 -- Assumes nothing.
 use mathlib.Core.Bool.{Bool, true, false, _&&_, _||_, not}
@@ -39,6 +39,7 @@ forward T t i =
     choose (entering i) (plus (secondStep T (round i) (row t i)) (take 4 (constant T 0)))
     (secondStep T (round i) (row t i))
 
+-- a state less another, cell by cell
 unfoldable pub minus : List ℕ → List ℕ → List ℕ
 minus s k = tab 12 (λ j. sub (cell s j) (cell k j))
 
@@ -110,5 +111,6 @@ walk T t claim (x ∷ xs) n =
     choose (holds T t claim (x .at) (x .number)) (walk T t claim xs (n + 1))
     (Refused (Constraint (record { 0 = x .at }) (x .number) (n + 1)))
 
+-- what the walk through all tests answers
 unfoldable pub verdict : List ℕ → List ℕ → List ℕ → ℕ → Checked
 verdict T t claim k = walk T t claim (tests k) 0

@@ -3,16 +3,16 @@
 use mathlib.Core.Path.{_≡_, refl, ap, sym, _∙_}
 use mathlib.Core.Bool.{Bool, true, false, _&&_}
 use mathlib.Core.Logic.{_⊎_, inl, inr}
-use Prim.Native.Nat.{ℕ, zero, suc, _+_, _*_, _/_, _%_, _^_, _≤_, _<_}
+use Prim.Native.Nat.{ℕ, zero, suc, _+_, _*_, _/_, _%_, _^_, _<_}
 use native.Mathlib.Nat.{pow-suc, mod-lt}
 use native.Mathlib.Omega.{arith}
 use borrow.Author.Tests.{le-leb, leb-true, eq-eqb, eqb-true}
 use lib.Count.{ones, ones-step, ones-cat}
 use lib.Dec.{leb, eqb}
-use lib.Pow.{pow-pos}
+use lib.Pow.{pow-pos, pow-mono}
 use Rattle.lists.specs.Lists.{choose}
+use Rattle.lists.proofs.Bools.{and-both}
 use Rattle.counts.specs.Counts.{IsPermitted, permitted, countOf, tapBatches, traceBatches}
-use Rattle.counts.specs.declared.BatchCount.{BatchCount}
 use Rattle.counts.specs.declared.BatchCount.the-variants.{Permitted, Refused}
 
 -- ---- one set bit
@@ -62,15 +62,14 @@ power-ones j =
 pub permitted-power : (k : ℕ) → IsPermitted k → (j : ℕ) × (j < 11) × (k ≡ 2 ^ j)
 permitted-power k p = power 11 k (omega (arith, p .high)) (p .one-bit)
 
--- ---- the test decides
-both : (a b : Bool) → (a && b) ≡ true → (a ≡ true) × (b ≡ true)
-both true b e = (refl, e)
-both false b e = absurd (let z : _≡_ {A = ℕ} 0 1 = cc in omega arith)
+pub power-permitted : (j : ℕ) → j < 11 → IsPermitted (2 ^ j)
+power-permitted j h = record { low = pow-pos j; high = pow-mono {i = j} {j = 10} (omega arith); one-bit = power-ones j }
 
+-- ---- the test decides
 pub permitted-sound : (k : ℕ) → permitted k ≡ true → IsPermitted k
 permitted-sound k e =
-    let s = both (leb 1 k) (leb k 1024 && eqb (ones k) 1) e in
-    let t = both (leb k 1024) (eqb (ones k) 1) (s .1) in
+    let s = and-both (leb 1 k) (leb k 1024 && eqb (ones k) 1) e in
+    let t = and-both (leb k 1024) (eqb (ones k) 1) (s .1) in
     record { low = leb-true 1 k (s .0); high = leb-true k 1024 (t .0); one-bit = eqb-true (ones k) 1 (t .1) }
 
 pub permitted-complete : (k : ℕ) → IsPermitted k → permitted k ≡ true

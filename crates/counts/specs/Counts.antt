@@ -1,6 +1,6 @@
 -- The permitted batch counts, and the batches of a tap list and of a trace (document 01, "Hash and chain", "The trace").
 -- Assumes nothing.
-use mathlib.Core.Bool.{Bool, true, false, _&&_}
+use mathlib.Core.Bool.{Bool, _&&_}
 use mathlib.Core.Path.{_≡_}
 use Prim.Native.Nat.{ℕ, _/_, _%_, _≤_}
 use lib.Count.{ones}

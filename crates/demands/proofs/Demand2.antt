@@ -1,27 +1,22 @@
 -- Demand 2: hash, chain and trace are the definitions', a built trace reads off to its taps, and the board file round-trips.
 -- Assumes nothing.
-use mathlib.Core.Path.{_≡_, refl, sym, ap, ap₂, _∙_, subst}
+use mathlib.Core.Path.{_≡_, refl, sym, ap, ap₂, _∙_}
 use mathlib.Core.List.{List, _++_}
 use Prim.Native.Nat.{ℕ, zero, suc, _+_, _*_, _-_, _/_, _<_}
-use native.Mathlib.Decide.{decLt}
 use native.Mathlib.Omega.{arith}
 use borrow.Author.Tests.{eq-eqb}
-use lib.ListN.{length, take, drop, length-append, List·getD-append}
-use lib.Seq.{take-at, drop-at, getD-append-add}
-use Rattle.lists.specs.Lists.{cell, choose}
+use lib.ListN.{length}
+use lib.Seq.{take-at, drop-at}
+use Rattle.lists.specs.Lists.{cell}
 use Rattle.words.specs.Words.{AllCanonical, firstBad}
-use Rattle.words.proofs.Laws.{all-good}
-use Rattle.field.specs.Field.{Canonical}
+use Rattle.words.proofs.Laws.{all-good, append-canonical}
 use Rattle.counts.specs.Counts.{IsPermitted, tapBatches}
 use Rattle.counts.proofs.Laws.{tap-complete}
-use Rattle.refusals.specs.Refusals.{digest, digestedAfter, digestedKept}
-use Rattle.refusals.specs.declared.Refusal.the-variants.{TapWord}
+use Rattle.refusals.specs.Refusals.{digest, digestedAfter}
 use Rattle.refusals.specs.declared.Answer.{Answer}
-use Rattle.refusals.specs.declared.Answer.the-variants as answer
 use Rattle.refusals.specs.declared.Digested.{Digested}
 use Rattle.refusals.specs.declared.Digested.the-variants.{Accepted}
 use Rattle.refusals.specs.declared.Checked.the-variants as checked
-use Rattle.readoff.specs.Answers.{readOffAnswer}
 use Rattle.table.specs.Table.{IsTable, tableTest}
 use Rattle.table.proofs.Theorems.{test-complete}
 use Rattle.hash.specs.Hash.{hash, chain}
@@ -29,25 +24,17 @@ use Rattle.hash.specs.Answers.{forBatches, forTaps, hashAnswer, chainAnswer}
 use Rattle.hash.proofs.Inputs.{IsTap, output-tap}
 use Rattle.hash.proofs.States.{same-cells}
 use Rattle.trace.specs.Trace.{trace}
-use Rattle.trace.specs.Answers.{forDestination, buildAnswer, buildLeaves}
+use Rattle.trace.specs.Answers.{buildAnswer}
 use Rattle.trace.proofs.TraceCells.{length-trace, trace-canonical}
+use Rattle.trace.proofs.Theorems.{build-accepts, build-leaves}
 use Rattle.constraints.specs.ReadOff.{readTaps}
+use Rattle.checker.proofs.Theorems.{check-verdict}
+use Rattle.readoff.specs.Answers.{readOffAnswer}
+use Rattle.readoff.proofs.Theorems.{same-for}
 use Rattle.board.specs.Board.{fileOf, packed, unpackAnswer, tapsIn, claimOf}
 use Rattle.board.proofs.Theorems.{unpack-pack, pack-unpack}
 use Rattle.exact.proofs.Exactness.{reading-off-a-built-trace}
 use Rattle.demands.specs.Demands.{Demand2}
-use Rattle.demands.proofs.Answered.{read-off-is-verdict}
-
--- two lists of canonical words, one after the other
-both-canonical : (a b : List ℕ) → AllCanonical a → AllCanonical b → AllCanonical (a ++ b)
-both-canonical a b ha hb i h = go (decLt i (length a))
-  where
-    go : Dec (i < length a) → Canonical (cell (a ++ b) i)
-    go (yes l) = subst Canonical (sym (List·getD-append a b 0 i l)) (ha i l)
-    go (no l) = subst Canonical (sym (ap (cell (a ++ b)) e ∙ getD-append-add a b (i - length a) 0)) (hb (i - length a) (omega (arith, length-append a b)))
-      where
-        e : i ≡ length a + (i - length a)
-        e = omega arith
 
 -- a list of four words is that of its digest
 four-words : (s : List ℕ) → length s ≡ 4 → s ≡ claimOf (digest s)
@@ -72,7 +59,7 @@ module _ (T : List ℕ) (k : ℕ) (table : IsTable T) (permitted : IsPermitted k
   unfolding hashAnswer
   hashes a b la ha lb hb =
       table-passes _
-      ∙ taps-pass (a ++ b) _ (both-canonical a b ha hb)
+      ∙ taps-pass (a ++ b) _ (append-canonical a b ha hb)
       ∙ ap₂ (λ x y. Accepted (digest (hash T x y))) (take-at a b 4 la) (drop-at a b 4 la)
 
   module _ (w : List ℕ) (size : length w ≡ 12 * k + 4) (canonical : AllCanonical w) where
@@ -86,20 +73,6 @@ module _ (T : List ℕ) (k : ℕ) (table : IsTable T) (permitted : IsPermitted k
         ∙ ap (λ b. forBatches b (λ n. forTaps w (Accepted (digest (chain T w n))))) (batches ∙ tap-complete k permitted)
         ∙ taps-pass w _ canonical
 
-    built : (n : ℕ) → n ≡ 384 * k → buildAnswer T w n ≡ Accepted (digest (chain T w k))
-    unfolding buildAnswer
-    built n e =
-        table-passes _
-        ∙ ap (λ b. forBatches b (λ m. forDestination n m (forTaps w (Accepted (digest (chain T w m)))))) (batches ∙ tap-complete k permitted)
-        ∙ rw (eq-eqb n (384 * k) e) (taps-pass w _ canonical)
-
-    leaves : (old : List ℕ) → length old ≡ 384 * k → buildLeaves T w old ≡ trace T w k
-    unfolding buildLeaves
-    leaves old e = ap (λ (a : Digested). digestedKept a (trace T w (length w / 12)) old) (built (length old) e) ∙ ap (trace T w) q
-      where
-        q : length w / 12 ≡ k
-        q = omega (arith, size)
-
     -- the output, as it is returned and lent again
     output : IsTap (chain T w k)
     unfolding chain
@@ -111,8 +84,8 @@ module _ (T : List ℕ) (k : ℕ) (table : IsTable T) (permitted : IsPermitted k
     reads-back : (readOffAnswer T (trace T w k) (claimOf (digest (chain T w k))) (12 * k + 4) ≡ checked.Accepted (372 * k)) × (readTaps T (trace T w k) k ≡ w)
     reads-back =
         let e = reading-off-a-built-trace T k table permitted w size canonical in
-        let o = read-off-is-verdict T (trace T w k) (chain T w k) k table permitted (length-trace T w k) (trace-canonical T w k size canonical) (output .size) (output .canonical) in
-        (ap (λ c. readOffAnswer T (trace T w k) c (12 * k + 4)) returned ∙ o ∙ e .0, e .1)
+        let v = check-verdict T (trace T w k) (chain T w k) k table permitted (length-trace T w k) (trace-canonical T w k size canonical) (output .size) (output .canonical) in
+        (ap (λ c. readOffAnswer T (trace T w k) c (12 * k + 4)) returned ∙ same-for T (trace T w k) (chain T w k) k (length-trace T w k) ∙ v ∙ e .0, e .1)
 
     unpacks : (claim : List ℕ) → length claim ≡ 4 → AllCanonical claim → (unpackAnswer (packed w claim) (12 * k + 4) ≡ Accepted (digest claim)) × (tapsIn (packed w claim) ≡ w)
     unfolding packed
@@ -125,7 +98,7 @@ module _ (T : List ℕ) (k : ℕ) (table : IsTable T) (permitted : IsPermitted k
   demand-2 = record {
     hashes = hashes;
     chains = chains;
-    builds = λ w old s c l. (built w s c (length old) l, leaves w s c old l);
+    builds = λ w old s c l. (ap (buildAnswer T w) l ∙ build-accepts T w k table permitted s c, build-leaves T w k table permitted s c old l);
     reads-back = reads-back;
     unpacks = λ w claim s c lc hc. unpacks w s c claim lc hc;
     packs = pack-unpack;

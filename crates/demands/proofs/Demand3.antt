@@ -13,23 +13,23 @@ use Rattle.refusals.specs.declared.Refusal.the-variants.{Constraint}
 use Rattle.refusals.specs.declared.Checked.{Checked}
 use Rattle.refusals.specs.declared.Checked.the-variants.{Accepted, Refused}
 use Rattle.table.specs.Table.{IsTable}
-use Rattle.trace.specs.Trace.{trace}
 use Rattle.constraints.specs.Constraints.{tests, verdict}
 use Rattle.constraints.specs.ReadOff.{readTaps}
 use Rattle.constraints.specs.FirstFailing.{IsFirstFailing}
 use Rattle.checker.specs.Answers.{checkAnswer}
+use Rattle.checker.proofs.Theorems.{check-verdict}
 use Rattle.readoff.specs.Answers.{readOffAnswer}
+use Rattle.readoff.proofs.Theorems.{same-for}
 use Rattle.exact.specs.Exact.{IsListFor}
 use Rattle.exact.proofs.Exactness as exact
 use Rattle.demands.specs.Demands.{Demand3}
-use Rattle.demands.proofs.Answered.{check-is-verdict, read-off-is-verdict}
 
 module _ (T t claim : List ℕ) (k : ℕ) (table : IsTable T) (permitted : IsPermitted k) (size : length t ≡ 384 * k) (canonical : AllCanonical t) (claim-size : length claim ≡ 4) (claim-canonical : AllCanonical claim) where
   checks : checkAnswer T t claim ≡ verdict T t claim k
-  checks = check-is-verdict T t claim k table permitted size canonical claim-size claim-canonical
+  checks = check-verdict T t claim k table permitted size canonical claim-size claim-canonical
 
-  reads : readOffAnswer T t claim (12 * k + 4) ≡ verdict T t claim k
-  reads = read-off-is-verdict T t claim k table permitted size canonical claim-size claim-canonical
+  agrees : readOffAnswer T t claim (12 * k + 4) ≡ checkAnswer T t claim
+  agrees = same-for T t claim k size
 
   batches : length t / 384 ≡ k
   batches = omega (arith, size)
@@ -43,8 +43,8 @@ module _ (T t claim : List ℕ) (k : ℕ) (table : IsTable T) (permitted : IsPer
   demand-3 = record {
     accepts-exactly = (λ e. exact.accepts-exactly T t claim k table permitted size canonical claim-size .0 (sym checks ∙ e), λ w. checks ∙ exact.accepts-exactly T t claim k table permitted size canonical claim-size .1 w);
     no-other = λ w v l s c e. sym (exact.one-list-a-trace T k table permitted w v (l .size) (l .canonical) s c (l .traced ∙ sym e));
-    read-off-agrees = reads ∙ sym checks;
-    read-off-writes = λ n old e. subst (IsListFor T t claim k) (sym (ap (λ (a : Checked). checkedKept a (readTaps T t (length t / 384)) old) e ∙ ap (readTaps T t) batches)) (exact.reads-that-list T t claim k table permitted size canonical claim-size n (sym reads ∙ e));
+    read-off-agrees = agrees;
+    read-off-writes = λ n old e. subst (IsListFor T t claim k) (sym (ap (λ (a : Checked). checkedKept a (readTaps T t (length t / 384)) old) e ∙ ap (readTaps T t) batches)) (exact.reads-that-list T t claim k table permitted size canonical claim-size n (sym (agrees ∙ checks) ∙ e));
     whole-order = λ n e. (let o = exact.whole-order T t claim k table permitted size canonical claim-size n (sym checks ∙ e) in (o .1, o .0));
     refused-by-11 = refused (decided (verdict T t claim k) refl);
   }

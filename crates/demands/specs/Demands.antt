@@ -6,7 +6,6 @@ use mathlib.Core.Logic.{_⊎_, _↔_}
 use Prim.Native.Nat.{ℕ, _+_, _*_, _/_, _≤_}
 use lib.ListN.{length}
 use Rattle.words.specs.Words.{AllCanonical}
-use Rattle.counts.specs.Counts.{IsPermitted}
 use Rattle.fileword.specs.Words.{AllBytes}
 use Rattle.refusals.specs.Refusals.{told, digest, answerKept, digestedKept, checkedKept}
 use Rattle.refusals.specs.declared.Refusal.{Refusal}
@@ -14,11 +13,9 @@ use Rattle.refusals.specs.declared.Refusal.the-variants.{Constraint}
 use Rattle.refusals.specs.declared.Answer.{Answer}
 use Rattle.refusals.specs.declared.Answer.the-variants as answer
 use Rattle.refusals.specs.declared.Digest.{Digest}
-use Rattle.refusals.specs.declared.Digested.{Digested}
 use Rattle.refusals.specs.declared.Digested.the-variants as digested
-use Rattle.refusals.specs.declared.Checked.{Checked}
 use Rattle.refusals.specs.declared.Checked.the-variants as checked
-use Rattle.table.specs.Table.{IsTable, Prepares}
+use Rattle.table.specs.Table.{Prepares}
 use Rattle.hash.specs.Hash.{hash, chain}
 use Rattle.hash.specs.Answers.{hashAnswer, chainAnswer}
 use Rattle.trace.specs.Trace.{trace}

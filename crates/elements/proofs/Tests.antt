@@ -78,6 +78,9 @@ pub tests-stop : (file : List ℕ) (j n i : ℕ) (t : Answer) (r : Refusal) → 
     → t ≡ elementsTest file (j + 3 * i) (n - i)
 tests-stop file j n i t r h e a = a ∙ sym (tests-next file j n i h ∙ rw (sym e ∙ a))
 
+next : (j i : ℕ) → j + 3 + 3 * i ≡ j + 3 * suc i
+next j i = omega arith
+
 -- all are accepted exactly where each is
 pub each-accepted : (file : List ℕ) (j n : ℕ) → elementsTest file j n ≡ Accepted → (i : ℕ) → i < n → IsElement file (j + 3 * i)
 unfolding elementsTest
@@ -86,18 +89,14 @@ each-accepted file j (suc n) e zero h =
     let s : j ≡ j + 3 * 0 = omega arith in
     rw s at (accepted file j (after (elementTest file j) (elementsTest file (j + 3) n) e .0))
 each-accepted file j (suc n) e (suc i) h =
-    let s : j + 3 + 3 * i ≡ j + 3 * suc i = omega arith in
-    rw s at (each-accepted file (j + 3) n (after (elementTest file j) (elementsTest file (j + 3) n) e .1) i (omega arith))
+    rw (next j i) at (each-accepted file (j + 3) n (after (elementTest file j) (elementsTest file (j + 3) n) e .1) i (omega arith))
 
 pub all-accepted : (file : List ℕ) (j n : ℕ) → ((i : ℕ) → i < n → IsElement file (j + 3 * i)) → elementsTest file j n ≡ Accepted
 unfolding elementsTest
 all-accepted file j zero h = refl
 all-accepted file j (suc n) h =
     let s : j + 3 * 0 ≡ j = omega arith in
-    rw (accepts file j (rw s at (h 0 (omega arith)))) (all-accepted file (j + 3) n (λ i l. rw (next i) (h (suc i) (omega arith))))
-  where
-    next : (i : ℕ) → j + 3 + 3 * i ≡ j + 3 * suc i
-    next i = omega arith
+    rw (accepts file j (rw s at (h 0 (omega arith)))) (all-accepted file (j + 3) n (λ i l. rw (next j i) (h (suc i) (omega arith))))
 
 -- the first that is refused decides
 pub first-refused : (file : List ℕ) (j n i : ℕ) (r : Refusal) → i < n → ((k : ℕ) → k < i → IsElement file (j + 3 * k)) → elementTest file (j + 3 * i) ≡ Refused r → elementsTest file j n ≡ Refused r
@@ -108,7 +107,4 @@ first-refused file j (suc n) zero r h b e =
     rw (rw s at e)
 first-refused file j (suc n) (suc i) r h b e =
     let s : j + 3 * 0 ≡ j = omega arith in
-    rw (accepts file j (rw s at (b 0 (omega arith)))) (first-refused file (j + 3) n i r (omega arith) (λ k l. rw (next k) (b (suc k) (omega arith))) (rw (next i) e))
-  where
-    next : (k : ℕ) → j + 3 + 3 * k ≡ j + 3 * suc k
-    next k = omega arith
+    rw (accepts file j (rw s at (b 0 (omega arith)))) (first-refused file (j + 3) n i r (omega arith) (λ k l. rw (next j k) (b (suc k) (omega arith))) (rw (next j i) e))

@@ -10,7 +10,8 @@ use native.Mathlib.Omega.{arith}
 use borrow.Author.Tests.{eq-eqb, ne-eqb}
 use lib.ListN.{length}
 use Rattle.lists.specs.Lists.{cell}
-use Rattle.field.specs.Field.{P, add, sub}
+use Rattle.field.specs.Field.{add, sub}
+use Rattle.field.proofs.Ring.{add-sub, sub-self}
 use Rattle.words.specs.Words.{AllCanonical}
 use Rattle.table.specs.Table.{IsTable, constant}
 use Rattle.hash.specs.Hash.{plus, firstStep, secondStep, stateAt, middleState, finalState}
@@ -21,12 +22,6 @@ use Rattle.constraints.proofs.OneRound.{minus-state, cell-minus, plus-minus}
 use Rattle.constraints.proofs.RowCells.{row-state}
 use Rattle.constraints.proofs.Equations.{Equations}
 use Rattle.constraints.proofs.ForwardBack.{enters-not, entering-row, within-of, back-state, forward-is, forward-enters, row-from-back}
-
-sub-self : (a : ℕ) → a < P → sub a a ≡ 0
-sub-self a h = omega arith
-
-sub-added : (a b : ℕ) → a < P → b < P → sub (add a b) b ≡ a
-sub-added a b p q = omega arith
 
 module _ (T t claim : List ℕ) (k : ℕ) (accepted : IsTable T) (size : length t ≡ 384 * k) (canonical : AllCanonical t) (q : Equations T t claim k) where
   pub row-is-state : (i : ℕ) → i < 32 * k → IsState (row t i)
@@ -145,7 +140,7 @@ module _ (T t claim : List ℕ) (k : ℕ) (accepted : IsTable T) (size : length 
           ∙ sym (q .output-kept (firstRow h + 9) j (omega arith) (omega (arith, w)) (omega (arith, w)) m)
           ∙ forward-enters T t h 9 (omega arith) (entering-row h e) j m
           ∙ ap (λ s. add (cell s j) (cell (constant T 0) j)) (last-round h (omega arith)))
-          ∙ sub-added (cell (finalState T (readInput T t h)) j) (cell (constant T 0) j) (state-cell (finalState-state T _) j) (state-cell K₀-state j)
+          ∙ add-sub (cell (finalState T (readInput T t h)) j) (cell (constant T 0) j) (state-cell (finalState-state T _) j) (state-cell K₀-state j)
 
   -- columns 8 to 11 are zeros
   pub zeros-read : (h j : ℕ) → h < 3 * k → j < 4 → cell (readInput T t h) (8 + j) ≡ 0

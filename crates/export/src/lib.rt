@@ -43,6 +43,7 @@ fn indexed(number: u64, index: usize) -> u64
     code(number, 0, 0, index as u64)
 }
 
+// The code of a refusal: its number, and what is returned with it.
 fn code_of(refusal: Refusal) -> u64
     ensures { λ r. ⌜ r ≡ codeOf refusal ⌝ }
 {
@@ -68,6 +69,7 @@ fn code_of(refusal: Refusal) -> u64
     }
 }
 
+// The code of an answer: 0 for acceptance, with the tests where the operation counts them.
 fn answer_code(answer: Answer) -> u64
     ensures { λ r. ⌜ r ≡ answerCode answer ⌝ }
 {

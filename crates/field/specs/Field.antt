@@ -50,6 +50,6 @@ third = 1537228730075359915
 unfoldable pub root : ℕ → ℕ
 root x = power x third
 
--- the inverse of a non-zero element (proofs/Laws.antt, `inverse-law`)
+-- the inverse of a non-zero element (proofs/Fermat.antt, `inverse-law`)
 unfoldable pub inverse : ℕ → ℕ
 inverse x = power x (P - 2)

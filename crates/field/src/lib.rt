@@ -60,7 +60,7 @@ impl Fp {
         ensures { λ r. ⌜ (r .0 ≡ neg (self .0)) × Canonical (r .0) ⌝ }
     {
         let a = self.0;
-        if a == 0 { Fp(0) } else { Fp(Fp::P - a) }
+        if a == 0 { Fp::ZERO } else { Fp(Fp::P - a) }
     }
 
     pub fn mul(self, other: Fp) -> Fp

@@ -54,11 +54,7 @@ word-bytes ws j h fits =
     let e : 4 * j ≡ 4 * j + 0 = omega arith in
     omega (arith, four-sum (cell ws j) fits, ap (cell (bytesOf ws)) e ∙ cell-bytes ws j 0 h (omega arith), cell-bytes ws j 1 h (omega arith), cell-bytes ws j 2 h (omega arith), cell-bytes ws j 3 h (omega arith))
 
--- a word read from bytes is below 2^32, and has those bytes
-pub word-below : (s : List ℕ) (j : ℕ) → AllBytes s → 4 * j + 4 ≤ length s → wordAt s j < 2 ^ 32
-unfolding wordAt
-word-below s j all h = omega (arith, all (4 * j) (omega arith), all (4 * j + 1) (omega arith), all (4 * j + 2) (omega arith), all (4 * j + 3) (omega arith))
-
+-- a word read from bytes has those bytes
 bytes-at : (s : List ℕ) (j b : ℕ) → b < 4 → cell (cell s (4 * j) ∷ cell s (4 * j + 1) ∷ cell s (4 * j + 2) ∷ cell s (4 * j + 3) ∷ []) b ≡ cell s (4 * j + b)
 bytes-at s j zero m =
     let e : 4 * j ≡ 4 * j + 0 = omega arith in

@@ -1,7 +1,7 @@
 -- A run of stores that goes on where another ended, and one that fills the whole list.
 -- Assumes nothing.
-use mathlib.Core.Path.{_≡_, refl, ap, _∙_}
-use mathlib.Core.List.{List, [], _∷_, _++_}
+use mathlib.Core.Path.{_≡_, ap, _∙_}
+use mathlib.Core.List.{List, [], _∷_, _++_, append-nil}
 use Prim.Native.Nat.{ℕ, suc, _+_}
 use native.Mathlib.Nat.{add-zero}
 use native.Mathlib.Omega.{arith}
@@ -19,7 +19,3 @@ sets-all l v e =
     sets-eq v l 0 (omega arith)
     ∙ ap (λ r. v ++ r) (drop-of-length-le l {i = 0 + length v} (omega arith))
     ∙ append-nil v
-  where
-    append-nil : (xs : List ℕ) → xs ++ [] ≡ xs
-    append-nil [] = refl
-    append-nil (x ∷ xs) = ap (λ r. x ∷ r) (append-nil xs)

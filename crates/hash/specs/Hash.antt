@@ -31,15 +31,16 @@ firstStep T r s = plus (mix T (roots s)) (constant T (2 * r + 1))
 unfoldable pub secondStep : List ℕ → ℕ → List ℕ → List ℕ
 secondStep T r s = plus (mix T (cubes s)) (constant T (2 * r + 2))
 
--- the state before round r, from the input: K_0 is added before round 0
+-- the state before round r, from the input (Algorithm 1, State_r): K_0 is added before round 0
 unfoldable pub stateAt : List ℕ → List ℕ → ℕ → List ℕ
 stateAt T s zero = plus s (constant T 0)
 stateAt T s (suc r) = secondStep T r (firstStep T r (stateAt T s r))
 
--- the middle state of round r
+-- the middle state of round r (Algorithm 1, Inter_r)
 unfoldable pub middleState : List ℕ → List ℕ → ℕ → List ℕ
 middleState T s r = firstStep T r (stateAt T s r)
 
+-- the state after round 9 (Algorithm 1, State_10)
 unfoldable pub finalState : List ℕ → List ℕ → List ℕ
 finalState T s = stateAt T s 10
 
@@ -62,6 +63,6 @@ unfoldable pub outputAt : List ℕ → List ℕ → ℕ → List ℕ
 outputAt T w zero = tap w 0
 outputAt T w (suc h) = hash T (outputAt T w h) (tap w (suc h))
 
--- a list of 3k + 1 taps chains to the output of its 3k hashes
+-- a list of 3k + 1 taps chains to the output of its 3k hashes (Rescue STARK documentation 1.0, equation (1))
 unfoldable pub chain : List ℕ → List ℕ → ℕ → List ℕ
 chain T w k = outputAt T w (3 * k)

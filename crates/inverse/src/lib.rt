@@ -70,7 +70,7 @@ fn divide(w: &mut [u64; 288], j: usize)
     scale(w, j, c.0);
 }
 
-// Takes row j off row i as often as row i has it.
+// Takes the multiple of row j off row i that makes its word in column j 0.
 fn clear_word(w: &mut [u64; 288], i: usize, j: usize)
     requires { ⌜ (i < 12) × (j < 12) × (i ≡ j → ⊥) × Working (now w) ⌝ }
     ensures { λ _. ⌜ RowSet (now (w .entry)) (now (w .exit)) i 24 (addedRow (now (w .entry)) i j (neg (at (now (w .entry)) i j))) ⌝ }
@@ -136,6 +136,7 @@ fn start_word(m: &[u64], t: usize) -> u64
     if i == l - 12 { 1 } else { 0 }
 }
 
+// The rows at the start: m, and the identity beside it.
 fn start(m: &[u64], w: &mut [u64; 288])
     requires { ⌜ (length (now m) ≡ 144) × (length (now w) ≡ 288) ⌝ }
     ensures { λ _. ⌜ now (w .exit) ≡ started (now (m .entry)) ⌝ }
@@ -147,6 +148,7 @@ fn start(m: &[u64], w: &mut [u64; 288])
     }
 }
 
+// Columns 12 to 23, which are the inverse in the end.
 fn store(w: &[u64; 288], out: &mut [u64; 144])
     requires { ⌜ length (now out) ≡ 144 ⌝ }
     ensures { λ _. ⌜ now (out .exit) ≡ rightHalf (now (w .entry)) ⌝ }

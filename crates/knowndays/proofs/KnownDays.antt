@@ -1,12 +1,12 @@
 -- The starred known days hold: by computing, but for the one that speaks of every first tap.
 -- Assumes nothing.
-use mathlib.Core.Path.{_≡_, refl}
-use mathlib.Core.List.{List, [], _∷_}
-use Prim.Native.Nat.{ℕ, zero, suc, _<_}
+use mathlib.Core.Path.{refl}
+use mathlib.Core.List.{[], _∷_}
+use Prim.Native.Nat.{zero, suc}
 use native.Mathlib.Omega.{arith}
-use Rattle.lists.specs.Lists.{cell, tab, sum}
+use Rattle.lists.specs.Lists.{tab, sum}
 use Rattle.words.specs.Words.{AllCanonical}
-use Rattle.field.specs.Field.{Canonical, halving, power, root}
+use Rattle.field.specs.Field.{halving, power, root}
 use Rattle.matrix.specs.Matrix.{timesColumn, times}
 use Rattle.table.specs.Table.{matrixOf, inverseOf, constant}
 use Rattle.hash.specs.Hash.{roots, cubes, plus, mix, firstStep, secondStep, stateAt, finalState, input, hash, tap, outputAt, chain}

@@ -1,22 +1,20 @@
 -- Under the table S every round moves each cell two places on, so that ten rounds bring the second tap to the front.
 -- Assumes nothing.
-use mathlib.Core.Path.{_≡_, refl, sym, ap, _∙_}
-use mathlib.Core.Bool.{Bool, true, false}
-use mathlib.Core.List.{List, [], _∷_, _++_}
-use Prim.Native.Nat.{ℕ, zero, suc, _+_, _*_, _-_, _/_, _%_, _<_, _≤_}
+use mathlib.Core.Path.{_≡_, refl, ap, _∙_}
+use mathlib.Core.List.{List, _++_}
+use Prim.Native.Nat.{ℕ, zero, suc, _+_, _*_, _-_, _/_, _%_, _<_}
 use native.Mathlib.Nat.{mod-lt, mod-eq-of-lt, one-mul, zero-mul}
 use native.Mathlib.Omega.{arith}
 use borrow.Author.Tests.{eq-eqb, ne-eqb}
 use lib.Dec.{eqb}
 use lib.ListN.{length, drop, replicate, length-append, List·getD-append}
 use lib.Seq.{getD-take, getD-drop, getD-append-add}
-use Rattle.lists.specs.Lists.{choose, cell, tab, sum}
+use Rattle.lists.specs.Lists.{choose, cell}
 use Rattle.lists.proofs.Tab.{length-tab, cell-tab}
 use Rattle.lists.proofs.Sum.{sum-one}
-use Rattle.words.specs.Words.{AllCanonical}
 use Rattle.field.specs.Field.{P, add, cube, root}
-use Rattle.field.proofs.Fermat.{root-lt, cube-root}
-use Rattle.matrix.specs.Matrix.{entry, timesColumn, times}
+use Rattle.field.proofs.Fermat.{cube-root}
+use Rattle.matrix.specs.Matrix.{entry, timesColumn}
 use Rattle.matrix.proofs.States.{cell-times}
 use Rattle.table.specs.Table.{matrixOf, constant}
 use Rattle.hash.specs.Hash.{roots, cubes, plus, mix, firstStep, secondStep, stateAt, middleState, finalState, input, hash}

@@ -4,7 +4,7 @@ use mathlib.Core.Path.{_≡_}
 use mathlib.Core.List.{List, [], _∷_, _++_}
 use Prim.Native.Nat.{ℕ, _+_, _*_, _/_, _%_, _-_}
 use lib.Dec.{eqb}
-use lib.ListN.{length, take, replicate, set}
+use lib.ListN.{length, replicate, set}
 use Rattle.lists.specs.Lists.{choose, tab}
 use Rattle.words.specs.Words.{AllCanonical}
 use Rattle.field.specs.Field.{P, mul, root}
@@ -12,7 +12,6 @@ use Rattle.hash.specs.Hash.{hash, chain, tap}
 use Rattle.constraints.specs.Constraints.{verdict}
 use Rattle.constraints.specs.ReadOff.{readTaps}
 use Rattle.refusals.specs.declared.Refusal.the-variants.{Constraint}
-use Rattle.refusals.specs.declared.Checked.{Checked}
 use Rattle.refusals.specs.declared.Checked.the-variants.{Accepted, Refused}
 
 -- ---- the tables, prepared: M, its inverse, K

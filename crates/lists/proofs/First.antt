@@ -2,13 +2,10 @@
 -- Assumes nothing.
 use mathlib.Core.Path.{_≡_, refl, sym, ap, _∙_}
 use mathlib.Core.Bool.{Bool, true, false}
-use Prim.Native.Nat.{ℕ, zero, suc, _+_, _<_, _≤_}
+use Prim.Native.Nat.{ℕ, zero, suc, _<_, _≤_}
 use native.Mathlib.Nat.{le-of-suc-le-suc}
 use native.Mathlib.Omega.{arith}
 use Rattle.lists.specs.Lists.{choose, first}
-
-yes-no : (b : Bool) → b ≡ true → b ≡ false → ⊥
-yes-no b p q = let z : _≡_ {A = ℕ} 0 1 = cc in omega arith
 
 -- r is the first place below n at which the test says yes, or n where there is none
 pub record IsFirst (n : ℕ) (test : ℕ → Bool) (r : ℕ) : Type 0 where

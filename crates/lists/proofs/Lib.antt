@@ -1,3 +1,4 @@
+pub mod Bools
 pub mod Tab
 pub mod First
 pub mod Sum

@@ -1,13 +1,13 @@
 -- Lists by their cells, and lists that a loop fills from the front.
 -- Assumes nothing.
 use mathlib.Core.Path.{_≡_, refl, sym, ap, ap₂, _∙_}
-use mathlib.Core.List.{List, [], _∷_, _++_}
+use mathlib.Core.List.{List, [], _∷_, _++_, append-nil}
 use Prim.Native.Nat.{ℕ, zero, suc, _+_, _-_, _<_, _≤_}
-use native.Mathlib.Nat.{zero-add, suc-add, add-zero, add-suc, le-of-suc-le-suc}
+use native.Mathlib.Nat.{zero-add, suc-add, add-zero, le-of-suc-le-suc}
 use native.Mathlib.Numerals.{add-one}
 use native.Mathlib.Omega.{arith}
 use lib.ListN.{length, getD, take, drop, set, take-append-drop, length-append, length-drop, drop-of-length-le, List·getD-append}
-use lib.Seq.{drop-cons, set-append-seam, getD-append-add, ext-getD, getD-drop, getD-take, length-take-le}
+use lib.Seq.{drop-cons, append-snoc, set-append-seam, getD-append-add, ext-getD, getD-drop, getD-take, length-take-le}
 use Rattle.lists.specs.Lists.{tab, cell}
 
 pub length-tab : (n : ℕ) (f : ℕ → ℕ) → length (tab n f) ≡ n
@@ -66,21 +66,13 @@ filled-more f i v s l h e q =
     ∙ ap (λ k. set (tab i f ++ getD s i 0 ∷ drop (suc i) s) k v) (sym (length-tab i f))
     ∙ set-append-seam (tab i f) (getD s i 0) (drop (suc i) s) v
     ∙ ap (λ x. tab i f ++ x ∷ drop (suc i) s) e
-    ∙ joins (tab i f) (f i) (drop (suc i) s)
+    ∙ sym (append-snoc (tab i f) (f i) (drop (suc i) s))
     ∙ ap (λ x. x ++ drop (suc i) s) (sym (tab-suc i f))
     ∙ ap (λ k. tab k f ++ drop k s) (sym (add-one i))
-  where
-    joins : (xs : List ℕ) (y : ℕ) (ys : List ℕ) → xs ++ y ∷ ys ≡ (xs ++ (y ∷ [])) ++ ys
-    joins [] y ys = refl
-    joins (x ∷ xs) y ys = ap (λ l. x ∷ l) (joins xs y ys)
 
 pub filled-all : (n : ℕ) (f : ℕ → ℕ) (s : List ℕ) → length s ≡ n → filled n f s ≡ tab n f
 unfolding filled
 filled-all n f s h = ap (λ x. tab n f ++ x) (drop-of-length-le s {i = n} (omega arith)) ∙ append-nil (tab n f)
-  where
-    append-nil : (xs : List ℕ) → xs ++ [] ≡ xs
-    append-nil [] = refl
-    append-nil (x ∷ xs) = ap (λ l. x ∷ l) (append-nil xs)
 
 -- a cell that is not yet filled is as it was
 pub filled-after : (n : ℕ) (f : ℕ → ℕ) (s : List ℕ) (i : ℕ) → n ≤ i → cell (filled n f s) i ≡ cell s i

@@ -75,6 +75,7 @@ fn told(refusal: Refusal) -> Numbers
     }
 }
 
+// A number alone, and a number with its place.
 fn alone(number: usize) -> Numbers
     ensures { λ r. ⌜ (r .count ≡ 1) × (r .list ≡ number ∷ 0 ∷ 0 ∷ []) ⌝ }
 {

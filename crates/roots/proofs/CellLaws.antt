@@ -1,14 +1,13 @@
 -- Products and powers cell by cell: their cells, the words that stand for them, and the step of the recursion that halves the exponent.
 -- Assumes nothing.
-use mathlib.Core.Path.{_≡_, refl, sym, ap, ap₂, _∙_, subst}
+use mathlib.Core.Path.{_≡_, sym, ap, ap₂, _∙_, subst}
 use mathlib.Core.List.{List}
-use Prim.Native.Nat.{ℕ, _*_, _/_, _%_, _^_, _<_}
-use native.Mathlib.Nat.{mod-lt}
+use Prim.Native.Nat.{ℕ, _/_, _%_, _^_, _<_}
 use native.Mathlib.Omega.{arith}
 use lib.ListN.{length, replicate, getD-replicate}
 use Rattle.lists.specs.Lists.{cell, tab}
-use Rattle.lists.proofs.Tab.{length-tab, cell-tab, tab-ext, tab-unique}
-use Rattle.field.specs.Field.{P, Canonical, mul, power, third, root}
+use Rattle.lists.proofs.Tab.{length-tab, cell-tab, tab-ext}
+use Rattle.field.specs.Field.{mul, power, third, root}
 use Rattle.field.specs.Montgomery.{Short, element, timesWord, enterWord}
 use Rattle.field.proofs.Forms.{element-lt, times-element, times-short, enter-element, enter-short}
 use Rattle.field.proofs.Power.{times-one, times-even, times-odd, one-times}

@@ -47,14 +47,6 @@ module _ (t : List ℕ) (size : length t ≡ 540) where
     unfolding constant
     constant-canonical n h = part-canonical t (288 + 12 * n) 12 (omega arith) canonical
 
-pub cell-matrix : (t : List ℕ) (i : ℕ) → i < 144 → cell (matrixOf t) i ≡ cell t i
-unfolding matrixOf
-cell-matrix t i h = getD-take 144 t i 0 h
-
-pub cell-inverse : (t : List ℕ) (i : ℕ) → i < 144 → cell (inverseOf t) i ≡ cell t (144 + i)
-unfolding inverseOf
-cell-inverse t i h = cell-part t 144 144 i h
-
 pub cell-constant : (t : List ℕ) (n i : ℕ) → i < 12 → cell (constant t n) i ≡ cell t (288 + 12 * n + i)
 unfolding constant
 cell-constant t n i h = cell-part t (288 + 12 * n) 12 i h

@@ -4,11 +4,9 @@ use Prim.Native.Nat.{ℕ, _+_, _*_, _/_, _%_, _<_}
 use mathlib.Core.Path.{_≡_, refl, sym, ap, ap₂, _∙_}
 use mathlib.Core.Bool.{true, false}
 use mathlib.Core.List.{List}
-use native.Mathlib.Decide.{ℕ-discrete}
 use native.Mathlib.Omega.{arith}
 use borrow.Author.Tests.{eq-eqb, ne-eqb}
-use lib.ListN.{length, set, length-set}
-use lib.Seq.{getD-set-same, getD-set-other}
+use lib.ListN.{length}
 use Rattle.lists.specs.Lists.{cell, tab}
 use Rattle.lists.proofs.Tab.{cell-tab}
 use Rattle.lists.proofs.First.{first-none, found-at}
@@ -23,21 +21,6 @@ use Rattle.table.specs.Table.{matrixOf, inverseOf, unlike, firstUnlike, 
 -- ---- the product, column by column
 pub column-canonical : (n x : List ℕ) (k : ℕ) → length n ≡ 144 → AllCanonical n → k < 12 → x ≡ tab 12 (λ j. entry n j k) → CanonicalTo 12 x
 column-canonical n x k size h hk e i l = rw (ap (λ s. cell s i) e ∙ cell-tab 12 (λ j. entry n j k) i l) (h (12 * i + k) (omega arith))
-
--- the first t cells of s are those of f
-pub record CellsTo (t : ℕ) (f : ℕ → ℕ) (s : List ℕ) : Type 0 where
-  pub size : length s ≡ 144
-  pub same : (d : ℕ) → d < t → cell s d ≡ f d
-
-pub cells-at : (t u : ℕ) (f : ℕ → ℕ) (s : List ℕ) → t ≡ u → CellsTo t f s → CellsTo u f s
-cells-at t u f s e g = record { size = g .size; same = λ d h. g .same d (omega arith) }
-
-pub cells-more : (t x : ℕ) (f : ℕ → ℕ) (s : List ℕ) → t < 144 → CellsTo t f s → x ≡ f t → CellsTo (t + 1) f (set s t x)
-cells-more t x f s h g e = record { size = length-set s t x ∙ g .size; same = λ d l. go d l (ℕ-discrete d t) }
-  where
-    go : (d : ℕ) → d < t + 1 → Dec (d ≡ t) → cell (set s t x) d ≡ f d
-    go d l (yes q) = ap (cell (set s t x)) q ∙ getD-set-same s t x 0 (omega (arith, g .size)) ∙ e ∙ ap f (sym q)
-    go d l (no q) = getD-set-other s t d x 0 q ∙ g .same d (omega arith)
 
 -- the cells of m times n, in the order in which they are computed
 abbrev pub byColumns : List ℕ → List ℕ → ℕ → ℕ

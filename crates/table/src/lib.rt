@@ -42,6 +42,7 @@ fn product_columns(m: &[u64], n: &[u64]) -> [u64; 144]
     out
 }
 
+// The identity in row i and column k.
 fn identity(i: usize, k: usize) -> u64
     ensures { λ r. ⌜ r ≡ identity i k ⌝ }
 {
@@ -98,6 +99,7 @@ fn prepared_word(raw: &[u64], n: &[u64; 144], t: usize) -> u64
     if u < 144 { n[u] } else { raw[u] }
 }
 
+// The prepared table into the destination.
 fn write(raw: &[u64], n: &[u64; 144], destination: &mut [u64])
     requires { ⌜ (length (now raw) ≡ 396) × (length (now n) ≡ 144) × (length (now destination) ≡ 540) ⌝ }
     ensures { λ _. ⌜ now (destination .exit) ≡ prepared (now (raw .entry)) (now (n .entry)) ⌝ }

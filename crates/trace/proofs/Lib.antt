@@ -3,3 +3,4 @@ pub mod TraceCells
 pub mod WrittenRows
 pub mod WrittenBatches
 pub mod Answers
+pub mod Theorems

@@ -12,7 +12,7 @@ use Rattle.field.specs.Field.{P}
 use Rattle.words.specs.Words.{AllCanonical}
 use Rattle.hash.specs.Hash.{input, tap, outputAt, chain, finalState}
 use Rattle.hash.proofs.States.{IsState, state-cell, middleState-state, finalState-state}
-use Rattle.hash.proofs.Inputs.{IsTap, cell-tap, tap-is-tap, cell-input-left, cell-input-right, cell-input-zeros, input-state, output-tap, output-zero, output-suc}
+use Rattle.hash.proofs.Inputs.{IsTap, tap-is-tap, cell-input-left, cell-input-right, cell-input-zeros, input-state, output-tap, output-suc}
 use Rattle.trace.specs.Trace.{hashInput, traceRow, trace}
 use Rattle.trace.proofs.RowKinds.{RowKind, start, middle, end, row-kind, row-start, row-end, row-middle}
 
@@ -88,22 +88,3 @@ module _ (T w : List ℕ) (k : ℕ) (sized : length w ≡ 12 * k + 4) (canonical
 
       c : cell (trace T w k) (12 * (n / 12) + n % 12) ≡ cell (traceRow T w (n / 12)) (n % 12)
       c = cell-trace T w k (n / 12) (n % 12) (omega (arith, within)) (omega arith)
-
-  -- ---- w_0 and the tap of each batch's first hash can be read off row 0; those of the others only by going back from rows 11 and 21
-  pub first-tap-traced : (j : ℕ) → 1 ≤ k → j < 4 → cell (trace T w k) j ≡ cell w j
-  first-tap-traced j l q =
-      let e : j ≡ 12 * 0 + j = omega arith in
-      let f : 4 * 0 + j ≡ j = omega arith in
-      ap (cell (trace T w k)) e
-      ∙ cell-trace T w k 0 j (omega arith) (omega arith)
-      ∙ ap (λ s. cell s j) (row-start T w 0)
-      ∙ input-output 0 j (omega arith) q
-      ∙ ap (λ s. cell s j) (output-zero T w)
-      ∙ cell-tap w 0 j q
-      ∙ ap (cell w) f
-
-  pub start-tap-traced : (b j : ℕ) → b < k → j < 4 → cell (trace T w k) (12 * (32 * b) + (4 + j)) ≡ cell (tap w (3 * b + 1)) j
-  start-tap-traced b j l q =
-      cell-trace T w k (32 * b) (4 + j) (omega arith) (omega arith)
-      ∙ ap (λ s. cell s (4 + j)) (row-start T w b)
-      ∙ input-next-tap (3 * b) j (omega arith) q

@@ -4,7 +4,7 @@ use mathlib.Core.Path.{_≡_, sym, ap, ap₂, _∙_}
 use mathlib.Core.List.{List, [], _++_, append-assoc, append-nil}
 use Prim.Native.Nat.{ℕ, _+_, _*_, _-_, _/_, _%_, _≤_, _<_}
 use native.Mathlib.Omega.{arith}
-use lib.ListN.{length, take, drop, length-append, length-drop, drop-of-length-le, take-append-drop}
+use lib.ListN.{length, take, drop, length-append, drop-of-length-le, take-append-drop}
 use lib.Seq.{length-take-le, take-at, drop-append-add, drop-drop}
 use Rattle.lists.specs.Lists.{cell, tab}
 use Rattle.lists.proofs.Tab.{length-tab, tab-ext, tab-add, tab-cell}
@@ -60,10 +60,6 @@ module _ (row : ℕ → List ℕ) (a b : ℕ) (d : List ℕ) (p : a ≤ b) (l : 
   length-front : length front ≡ 12 * b
   unfolding front
   length-front = length-append (take (12 * a) d) _ ∙ omega (arith, length-take-le (12 * a) d (omega arith), length-tab (12 * (b - a)) (λ n. cell (row (a + n / 12)) (n % 12)))
-
-  pub length-rows : length (withRows row a b d) ≡ length d
-  unfolding withRows front
-  length-rows = length-append front (drop (12 * b) d) ∙ omega (arith, length-front, length-drop (12 * b) d)
 
   pub rows-join : (c : ℕ) → b ≤ c → withRows row b c (withRows row a b d) ≡ withRows row a c d
   unfolding withRows front

@@ -1,8 +1,7 @@
 -- The section 3.1 trace of a list of taps (document 01, "The trace"; Rescue STARK documentation 1.0, section 3.1).
 -- Assumes nothing.
-use mathlib.Core.Bool.{Bool}
 use mathlib.Core.List.{List}
-use Prim.Native.Nat.{ℕ, zero, suc, _+_, _*_, _-_, _/_, _%_}
+use Prim.Native.Nat.{ℕ, _+_, _*_, _-_, _/_, _%_}
 use lib.Dec.{eqb}
 use Rattle.lists.specs.Lists.{choose, cell, tab}
 use Rattle.hash.specs.Hash.{input, tap, outputAt, middleState, finalState}

@@ -1,4 +1,4 @@
--- A row of a batch of a lent trace.
+-- A row of a batch of a lent trace (document 01, "The trace").
 -- Assumes nothing.
 use mathlib.Core.List.{List}
 use Prim.Native.Nat.{ℕ, _+_, _*_, _^_, _≤_, _<_}

@@ -13,7 +13,7 @@ pub struct Batch<'a> {
     pub batch: BatchNumber,
 }
 
-// The work: row `within` of the batch.
+// Row `within` of the batch, from the trace itself: what the readers of a view call.
 pub fn row_at(trace: &[u64], batch: BatchNumber, within: usize) -> &[u64]
     requires { ⌜ LentRow (now trace) (batch .0) within ⌝ }
     ensures { λ r. ⌜ now r ≡ row (now (trace .entry)) (32 * batch .0 + within) ⌝ }
@@ -24,12 +24,14 @@ pub fn row_at(trace: &[u64], batch: BatchNumber, within: usize) -> &[u64]
     &trace[start..end]
 }
 
+// The view of one batch of the trace.
 pub fn view<'a>(trace: &'a [u64], batch: BatchNumber) -> Batch<'a>
     ensures { λ r. ⌜ (r .trace ≡ trace .entry) × (r .batch ≡ batch) ⌝ }
 {
     Batch { trace, batch }
 }
 
+// Row `within` of the batch that is viewed.
 pub fn row<'a>(b: Batch<'a>, within: usize) -> &'a [u64]
     requires { ⌜ LentRow (now (b .trace)) (b .batch .0) within ⌝ }
     ensures { λ r. ⌜ now r ≡ row (now (b .entry .trace)) (32 * b .entry .batch .0 + within) ⌝ }

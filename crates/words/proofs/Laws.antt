@@ -1,15 +1,14 @@
--- The first word that is not canonical: the scan for it, and that there is none exactly where all are canonical.
+-- The first word that is not canonical: the scan for it, and that there is none exactly where all are canonical. Canonical lists joined are canonical.
 -- Assumes nothing.
-use mathlib.Core.Path.{_≡_, sym, _∙_}
-use mathlib.Core.Bool.{true, false}
-use mathlib.Core.List.{List}
-use Prim.Native.Nat.{ℕ, _+_, _≤_, _<_}
+use mathlib.Core.Path.{_≡_, sym}
+use mathlib.Core.List.{List, [], _∷_, _++_}
+use Prim.Native.Nat.{ℕ, zero, suc, _≤_, _<_}
 use native.Mathlib.Omega.{arith}
 use borrow.Author.Tests.{le-leb, lt-leb, leb-false, leb-true}
 use lib.Dec.{leb}
 use lib.ListN.{length}
-use Rattle.lists.specs.Lists.{cell, first}
-use Rattle.lists.proofs.First.{is-first, first-none, none-first, found-at}
+use Rattle.lists.specs.Lists.{cell}
+use Rattle.lists.proofs.First.{is-first, first-none, found-at}
 use Rattle.field.specs.Field.{P, Canonical}
 use Rattle.words.specs.Words.{AllCanonical, firstBad}
 
@@ -38,3 +37,9 @@ all-good s h = sym (first-none (length s) (λ j. leb P (cell s j)) (λ j l. lt-l
 
 pub good-all : (s : List ℕ) → firstBad s ≡ length s → AllCanonical s
 good-all s e i h = good-before s i (omega arith)
+
+-- two lists of canonical words, one after the other
+pub append-canonical : (s t : List ℕ) → AllCanonical s → AllCanonical t → AllCanonical (s ++ t)
+append-canonical [] t a b i h = b i h
+append-canonical (x ∷ s) t a b zero h = a 0 (omega arith)
+append-canonical (x ∷ s) t a b (suc i) h = append-canonical s t (λ j l. a (suc j) (omega arith)) b i (omega arith)

@@ -1,6 +1,5 @@
 -- Words lent to a call (document 01, "What is turned back": a word that is not canonical, by its lowest index).
 -- Assumes nothing.
-use mathlib.Core.Bool.{Bool, not}
 use mathlib.Core.List.{List}
 use Prim.Native.Nat.{ℕ, _<_}
 use lib.Dec.{leb}

@@ -11,6 +11,10 @@ pub fn seeds(test: &str) -> impl Iterator<Item = u64> {
     let rounds = std::env::var("LEMONCOLUMN_ROUNDS").map_or(1, |rounds| {
         rounds.parse().expect("LEMONCOLUMN_ROUNDS is a number")
     });
+    assert!(
+        rounds > 0,
+        "LEMONCOLUMN_ROUNDS is 0: nothing would be tested"
+    );
     println!("{test}: seeds {SEED} to {}", SEED + rounds - 1);
     SEED..SEED + rounds
 }

@@ -1,8 +1,7 @@
 //! The program `clear` on thousands of inputs, whole and in pieces: the line it
 //! prints is the one the case was made for, and the second implementation's.
 //!
-//! The program is target/bin/clear, which `rt check clear` writes. While it is
-//! not there, `LEMONCOLUMN_SKIP_PROGRAM=1` passes over this test.
+//! The program is target/bin/clear, which `rt check clear` writes.
 
 use differential::seeds;
 use inputs::{clear_cases, ClearCase, Random};
@@ -15,15 +14,14 @@ use std::time::Duration;
 /// Programs running at a time.
 const WORKERS: usize = 2;
 
-fn program() -> Option<PathBuf> {
+fn program() -> PathBuf {
     let program = Path::new(env!("CARGO_MANIFEST_DIR")).join("../../target/bin/clear");
-    if program.is_file() {
-        return Some(program);
-    }
-    let skip = std::env::var_os("LEMONCOLUMN_SKIP_PROGRAM").is_some();
-    assert!(skip, "there is no {}", program.display());
-    println!("program: skipped");
-    None
+    assert!(
+        program.is_file(),
+        "there is no {}: write it by `rt check clear`",
+        program.display()
+    );
+    program
 }
 
 /// What the program prints for the input, written in these pieces. Between two
@@ -84,7 +82,7 @@ fn compare(program: &Path, seed: u64, number: usize, case: &ClearCase) {
 
 #[test]
 fn lines() {
-    let Some(program) = program() else { return };
+    let program = program();
     for seed in seeds("program") {
         let cases = clear_cases(seed, 3000);
         thread::scope(|scope| {
@@ -102,10 +100,10 @@ fn lines() {
     }
 }
 
-/// One byte at a time, at each of the lengths where the answer turns.
+/// In pieces of 97 bytes, and byte by byte where the table ends.
 #[test]
 fn bytes_one_by_one() {
-    let Some(program) = program() else { return };
+    let program = program();
     let cases = clear_cases(differential::SEED, 0);
     let accepted = cases.iter().find(|case| case.line == "accepted 1 372\n");
     let input = &accepted.expect("an accepted day").input;

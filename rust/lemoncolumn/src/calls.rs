@@ -1,7 +1,8 @@
 //! The functions of the proved library, as include/lemoncolumn.h declares them,
-//! for who wants to lend memory that is no slice. Each pointer is valid for the
-//! length after it, and what a call writes overlaps nothing else lent to it;
-//! nothing more is asked. [`crate::decode`] reads what they return.
+//! for memory that is lent as pointers and not as slices. Each pointer must be
+//! valid and aligned for the length after it, not null even where that is 0, and
+//! what a call writes must overlap nothing else lent to it; nothing more is
+//! asked. [`crate::decode`] reads what they return.
 
 extern "C" {
     pub fn lemoncolumn_prepare(

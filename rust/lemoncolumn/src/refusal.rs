@@ -46,6 +46,10 @@ pub enum Refusal {
 /// Reads the number that a call returns: the tests walked, 0 for a call that
 /// has none, or the refusal. Bits 0 to 5 are the refusal's number, bits 6 to 11
 /// the constraint, bits 12 to 35 the row, bits 36 to 63 the index or the tests.
+///
+/// # Panics
+///
+/// Where bits 0 to 5 are above 14, as in no number that a call returns.
 pub fn decode(code: u64) -> Result<u64, Refusal> {
     let constraint = code >> 6 & 0x3f;
     let row = code >> 12 & 0xff_ffff;

@@ -8,15 +8,6 @@ use second::{build, chain, check, clear, hash, pack, prepare, read_off, unpack, 
 
 const NO_CLAIM: [u64; 4] = [0; 4];
 
-fn failed_at(answer: Result<u64, Refusal>) -> (u64, u64) {
-    match answer {
-        Err(Refusal::Constraint {
-            row, constraint, ..
-        }) => (row, constraint),
-        other => panic!("not a failed constraint: {other:?}"),
-    }
-}
-
 fn zero_trace_with(cells: &[(usize, usize)]) -> Vec<u64> {
     let mut trace = vec![0; 384];
     for &(row, column) in cells {

@@ -7,15 +7,6 @@ use second::constraints::{tests, Test};
 use second::field::{mul, P};
 use second::{build, chain, check, hash, read_off, unpack, Refusal};
 
-fn failed_at(answer: Result<u64, Refusal>) -> (u64, u64) {
-    match answer {
-        Err(Refusal::Constraint {
-            row, constraint, ..
-        }) => (row, constraint),
-        other => panic!("not a failed constraint: {other:?}"),
-    }
-}
-
 /// S moves each cell one up at every step, twenty steps, so eight up; read
 /// transposed it would move them down, and the answer would be the four zeros.
 #[test]

@@ -11,6 +11,7 @@ use Rattle.elements.specs.Elements.{elementAt, elementsAt}
 use Rattle.refusals.specs.declared.Digested.the-variants.{Refused}
 use Rattle.board.specs.Board.{batchesIn, claimIn, tapsIn, IsBoard}
 use Rattle.board.proofs.Cases.{unpack-accepted, unpack-returns, unpack-refuses}
+use Rattle.board.proofs.Round.{after-claim}
 use borrow.Author.Needs.{needs}
 use Rattle.board.proofs.unpack.Statement.{statement}
 use Rattle.board.proofs.unpack.Tie as tie
@@ -61,9 +62,6 @@ read-all-requires : tie.Need-read-all-requires
 read-all-requires c κs =
     let b = board (c .before .before .before .before .before) in
     (omega (arith, b .0 .size, b .1), λ i h. rw (after-claim i) at (b .0 .elements (4 + i) (omega (arith, b .1)) .value))
-  where
-    after-claim : (i : ℕ) → 1 + 3 * (4 + i) ≡ 13 + 3 * i
-    after-claim i = omega arith
 
 same-length : tie.Need-same-length
 same-length c = search needs

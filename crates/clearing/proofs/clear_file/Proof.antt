@@ -11,8 +11,9 @@ use Rattle.refusals.specs.Refusals.{digestedKept}
 use Rattle.refusals.specs.declared.Digest.{Digest}
 use Rattle.refusals.specs.declared.Digested.the-variants.{Accepted}
 use Rattle.board.specs.Board.{tapsIn, unpackAnswer}
+use Rattle.board.proofs.Round.{board-canonical}
 use Rattle.clearing.specs.Clearing.{Taps}
-use Rattle.clearing.proofs.Stages.{length-part, part-again, part-within, length-again, claim-canonical, file-taps, file-board, file-cleared, file-refused}
+use Rattle.clearing.proofs.Stages.{length-part, part-again, part-within, length-again, file-taps, file-board, file-cleared, file-refused}
 use Rattle.clearing.proofs.clear_file.Statement.{statement}
 use Rattle.clearing.proofs.clear_file.Tie as tie
 
@@ -82,7 +83,7 @@ clear-taps-requires c κs =
     let d = c .before .before .claim .given .0 .0 in
     let q = c .before .before .claim .given .1 in
     let b = file-board (start u .args .table .now) (file u) (size u) (u .before .before .before .tap-words .ensures) (u .unpack .result) (answered u) d q in
-    (start u .pre .0, subst Taps (sym (taps-there u d q)) (file-taps (file u) (b .0) (start u .pre .1)), subst AllCanonical (b .1) (claim-canonical (file u) (b .0)))
+    (start u .pre .0, subst Taps (sym (taps-there u d q)) (file-taps (file u) (b .0) (start u .pre .1)), subst AllCanonical (b .1) (board-canonical (file u) (b .0) .0))
 
 enum-known-refusal : tie.Need-enum-known-refusal
 enum-known-refusal c = search needs

@@ -1,6 +1,6 @@
 -- `export::lemoncolumn_build` meets its contract.
 -- Assumes nothing.
-use mathlib.Core.Path.{sym, ap, _∙_}
+use mathlib.Core.Path.{_∙_}
 use borrow.Author.Needs.{needs}
 use Rattle.trace.specs.Answers.{buildLeaves}
 use Rattle.export.specs.Calls.{buildCall}

@@ -1,6 +1,6 @@
-use Prim.Native.Nat.{_/_, _%_}
 -- `inverse::start_word` meets its contract: the matrix on the left, the identity on the right.
 -- Assumes nothing.
+use Prim.Native.Nat.{_/_, _%_}
 use native.Mathlib.Omega.{arith}
 use Rattle.inverse.proofs.Inversion.{word-left, word-one, word-zero}
 use borrow.Author.Needs.{needs}

@@ -1,6 +1,6 @@
 -- `roots::roots` meets its contract: twelve ones times the cells raised to the exponent of the root.
 -- Assumes nothing.
-use mathlib.Core.Path.{_≡_, refl, sym, ap, _∙_, subst}
+use mathlib.Core.Path.{refl, sym, ap, _∙_, subst}
 use borrow.Author.Needs.{needs}
 use lib.ListN.{length, replicate}
 use Rattle.lists.specs.Lists.{cell}

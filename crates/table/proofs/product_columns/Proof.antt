@@ -1,17 +1,23 @@
 -- `table::product_columns` meets its contract: the cells passed are those of the product.
 -- Assumes nothing.
-use Prim.Native.Nat.{_+_, _*_, _-_, _≤_}
-use mathlib.Core.Path.{refl}
+use Prim.Native.Nat.{ℕ, _+_, _*_, _-_, _≤_}
+use mathlib.Core.Path.{_≡_, refl, ap, _∙_}
+use mathlib.Core.List.{List}
 use native.Mathlib.Omega.{arith}
-use Rattle.lists.proofs.Tab.{tab-unique}
-use Rattle.table.proofs.Tested.{column-canonical, CellsTo, cells-at, cells-more, byColumns, next-cell}
+use lib.ListN.{replicate}
+use Rattle.lists.proofs.Tab.{filled, filled-none, filled-more, filled-all}
+use Rattle.table.proofs.Tested.{column-canonical, byColumns, next-cell}
 use borrow.Author.Needs.{needs}
 use Rattle.table.proofs.product_columns.Statement.{statement}
 use Rattle.table.proofs.product_columns.Tie as tie
 
+-- the first t cells of the product, and zeros
+abbrev so-far : List ℕ → List ℕ → ℕ → List ℕ
+so-far m n t = filled t (byColumns m n) (replicate 144 0)
+
 abbrev Inv-loop2 : tie.InvT-loop2
 Inv-loop2 m n out₀ k x i₀ out i =
-    (i ≤ 12) × CellsTo (12 * k + i) (byColumns m n) out
+    (i ≤ 12) × (out ≡ so-far m n (12 * k + i))
 
 abbrev μ-loop2 : tie.MeasureT-loop2
 μ-loop2 m n out₀ k x i₀ out i =
@@ -19,7 +25,7 @@ abbrev μ-loop2 : tie.MeasureT-loop2
 
 abbrev Inv-loop : tie.InvT-loop
 Inv-loop m n out₀ k₀ out k =
-    (k ≤ 12) × CellsTo (12 * k) (byColumns m n) out
+    (k ≤ 12) × (out ≡ so-far m n (12 * k))
 
 abbrev μ-loop : tie.MeasureT-loop
 μ-loop m n out₀ k₀ out k =
@@ -27,7 +33,7 @@ abbrev μ-loop : tie.MeasureT-loop
 
 loop-holds : tie.Need-loop-holds Inv-loop2 μ-loop2 Inv-loop μ-loop
 loop-holds c =
-    (omega arith, record { size = refl; same = λ d h. absurd (omega arith) })
+    (omega arith, filled-none _ _)
 
 column-requires : tie.Need-column-requires Inv-loop2 μ-loop2 Inv-loop μ-loop
 column-requires c κs =
@@ -41,7 +47,9 @@ times-requires c κs =
 loop2-holds : tie.Need-loop2-holds Inv-loop2 μ-loop2 Inv-loop μ-loop
 loop2-holds c =
     let l = c .before .before .before .loop in
-    (omega arith, cells-at (12 * l .k) (12 * l .k + 0) _ (l .out) (omega arith) (l .inv .1))
+    let s = c .before .before .before .before .before .before .args in
+    let e : 12 * l .k ≡ 12 * l .k + 0 = omega arith in
+    (omega arith, l .inv .1 ∙ ap (so-far (s .m .now) (s .n .now)) e)
 
 mul-out : tie.Need-mul-out Inv-loop2 μ-loop2 Inv-loop μ-loop
 mul-out c = search needs
@@ -73,7 +81,8 @@ loop2-again c =
     let k = c .before .before .before .before .before .loop .k in
     let l = c .before .loop2 in
     let next = next-cell (s .m .now) (s .n .now) _ _ k (l .i) (omega arith) (c .before .before .before .column .ensures) (c .before .before .times .ensures .0) in
-    (omega arith, cells-at (12 * k + l .i + 1) (12 * k + (l .i + 1)) _ _ (omega arith) (cells-more _ _ _ _ (omega arith) (l .inv .1) next))
+    let e : 12 * k + l .i + 1 ≡ 12 * k + (l .i + 1) = omega arith in
+    (omega arith, filled-more _ _ _ _ _ (omega arith) next (l .inv .1) ∙ ap (so-far (s .m .now) (s .n .now)) e)
 
 add-k : tie.Need-add-k Inv-loop2 μ-loop2 Inv-loop μ-loop
 add-k c = search needs
@@ -85,12 +94,15 @@ loop-again : tie.Need-loop-again Inv-loop2 μ-loop2 Inv-loop μ-loop
 loop-again c =
     let k = c .before .before .before .before .before .loop .k in
     let l = c .before .loop2 in
-    (omega arith, cells-at (12 * k + l .i) (12 * (k + 1)) _ (l .out) (omega arith) (l .inv .1))
+    let s = c .before .before .before .before .before .before .before .before .args in
+    let e : 12 * k + l .i ≡ 12 * (k + 1) = omega arith in
+    (omega arith, l .inv .1 ∙ ap (so-far (s .m .now) (s .n .now)) e)
 
 returns : tie.Need-returns Inv-loop2 μ-loop2 Inv-loop μ-loop
 returns c =
     let l = c .before .loop in
-    tab-unique 144 (l .out) _ (l .inv .1 .size) (λ t h. l .inv .1 .same t (omega arith))
+    let e : 12 * l .k ≡ 144 = omega arith in
+    l .inv .1 ∙ rw e (filled-all 144 _ (replicate 144 0) refl)
 
 pub product-columns-spec : {M : Type 1} → statement M
 product-columns-spec =

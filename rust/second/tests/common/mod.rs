@@ -2,6 +2,7 @@
 #![allow(dead_code)] // each test file uses its own part
 
 use second::field::P;
+use second::Refusal;
 
 /// Z: M identity, K zero.
 pub fn z_raw() -> Vec<u64> {
@@ -44,6 +45,16 @@ pub fn a() -> Vec<u64> {
 
 pub fn s() -> Vec<u64> {
     prepared(&s_raw())
+}
+
+/// Row and constraint of refusal 11.
+pub fn failed_at(answer: Result<u64, Refusal>) -> (u64, u64) {
+    match answer {
+        Err(Refusal::Constraint {
+            row, constraint, ..
+        }) => (row, constraint),
+        other => panic!("not a failed constraint: {other:?}"),
+    }
 }
 
 /// splitmix64 from a fixed seed.
