@@ -93,7 +93,8 @@ while read -r edit need name theorems; do
     [ ! -e "$log" ] || grep -E "[/:]$name(/|:|\.antt)" "$log" | grep -q "\`$need\`" || wrong "$edit is not refused at $need of $name: see $log"
 done <"$work/edits"
 
-# ---- section 3: every file of definitions, with its lines; those to be believed rest on no helper, and nothing rests on proofs
+# ---- section 3: every file of definitions, with its lines; those to be believed rest on no helper; nothing rests on proofs, or gives a symbol of
+# the kit's library another meaning
 awk '/^## / { on = /^## 3/ } /^Helpers/ { kind = "helper" } on && /^\| `crates/ { split($0, part, / \| /); gsub(/[`| ]/, "", part[1]); print part[1], part[2], kind }' "$page" >"$work/listed"
 for file in crates/*/specs/*.antt; do
     case $file in */Lib.antt) continue ;; esac
@@ -107,10 +108,11 @@ while read -r file lines kind; do
     crate=${file#crates/}
     crate=${crate%%/*}
     while read -r other _ kind; do
-        [ "$kind" = helper ] || ! grep -qE "^use Rattle.$crate(·specs)?\.specs\.${module}[. ]" "$other" || wrong "$other rests on $file, which section 3 calls a helper"
+        [ "$kind" = helper ] || ! grep -qE "Rattle.$crate(·specs)?\.specs\.${module}[. ]" "$other" || wrong "$other rests on $file, which section 3 calls a helper"
     done <"$work/listed"
 done <"$work/listed"
-grep -nE '^(ghost )?use Rattle[^ ]*\.proofs\.' crates/*/src/*.rt crates/*/specs/*.antt >>"$work/wrong" || :
+grep -nF '.proofs.' crates/*/src/*.rt crates/*/specs/*.antt >>"$work/wrong" || :
+grep -nE '^[a-z ]*(_[^ ]*_|length|take|drop|getD|replicate|ones|eqb|leb|ltb|now) :' crates/*/specs/*.antt >>"$work/wrong" || :
 
 if [ -s "$work/wrong" ]; then
     cat "$work/wrong" >&2
