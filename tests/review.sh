@@ -27,9 +27,11 @@ find crates/*/src -name '*.rt' | sort | while read -r file; do
 done >"$work/functions"
 [ -s "$work/functions" ] || wrong "no public function was found"
 
-# ---- the table of section 6 beside them
-awk -F '\t' '
+# ---- the table of section 6 beside them. Entry points are document 01's operations, the table test, and whatever other languages link
+operations="table::test table::prepare hash::hash hash::chain trace::build checker::check readoff::read_off board::pack board::unpack clearing::clear"
+awk -F '\t' -v operations=" $operations " '
     function bad(text) { print "tests/review.sh: " name ": " text }
+    function apart(text) { text = " " text " "; gsub(/[() ]+/, " ", text); return text }
     FNR == NR { head[$1] = $2; next }
     /^\| `[a-z]+::/ {
         split($0, part, / \| /)
@@ -38,11 +40,12 @@ awk -F '\t' '
         if (!(name in head)) { bad("in the table, but there is no such public function"); next }
         if (row[name] > 1) bad("twice in the table")
         if (part[2] != "yes" && part[2] != "no") bad("neither entry point nor not")
+        if (part[2] == "no" && (index(operations, " " name " ") || head[name] ~ /pub extern/)) bad("an entry point that the table does not call one")
         if (part[2] == "yes" && head[name] ~ /requires/) bad("an entry point with a requires")
         promise = match(head[name], / ensures \{/) ? substr(head[name], RSTART) : ""
         n = split(part[3], word, "`")
         if (n < 3) bad("the table quotes nothing from its contract")
-        for (i = 2; i <= n; i += 2) if (!index(promise, word[i])) bad("its ensures does not say `" word[i] "`")
+        for (i = 2; i <= n; i += 2) if (!index(apart(promise), apart(word[i]))) bad("its ensures does not say `" word[i] "`")
     }
     END {
         for (name in head) {
