@@ -93,7 +93,7 @@ while read -r edit need name theorems; do
         grep -rqE "$declared$theorem :" crates/*/specs crates/*/proofs || wrong "section 4 names the theorem $theorem, which nothing declares"
     done
     log=target/must-fail/$edit/.log
-    [ ! -e "$log" ] || grep -E "[/:]$name(/|:|\.antt)" "$log" | grep -q "\`$need\`" || wrong "$edit is not refused at $need of $name: see $log"
+    [ ! -e "$log" ] || grep -E "[/:]$name(/|:|\.antt)" "$log" | grep -qE "(error:|does not close) .*\`$need\`(:|,|\$)" || wrong "$edit is not refused at $need of $name: see $log"
 done <"$work/edits"
 
 # ---- section 3: every file of definitions, with its lines; those to be believed rest on no helper; nothing rests on proofs, or gives a symbol of
