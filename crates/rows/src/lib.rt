@@ -6,7 +6,7 @@ ghost use Rattle.field.specs.Field.{Canonical};
 ghost use Rattle.words.specs.Words.{CanonicalTo};
 ghost use Rattle.table.specs.Table.{IsTable, constant};
 ghost use Rattle.constraints.specs.Constraints.{row as cells-of, within, round, entering, forward, back};
-ghost use Rattle.steps.specs.Steps.{forwardReady, backReady};
+ghost use Rattle.steps.specs.Steps.{forwardReady, backReady, columns, tested};
 ghost use Rattle.rows.specs.Lent.{HasRow};
 ghost use lib.ListN.{take};
 ghost use Rattle.hash.specs.Hash.{plus};
@@ -68,17 +68,16 @@ fn plus_entering(table: &[u64], s: [u64; 12]) -> [u64; 12]
     out
 }
 
-// Forward of the row: its cells cubed, times M, plus its round's second-step constant; at rows 10 and 20 K_0 is added too.
+// The columns of forward of the row that are tested: its cells cubed, times M, plus its round's second-step constant; at rows 10 and 20 K_0 is added too.
 pub fn forward(ready: &[u64], table: &[u64], trace: &[u64], row: RowNumber) -> [u64; 12]
     requires { ⌜ IsTable (now table) × (now ready ≡ forwardReady (now table)) × HasRow (now trace) (row .0) × (1 ≤ within (row .0)) ⌝ }
-    ensures { λ r. ⌜ r ≡ forward (now (table .entry)) (now (trace .entry)) (row .0) ⌝ }
+    ensures { λ r. ⌜ r ≡ columns (tested (row .0)) (forward (now (table .entry)) (now (trace .entry)) (row .0)) ⌝ }
 {
-    let next = steps::second_step(ready, table, round_of(row), cells(trace, row));
     if is_entering(row) {
-        plus_entering(table, next)
-    } else {
-        next
+        let next = steps::second_step(ready, table, round_of(row), cells(trace, row), 4);
+        return plus_entering(table, next);
     }
+    steps::second_step(ready, table, round_of(row), cells(trace, row), 12)
 }
 
 // Back of the row: its cells less its round's first-step constant, times the inverse of M, then cubed.

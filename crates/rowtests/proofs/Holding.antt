@@ -1,6 +1,7 @@
 -- Each constraint as the code tests it: the words it reads are those of the definition.
 -- Assumes nothing.
-use mathlib.Core.Path.{_≡_, ap, ap₂, _∙_, subst}
+use mathlib.Core.Path.{_≡_, refl, ap, ap₂, _∙_, subst}
+use mathlib.Core.Bool.{Bool, true, false}
 use mathlib.Core.Logic.{⊎-elim}
 use mathlib.Core.List.{List}
 use Prim.Native.Nat.{ℕ, _+_, _*_, _-_, _≤_, _<_}
@@ -8,12 +9,14 @@ use native.Mathlib.Omega.{arith}
 use borrow.Author.Tests.{le-leb, lt-leb}
 use lib.Dec.{eqb}
 use lib.ListN.{replicate}
-use Rattle.lists.specs.Lists.{cell}
+use Rattle.lists.specs.Lists.{choose, cell}
 use Rattle.field.specs.Field.{add}
 use Rattle.table.specs.Table.{constant}
-use Rattle.constraints.specs.Constraints.{within, row, forward, back, holds}
+use Rattle.constraints.specs.Constraints.{within, entering, row, forward, back, holds}
 use Rattle.constraints.proofs.Families.{Applies, zero-columns, new-zeros, starts, output-kept, goes-on, ends, joins, claims, applies-cases}
 use Rattle.rows.specs.Lent.{HasRow}
+use Rattle.steps.specs.Steps.{columns, tested}
+use Rattle.steps.proofs.Made.{cell-before}
 use Rattle.rowtests.specs.RowTests.{forwardOf, backAfter, InTrace, Tested}
 use Rattle.rowtests.proofs.SpanLaws.{entering-row}
 
@@ -24,15 +27,31 @@ record Placed (k i c : ℕ) : Type 0 where
   behind : 5 ≤ c → c ≤ 32 → within i ≤ 29
   ahead : 21 ≤ c → c ≤ 44 → (1 ≤ within i) × (within i ≤ 30)
   next : 33 ≤ c → c ≤ 48 → i < 32 * k → i + 1 < 32 * k
+  -- the column of constraints 21 to 44 is a tested one
+  kept : (j : ℕ) → c ≡ 21 + j → c ≤ 32 → (j < 12) × (j < tested i)
+  last : (j : ℕ) → c ≡ 33 + j → c ≤ 44 → (j < 12) × (j < tested i)
+
+four-tested : (i : ℕ) → 4 ≤ tested i
+four-tested i = go (entering i)
+  where
+    go : (b : Bool) → 4 ≤ choose b 4 12
+    go true = omega arith
+    go false = omega arith
+
+all-tested : (i : ℕ) → entering i ≡ false → tested i ≡ 12
+all-tested i e = rw e refl
+
+not-entering : (i : ℕ) → within i ≡ 30 → entering i ≡ false
+not-entering i e = rw e refl
 
 placed : (k i c : ℕ) → Applies k i c → Placed k i c
 placed k i c (zero-columns j l e r) = omega arith
 placed k i c (new-zeros j l e r) = ⊎-elim (λ h. omega arith) (λ h. omega arith) (entering-row i r)
 placed k i c (starts j l e r) = omega arith
-placed k i c (output-kept j l e r s) = omega arith
-placed k i c (goes-on j f l e r s n) = omega arith
-placed k i c (ends j l e r) = omega arith
-placed k i c (joins j l e r n) = record { low = omega arith; high = omega arith; behind = omega arith; ahead = omega arith; next = λ p q h. omega (arith, n) }
+placed k i c (output-kept j l e r s) = omega (arith, four-tested i)
+placed k i c (goes-on j f l e r s n) = omega (arith, all-tested i n)
+placed k i c (ends j l e r) = omega (arith, all-tested i (not-entering i r))
+placed k i c (joins j l e r n) = record { low = omega arith; high = omega arith; behind = omega arith; ahead = omega arith; next = λ p q h. omega (arith, n); kept = omega arith; last = omega arith }
 placed k i c (claims j l e r) = omega arith
 
 -- the row is there, and so is the next of its batch
@@ -55,7 +74,7 @@ module _ (T t : List ℕ) (i : ℕ) {w : ℕ} (e : w ≡ within i) where
   unfolding forwardOf
   no-forward-31 h = rw (le-leb 1 (within i) (omega arith), lt-leb (within i) 30 (subst (λ x. 30 < x) e h))
 
-  pub some-forward : 1 ≤ w → w ≤ 30 → {f : List ℕ} → f ≡ forward T t i → f ≡ forwardOf T t i
+  pub some-forward : 1 ≤ w → w ≤ 30 → {f : List ℕ} → f ≡ columns (tested i) (forward T t i) → f ≡ forwardOf T t i
   unfolding forwardOf
   some-forward p q f = rw (le-leb 1 (within i) (subst (λ x. 1 ≤ x) e p), le-leb (within i) 30 (subst (λ x. x ≤ 30) e q)) f
 
@@ -84,11 +103,12 @@ module _ {t : List ℕ} {i c : ℕ} (h : Tested t i c) where
       record { canonical = h .place .canonical; inside = omega (arith, h .place .size); small = omega (arith, h .place .few) }
 
 module _ (T t : List ℕ) {i c : ℕ} (h : Tested t i c) where
-  is-forward : {f : List ℕ} → f ≡ forwardOf T t i → 20 < c → c ≤ 44 → f ≡ forward T t i
+  is-forward : {f : List ℕ} → f ≡ forwardOf T t i → 20 < c → c ≤ 44 → (j : ℕ) → (j < 12) × (j < tested i) → cell f j ≡ cell (forward T t i) j
   unfolding forwardOf
-  is-forward e p q =
+  is-forward {f} e p q j l =
       let a = found h .ahead p q in
-      e ∙ rw (le-leb 1 (within i) (a .0), le-leb (within i) 30 (a .1))
+      let made : f ≡ columns (tested i) (forward T t i) = e ∙ rw (le-leb 1 (within i) (a .0), le-leb (within i) 30 (a .1)) refl in
+      ap (λ x. cell x j) made ∙ cell-before (tested i) (forward T t i) j (l .0) (l .1)
 
   is-back : {b : List ℕ} → b ≡ backAfter T t i → 4 < c → c ≤ 32 → b ≡ back T t (i + 1)
   unfolding backAfter
@@ -114,13 +134,13 @@ module _ (T t claim : List ℕ) {f b : List ℕ} {i c : ℕ} (h : Tested t i c) 
   unfolding holds
   holds-21 l q =
       rw (lt-leb c 4 (omega arith), lt-leb c 8 (omega arith), lt-leb c 20 l, le-leb c 32 q)
-      (ap₂ eqb (ap (λ x. cell x (c - 21)) (is-forward T t h at-forward l (omega arith))) (ap (λ x. cell x (c - 21)) (is-back T t h at-back (omega arith) q)))
+      (ap₂ eqb (is-forward T t h at-forward l (omega arith) (c - 21) (found h .kept (c - 21) (omega arith) q)) (ap (λ x. cell x (c - 21)) (is-back T t h at-back (omega arith) q)))
 
   pub holds-33 : 32 < c → c ≤ 44 → {x : ℕ} → x ≡ cell (row t (i + 1)) (c - 33) → eqb (cell f (c - 33)) x ≡ holds T t claim i c
   unfolding holds
   holds-33 l q e =
       rw (lt-leb c 4 (omega arith), lt-leb c 8 (omega arith), lt-leb c 20 (omega arith), lt-leb c 32 l, le-leb c 44 q)
-      (ap₂ eqb (ap (λ x. cell x (c - 33)) (is-forward T t h at-forward (omega arith) q)) e)
+      (ap₂ eqb (is-forward T t h at-forward (omega arith) q (c - 33) (found h .last (c - 33) (omega arith) q)) e)
 
   pub holds-45 : 44 < c → c ≤ 48 → {x y : ℕ} → x ≡ cell (row t i) (c - 45) → y ≡ cell (row t (i + 1)) (c - 45) → eqb x y ≡ holds T t claim i c
   unfolding holds

@@ -8,11 +8,12 @@ use lib.Dec.{leb, eqb}
 use lib.ListN.{length, replicate}
 use Rattle.lists.specs.Lists.{choose}
 use Rattle.words.specs.Words.{AllCanonical}
+use Rattle.steps.specs.Steps.{columns, tested}
 use Rattle.constraints.specs.Constraints.{within, between, entering, forward, back, applies}
 
--- forward of row i, at rows 1 to 30; no test asks for it elsewhere
+-- the tested columns of forward of row i, at rows 1 to 30; no test asks for it elsewhere
 unfoldable pub forwardOf : List ℕ → List ℕ → ℕ → List ℕ
-forwardOf T t i = choose (between 1 30 (within i)) (forward T t i) (replicate 12 0)
+forwardOf T t i = choose (between 1 30 (within i)) (columns (tested i) (forward T t i)) (replicate 12 0)
 
 -- back of row i + 1, at rows 0 to 29; no test asks for it elsewhere
 unfoldable pub backAfter : List ℕ → List ℕ → ℕ → List ℕ

@@ -2,11 +2,15 @@
 -- Assumes nothing.
 use mathlib.Core.Path.{_≡_, refl, sym, ap, ap₂, _∙_, subst}
 use mathlib.Core.List.{List}
-use Prim.Native.Nat.{ℕ, _+_, _*_, _%_, _<_}
+use Prim.Native.Nat.{ℕ, _+_, _*_, _%_, _≤_, _<_}
 use native.Mathlib.Nat.{mod-eq-of-lt, add-zero}
 use native.Mathlib.Omega.{arith}
-use Rattle.lists.specs.Lists.{cell, tab, sum}
-use Rattle.lists.proofs.Tab.{cell-tab, tab-ext}
+use native.Mathlib.Decide.{decLt}
+use borrow.Author.Tests.{lt-ltb, le-ltb}
+use lib.Dec.{ltb}
+use lib.ListN.{length, replicate, getD-replicate}
+use Rattle.lists.specs.Lists.{choose, cell, tab, sum}
+use Rattle.lists.proofs.Tab.{length-tab, cell-tab, tab-ext, tab-unique, filled, filled-before, filled-after, length-filled}
 use Rattle.field.specs.Field.{P, add, cube}
 use Rattle.field.specs.Montgomery.{element}
 use Rattle.field.proofs.Forms.{element-lt}
@@ -19,7 +23,7 @@ use Rattle.table.specs.Table.{matrixOf, inverseOf, constant}
 use Rattle.table.proofs.Parts.{cell-constant}
 use Rattle.hash.specs.Hash.{cubes, plus, mix, secondStep}
 use Rattle.constraints.specs.Constraints.{minus, backStep}
-use Rattle.steps.specs.Steps.{thinCube, forwardReady, backReady}
+use Rattle.steps.specs.Steps.{thinCube, forwardReady, backReady, columns}
 use Rattle.steps.proofs.Scales.{forward-cell, back-cell}
 
 pub forward-is : (T ready : List ℕ) → ready ≡ forwardReady T → IsReady ready
@@ -34,12 +38,35 @@ back-is T ready e = subst IsReady (sym e) (ready-is (inverseOf T) 57337457173049
 abbrev pub inner : List ℕ → List ℕ → ℕ → ℕ
 inner ready x i = element (sum 12 (λ j. cell ready (12 * i + j) * cell x j))
 
+-- ---- the first columns of a state
+pub cell-columns : (n : ℕ) (s : List ℕ) (j : ℕ) → j < 12 → cell (columns n s) j ≡ choose (ltb j n) (cell s j) 0
+unfolding columns
+cell-columns n s j h = cell-tab 12 (λ i. choose (ltb i n) (cell s i) 0) j h
+
+pub cell-before : (n : ℕ) (s : List ℕ) (j : ℕ) → j < 12 → j < n → cell (columns n s) j ≡ cell s j
+cell-before n s j h l = cell-columns n s j h ∙ rw (lt-ltb j n l) refl
+
+pub length-columns : (n : ℕ) (s : List ℕ) → length (columns n s) ≡ 12
+unfolding columns
+length-columns n s = length-tab 12 (λ j. choose (ltb j n) (cell s j) 0)
+
+-- a loop that stores the first n
+columns-filled : (n : ℕ) → n ≤ 12 → (f : ℕ → ℕ) → filled n f (replicate 12 0) ≡ columns n (tab 12 f)
+unfolding columns
+columns-filled n hn f = tab-unique 12 (filled n f (replicate 12 0)) (λ j. choose (ltb j n) (cell (tab 12 f) j) 0) (length-filled n f (replicate 12 0) hn) (λ j h. go j h (decLt j n))
+  where
+    go : (j : ℕ) → j < 12 → Dec (j < n) → cell (filled n f (replicate 12 0)) j ≡ choose (ltb j n) (cell (tab 12 f) j) 0
+    go j h (yes l) = filled-before n f (replicate 12 0) j l ∙ sym (cell-tab 12 f j h) ∙ rw (lt-ltb j n l) refl
+    go j h (no l) = filled-after n f (replicate 12 0) j (omega arith) ∙ getD-replicate 12 j 0 0 h ∙ rw (le-ltb j n (omega arith)) refl
+
 -- ---- the second step
-pub second-made : (T ready s cubed out : List ℕ) (round start : ℕ) → ready ≡ forwardReady T → cubed ≡ tab 12 (λ j. thinCube (cell s j)) → start ≡ 288 + 12 * (2 * round + 2)
-    → out ≡ tab 12 (λ i. add (inner ready cubed i) (cell T (start + i))) → out ≡ secondStep T round s
+pub second-made : (T ready s cubed out : List ℕ) (round start count : ℕ) → count ≤ 12 → ready ≡ forwardReady T → cubed ≡ tab 12 (λ j. thinCube (cell s j)) → start ≡ 288 + 12 * (2 * round + 2)
+    → out ≡ filled count (λ i. add (inner ready cubed i) (cell T (start + i))) (replicate 12 0) → out ≡ columns count (secondStep T round s)
 unfolding secondStep plus mix cubes forwardReady
-second-made T ready s cubed out round start er ec es e =
-    e ∙ tab-ext 12 (λ i. add (inner ready cubed i) (cell T (start + i))) (λ i. add (cell (mix T (cubes s)) i) (cell (constant T (2 * round + 2)) i)) (λ i h. ap₂ add (mixed i h) (ap (λ x. cell T (x + i)) es ∙ sym (cell-constant T (2 * round + 2) i h)))
+second-made T ready s cubed out round start count hc er ec es e =
+    e
+    ∙ columns-filled count hc (λ i. add (inner ready cubed i) (cell T (start + i)))
+    ∙ ap (columns count) (tab-ext 12 (λ i. add (inner ready cubed i) (cell T (start + i))) (λ i. add (cell (mix T (cubes s)) i) (cell (constant T (2 * round + 2)) i)) (λ i h. ap₂ add (mixed i h) (ap (λ x. cell T (x + i)) es ∙ sym (cell-constant T (2 * round + 2) i h))))
   where
     mixed : (i : ℕ) → i < 12 → inner ready cubed i ≡ cell (mix T (cubes s)) i
     mixed i h =

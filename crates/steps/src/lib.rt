@@ -1,7 +1,7 @@
 // The second step of a round, and the first step undone, over matrices made ready once for all rows (document 01, "The 52 constraints").
 // Cubes come out divided by 2^128, as two products in Montgomery's form leave them; the matrices' scales make up for that.
 ghost use mathlib.Core.Path.{_≡_};
-ghost use Prim.Native.Nat.{_<_};
+ghost use Prim.Native.Nat.{_<_, _≤_};
 ghost use Rattle.lists.specs.Lists.{cell, tab};
 ghost use Rattle.field.specs.Field.{Canonical};
 ghost use Rattle.field.specs.Montgomery.{Short};
@@ -9,7 +9,7 @@ ghost use Rattle.words.specs.Words.{CanonicalTo};
 ghost use Rattle.table.specs.Table.{IsTable, constant};
 ghost use Rattle.hash.specs.Hash.{secondStep};
 ghost use Rattle.constraints.specs.Constraints.{minus, backStep};
-ghost use Rattle.steps.specs.Steps.{thinCube, forwardReady, backReady};
+ghost use Rattle.steps.specs.Steps.{thinCube, forwardReady, backReady, columns};
 use field::Fp;
 use field::montgomery;
 
@@ -76,17 +76,23 @@ pub fn back_ready(table: &[u64]) -> [u64; 156]
     winograd::ready(&table[144..288], BACK)
 }
 
-// The second step of the round: the cells cubed, times M, plus K_(2 round + 2).
-pub fn second_step(ready: &[u64], table: &[u64], round: usize, s: [u64; 12]) -> [u64; 12]
-    requires { ⌜ IsTable (now table) × (now ready ≡ forwardReady (now table)) × (round < 10) × CanonicalTo 12 s ⌝ }
-    ensures { λ r. ⌜ r ≡ secondStep (now (table .entry)) round s ⌝ }
+// The first `count` columns of the second step of the round: the cells cubed, times M, plus K_(2 round + 2).
+pub fn second_step(
+    ready: &[u64],
+    table: &[u64],
+    round: usize,
+    s: [u64; 12],
+    count: usize,
+) -> [u64; 12]
+    requires { ⌜ IsTable (now table) × (now ready ≡ forwardReady (now table)) × (round < 10) × CanonicalTo 12 s × (count ≤ 12) ⌝ }
+    ensures { λ r. ⌜ r ≡ columns count (secondStep (now (table .entry)) round s) ⌝ }
 {
     let cubed = thin_cubes(s);
     let within = winograd::neighbours(&cubed);
     let start = CONSTANTS + 12 * (2 * round + 2);
     let mut out = [0u64; 12];
     let mut i: usize = 0;
-    while i < 12 {
+    while i < count {
         let mixed = winograd::cell_plus(ready, i, &cubed, within, table[start + i]);
         out[i] = sums::less_once(mixed, Fp::P);
         i += 1;

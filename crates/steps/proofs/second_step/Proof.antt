@@ -6,7 +6,7 @@ use native.Mathlib.Omega.{arith}
 use borrow.Author.Needs.{needs}
 use lib.ListN.{length, length-set, replicate}
 use Rattle.lists.specs.Lists.{cell}
-use Rattle.lists.proofs.Tab.{filled, filled-none, filled-more, filled-all, length-tab}
+use Rattle.lists.proofs.Tab.{filled, filled-none, filled-more, length-tab}
 use Rattle.field.specs.Field.{add}
 use Rattle.sums.proofs.Reduction.{made-canonical}
 use Rattle.steps.proofs.Made.{inner, forward-is, second-made}
@@ -14,10 +14,10 @@ use Rattle.steps.proofs.second_step.Statement.{statement}
 use Rattle.steps.proofs.second_step.Tie as tie
 
 abbrev Inv-loop : tie.InvT-loop
-Inv-loop ready table round cubed within start out₀ i₀ out i = (i ≤ 12) × (length out ≡ 12) × (out ≡ filled i (λ n. add (inner ready cubed n) (cell table (start + n))) out₀)
+Inv-loop ready table round count cubed within start out₀ i₀ out i = (i ≤ count) × (length out ≡ 12) × (out ≡ filled i (λ n. add (inner ready cubed n) (cell table (start + n))) out₀)
 
 abbrev μ-loop : tie.MeasureT-loop
-μ-loop ready table round cubed within start out₀ i₀ out i = 12 - i
+μ-loop ready table round count cubed within start out₀ i₀ out i = count - i
 
 thin-cubes-requires : tie.Need-thin-cubes-requires Inv-loop μ-loop
 thin-cubes-requires c κs = search needs
@@ -107,8 +107,9 @@ returns c =
     let l = c .before in
     let q = l .before .before .before in
     let a = q .before .before .before in
-    let e : l .loop .i ≡ 12 = omega arith in
-    second-made (a .args .table .now) (a .args .ready .now) (a .args .s) (q .thin-cubes .result) (l .loop .out) (a .args .round) _ (a .pre .1) (q .thin-cubes .ensures .0) refl (l .loop .inv .2 ∙ rw e (filled-all 12 _ (replicate 12 0) refl))
+    let e : l .loop .i ≡ a .args .count = omega arith in
+    let f : ℕ → ℕ = λ n. add (inner (a .args .ready .now) (q .thin-cubes .result) n) (cell (a .args .table .now) (288 + 12 * (2 * a .args .round + 2) + n)) in
+    second-made (a .args .table .now) (a .args .ready .now) (a .args .s) (q .thin-cubes .result) (l .loop .out) (a .args .round) _ (a .args .count) (a .pre .4) (a .pre .1) (q .thin-cubes .ensures .0) refl (l .loop .inv .2 ∙ ap (λ n. filled n f (replicate 12 0)) e)
 
 pub second-step-spec : {M : Type 1} → statement M
 second-step-spec =
