@@ -1,5 +1,5 @@
-//! The proved library's time beside that of the second implementation (a) and of
-//! the yardstick (b), as ratios of one run.
+//! The proved library's time beside that of the second implementation (a), of the
+//! yardstick (b), and of the yardstick that reduces late (c), as ratios of one run.
 //!
 //!     rt staticlib export && rt staticlib probes
 //!     cargo run --release --offline -p bench

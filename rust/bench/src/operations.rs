@@ -4,6 +4,7 @@ use crate::timing::{Table, Way};
 use inputs::tables::dense;
 use inputs::Random;
 use std::hint::black_box;
+use yardstick::{Yardstick, BOTH};
 
 const SEED: u64 = 20261115;
 
@@ -38,21 +39,23 @@ impl Day {
         day
     }
 
-    /// All three come to the same.
+    /// All come to the same.
     fn compare(&self) {
         let mut trace = vec![0; self.trace.len()];
         let second = second::build(&self.table, &self.taps, &mut trace);
         assert_eq!(second, Ok(self.output));
         assert!(trace == self.trace);
-        trace.fill(0);
-        let yardstick = yardstick::build(&self.table, &self.taps, &mut trace);
-        assert_eq!(yardstick, Ok(self.output));
-        assert!(trace == self.trace);
         let tests = 372 * self.k as u64;
         let check = lemoncolumn::check(&self.table, &self.trace, self.output);
         assert_eq!(check, Ok(tests));
-        let check = yardstick::check(&self.table, &self.trace, self.output);
-        assert_eq!(check, Ok(tests));
+        for yardstick in BOTH {
+            trace.fill(0);
+            let output = (yardstick.build)(&self.table, &self.taps, &mut trace);
+            assert_eq!(output, Ok(self.output));
+            assert!(trace == self.trace);
+            let check = (yardstick.check)(&self.table, &self.trace, self.output);
+            assert_eq!(check, Ok(tests));
+        }
     }
 
     fn name(&self, operation: &str) -> String {
@@ -100,54 +103,63 @@ fn prepare(table: &mut Table, day: &Day) {
 
 fn hash(table: &mut Table, day: &Day) {
     let words = std::array::from_fn(|i| day.taps[i]);
-    let ways = vec![
+    let mut ways = vec![
         Way::new(1, || {
             black_box(lemoncolumn::hash(black_box(&day.table), words)).expect("hashed");
         }),
         Way::new(1, || {
             black_box(second::hash(black_box(&day.table), words)).expect("hashed");
         }),
-        Way::new(1, || {
-            black_box(yardstick::hash(black_box(&day.table), words)).expect("hashed");
-        }),
     ];
+    for Yardstick { hash, .. } in BOTH {
+        ways.push(Way::new(1, move || {
+            black_box(hash(black_box(&day.table), words)).expect("hashed");
+        }));
+    }
     table.line("hash", Some(1.0), ways);
 }
 
 fn build(day: &Day) -> Vec<Way<'_>> {
     let room = || vec![0; day.trace.len()];
-    let (mut one, mut two, mut three) = (room(), room(), room());
-    vec![
+    let (mut one, mut two) = (room(), room());
+    let mut ways = vec![
         Way::new(1, move || {
             black_box(lemoncolumn::build(&day.table, &day.taps, &mut one)).expect("built");
         }),
         Way::new(1, move || {
             black_box(second::build(&day.table, &day.taps, &mut two)).expect("built");
         }),
-        Way::new(1, move || {
-            black_box(yardstick::build(&day.table, &day.taps, &mut three)).expect("built");
-        }),
-    ]
+    ];
+    for Yardstick { build, .. } in BOTH {
+        let mut three = room();
+        ways.push(Way::new(1, move || {
+            black_box(build(&day.table, &day.taps, &mut three)).expect("built");
+        }));
+    }
+    ways
 }
 
 fn check(day: &Day) -> Vec<Way<'_>> {
-    vec![
+    let mut ways = vec![
         Way::new(1, || {
             black_box(lemoncolumn::check(&day.table, &day.trace, day.output)).expect("accepted");
         }),
         Way::new(1, || {
             black_box(second::check(&day.table, &day.trace, day.output)).expect("accepted");
         }),
-        Way::new(1, || {
-            black_box(yardstick::check(&day.table, &day.trace, day.output)).expect("accepted");
-        }),
-    ]
+    ];
+    for Yardstick { check, .. } in BOTH {
+        ways.push(Way::new(1, move || {
+            black_box(check(&day.table, &day.trace, day.output)).expect("accepted");
+        }));
+    }
+    ways
 }
 
 fn read_off(day: &Day) -> Vec<Way<'_>> {
     let room = || vec![0; day.taps.len()];
-    let (mut one, mut two, mut three) = (room(), room(), room());
-    vec![
+    let (mut one, mut two) = (room(), room());
+    let mut ways = vec![
         Way::new(1, move || {
             let read = lemoncolumn::read_off(&day.table, &day.trace, day.output, &mut one);
             black_box(read).expect("read");
@@ -156,11 +168,15 @@ fn read_off(day: &Day) -> Vec<Way<'_>> {
             let read = second::read_off(&day.table, &day.trace, day.output, &mut two);
             black_box(read).expect("read");
         }),
-        Way::new(1, move || {
-            let read = yardstick::read_off(&day.table, &day.trace, day.output, &mut three);
+    ];
+    for Yardstick { read_off, .. } in BOTH {
+        let mut three = room();
+        ways.push(Way::new(1, move || {
+            let read = read_off(&day.table, &day.trace, day.output, &mut three);
             black_box(read).expect("read");
-        }),
-    ]
+        }));
+    }
+    ways
 }
 
 fn pack(day: &Day) -> Vec<Way<'_>> {

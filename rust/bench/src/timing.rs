@@ -89,12 +89,14 @@ pub fn times(ways: &mut [Way]) -> Vec<f64> {
 }
 
 /// A measured line: the proved library, the second implementation, and the
-/// yardstick where it has the operation, with the goal for the ratio to it.
+/// yardsticks where they have the operation, with the goal for the ratio to the
+/// first of them.
 struct Line {
     name: String,
     proved: f64,
     second: f64,
-    yardstick: Option<f64>,
+    each: Option<f64>,
+    late: Option<f64>,
     goal: Option<f64>,
 }
 
@@ -106,15 +108,16 @@ impl Table {
         Table(vec![])
     }
 
-    /// Measures the proved library, the second implementation and, third, the
-    /// yardstick; answers the proved library's time.
+    /// Measures the proved library, the second implementation and then the
+    /// yardsticks; answers the proved library's time.
     pub fn line(&mut self, name: &str, goal: Option<f64>, mut ways: Vec<Way>) -> f64 {
         let best = times(&mut ways);
         self.0.push(Line {
             name: name.to_string(),
             proved: best[0],
             second: best[1],
-            yardstick: best.get(2).copied(),
+            each: best.get(2).copied(),
+            late: best.get(3).copied(),
             goal,
         });
         best[0]
@@ -122,23 +125,24 @@ impl Table {
 
     pub fn print(&self) {
         println!(
-            "{:<34} {:>12} {:>8} {:>8} {:>6}",
-            "", "proved, ns", "of (a)", "of (b)", "goal"
+            "{:<34} {:>12} {:>8} {:>8} {:>6} {:>8}",
+            "", "proved, ns", "of (a)", "of (b)", "goal", "of (c)"
         );
         for line in &self.0 {
-            let of_b = line
-                .yardstick
-                .map_or(String::new(), |time| format!("{:.2}", line.proved / time));
+            let of = |time: Option<f64>| {
+                time.map_or(String::new(), |time| format!("{:.2}", line.proved / time))
+            };
             let goal = line.goal.map_or(String::new(), |goal| format!("{goal:.1}"));
-            let missed = matches!((line.goal, line.yardstick), (Some(goal), Some(time))
+            let missed = matches!((line.goal, line.each), (Some(goal), Some(time))
                 if line.proved > goal * time);
             println!(
-                "{:<34} {:>12.1} {:>8.2} {:>8} {:>6}{}",
+                "{:<34} {:>12.1} {:>8} {:>8} {:>6} {:>8}{}",
                 line.name,
                 line.proved,
-                line.proved / line.second,
-                of_b,
+                of(Some(line.second)),
+                of(line.each),
                 goal,
+                of(line.late),
                 if missed { "  missed" } else { "" }
             );
         }

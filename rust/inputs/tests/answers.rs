@@ -5,6 +5,7 @@
 use inputs::traces::with_faults;
 use inputs::*;
 use second::Refusal;
+use yardstick::BOTH;
 
 const SEED: u64 = 20261115;
 /// What a destination holds before the call.
@@ -64,7 +65,9 @@ fn hash() {
     for case in hash_cases(SEED, 400) {
         let answer = second::hash(&case.table, case.words);
         assert_eq!(answer.err(), case.refusal, "seed {SEED}: {}", case.name);
-        assert_eq!(yardstick::hash(&case.table, case.words), answer);
+        for yardstick in BOTH {
+            assert_eq!((yardstick.hash)(&case.table, case.words), answer);
+        }
         if let Ok(output) = answer {
             // The left input of the second hash is read off row 11 of a trace
             // that begins with this one: its back less K_0.
@@ -108,10 +111,12 @@ fn build() {
         let mut destination = vec![OLD; case.destination];
         let answer = second::build(&case.table, &case.taps, &mut destination);
         assert_eq!(answer.err(), case.refusal, "seed {SEED}: {}", case.name);
-        let mut other = vec![OLD; case.destination];
-        let built = yardstick::build(&case.table, &case.taps, &mut other);
-        assert_eq!(built, answer, "seed {SEED}: {}", case.name);
-        assert_eq!(other, destination, "seed {SEED}: {}", case.name);
+        for yardstick in BOTH {
+            let mut other = vec![OLD; case.destination];
+            let built = (yardstick.build)(&case.table, &case.taps, &mut other);
+            assert_eq!(built, answer, "seed {SEED}: {}", case.name);
+            assert_eq!(other, destination, "seed {SEED}: {}", case.name);
+        }
         match answer {
             Ok(output) => {
                 let expected = with_faults(&good(&case.table), &case.taps, &[]);
@@ -130,8 +135,10 @@ fn check() {
     for case in check_cases(SEED, 800) {
         let answer = second::check(&case.table, &case.trace, case.claim);
         assert_eq!(answer.err(), case.refusal, "seed {SEED}: {}", case.name);
-        let other = yardstick::check(&case.table, &case.trace, case.claim);
-        assert_eq!(other, answer, "seed {SEED}: {}", case.name);
+        for yardstick in BOTH {
+            let other = (yardstick.check)(&case.table, &case.trace, case.claim);
+            assert_eq!(other, answer, "seed {SEED}: {}", case.name);
+        }
         if let Ok(tests) = answer {
             assert_eq!(tests as usize, 372 * case.trace.len() / 384);
         }
@@ -147,10 +154,12 @@ fn read_off() {
         let mut destination = vec![OLD; case.destination];
         let answer = second::read_off(&case.table, &case.trace, case.claim, &mut destination);
         assert_eq!(answer.err(), case.refusal, "seed {SEED}: {}", case.name);
-        let mut other = vec![OLD; case.destination];
-        let read = yardstick::read_off(&case.table, &case.trace, case.claim, &mut other);
-        assert_eq!(read, answer, "seed {SEED}: {}", case.name);
-        assert_eq!(other, destination, "seed {SEED}: {}", case.name);
+        for yardstick in BOTH {
+            let mut other = vec![OLD; case.destination];
+            let read = (yardstick.read_off)(&case.table, &case.trace, case.claim, &mut other);
+            assert_eq!(read, answer, "seed {SEED}: {}", case.name);
+            assert_eq!(other, destination, "seed {SEED}: {}", case.name);
+        }
         let expected = match case.refusal {
             None => case.taps,
             Some(_) => vec![OLD; case.destination],

@@ -41,8 +41,10 @@ fn each_constraint_fails_alone() {
         assert_eq!(failing, expected, "seed {SEED}: {}", case.name);
         let answer = second::check(&case.table, &case.trace, case.claim);
         assert_eq!(answer.err(), case.refusal, "seed {SEED}: {}", case.name);
-        let other = yardstick::check(&case.table, &case.trace, case.claim);
-        assert_eq!(other, answer, "seed {SEED}: {}", case.name);
+        for yardstick in yardstick::BOTH {
+            let other = (yardstick.check)(&case.table, &case.trace, case.claim);
+            assert_eq!(other, answer, "seed {SEED}: {}", case.name);
+        }
         seen.insert((case.trace.len() / 384, constraint));
     }
     for constraint in 1..=52 {

@@ -5,7 +5,7 @@
 //! so they can be compared as they are.
 
 use crate::hash::permitted;
-use crate::montgomery::{canonical, cube, dot, short, thicken, thin, P};
+use crate::montgomery::{canonical, cube, dot, thicken, thin, P};
 use crate::table::{first_not_canonical, inverse, k, m, test, Cells, Matrix};
 use second::Refusal;
 
@@ -41,7 +41,11 @@ fn load(trace: &[u64], row: usize) -> &Cells {
 
 /// The first N columns of forward, thin.
 #[inline(always)]
-fn forward<const N: usize>(table: &Walked, cells: &Cells, round: usize) -> [u64; N] {
+fn forward<const LATE: bool, const N: usize>(
+    table: &Walked,
+    cells: &Cells,
+    round: usize,
+) -> [u64; N] {
     let mut cubed = *cells;
     for cell in cubed.iter_mut() {
         *cell = cube(*cell);
@@ -49,14 +53,14 @@ fn forward<const N: usize>(table: &Walked, cells: &Cells, round: usize) -> [u64;
     let k = &table.second[round];
     let mut answer = [0; N];
     for (i, cell) in answer.iter_mut().enumerate() {
-        *cell = canonical(short(dot(&table.m[i], &cubed, k[i])));
+        *cell = canonical(dot::<LATE>(&table.m[i], &cubed, k[i]));
     }
     answer
 }
 
 /// Back of a row, thin.
 #[inline(always)]
-fn back(table: &Walked, cells: &Cells, round: usize) -> Cells {
+fn back<const LATE: bool>(table: &Walked, cells: &Cells, round: usize) -> Cells {
     let k = &table.first[round];
     let mut start = *cells;
     for (j, cell) in start.iter_mut().enumerate() {
@@ -64,7 +68,7 @@ fn back(table: &Walked, cells: &Cells, round: usize) -> Cells {
     }
     let mut answer = [0; 12];
     for (i, cell) in answer.iter_mut().enumerate() {
-        *cell = canonical(cube(short(dot(&table.inverse[i], &start, 0))));
+        *cell = canonical(cube(dot::<LATE>(&table.inverse[i], &start, 0)));
     }
     answer
 }
@@ -76,11 +80,11 @@ fn sum(a: u64, b: u64) -> u64 {
 }
 
 /// The walk so far: how many tests have been passed.
-struct Walk {
+struct Walk<const LATE: bool> {
     passed: u64,
 }
 
-impl Walk {
+impl<const LATE: bool> Walk<LATE> {
     /// As many tests as there are columns, from `constraint` on.
     #[inline]
     fn equal(
@@ -107,7 +111,7 @@ impl Walk {
     fn first_row(&mut self, table: &Walked, trace: &[u64], row: usize) -> Result<(), Refusal> {
         let cells = load(trace, row);
         self.equal(row, 1, &cells[8..], &[0; 4])?;
-        let back = back(table, load(trace, row + 1), 0);
+        let back = back::<LATE>(table, load(trace, row + 1), 0);
         let start: Cells = std::array::from_fn(|j| sum(thin(cells[j]), table.zero[j]));
         self.equal(row, 9, &start, &back)
     }
@@ -116,9 +120,9 @@ impl Walk {
     /// enters here.
     #[inline]
     fn entry(&mut self, table: &Walked, trace: &[u64], row: usize) -> Result<[u64; 4], Refusal> {
-        let back = back(table, load(trace, row + 1), 0);
+        let back = back::<LATE>(table, load(trace, row + 1), 0);
         self.equal(row, 5, &back[8..], &table.zero[8..])?;
-        let output: [u64; 4] = forward(table, load(trace, row), 9);
+        let output: [u64; 4] = forward::<LATE, 4>(table, load(trace, row), 9);
         let left: [u64; 4] = std::array::from_fn(|j| sum(output[j], table.zero[j]));
         self.equal(row, 21, &left, &back[..4])?;
         let tap = std::array::from_fn(|j| thicken(back[4 + j] + P - table.zero[4 + j]));
@@ -139,12 +143,12 @@ impl Walk {
             if row % 10 == 0 {
                 tap(&self.entry(table, trace, at)?);
             } else {
-                let forward: Cells = forward(table, load(trace, at), (row - 1) % 10);
-                let back = back(table, load(trace, at + 1), row % 10);
+                let forward = forward::<LATE, 12>(table, load(trace, at), (row - 1) % 10);
+                let back = back::<LATE>(table, load(trace, at + 1), row % 10);
                 self.equal(at, 21, &forward, &back)?;
             }
         }
-        let forward: Cells = forward(table, load(trace, first + 30), 9);
+        let forward = forward::<LATE, 12>(table, load(trace, first + 30), 9);
         let last = load(trace, first + 31).map(thin);
         self.equal(first + 30, 33, &forward, &last)
     }
@@ -152,7 +156,7 @@ impl Walk {
 
 /// All tests in their order; `tap` is shown w_0, w_1, .. as they come by.
 #[inline]
-fn walk(
+fn walk<const LATE: bool>(
     table: &[u64],
     trace: &[u64],
     claim: &[u64],
@@ -160,7 +164,7 @@ fn walk(
 ) -> Result<u64, Refusal> {
     let table = Walked::convert(table);
     let rows = trace.len() / 12;
-    let mut walk = Walk { passed: 0 };
+    let mut walk = Walk::<LATE> { passed: 0 };
     tap(&trace[..4]);
     for first in (0..rows).step_by(32) {
         walk.first_row(&table, trace, first)?;
@@ -190,29 +194,33 @@ fn test_words(trace: &[u64], claim: &[u64]) -> Result<(), Refusal> {
 }
 
 /// Check: 1, 2, 4, 7, 9, 10, 11.
-pub fn check(table: &[u64], trace: &[u64], claim: [u64; 4]) -> Result<u64, Refusal> {
-    test(table)?;
+pub fn check<const LATE: bool>(
+    table: &[u64],
+    trace: &[u64],
+    claim: [u64; 4],
+) -> Result<u64, Refusal> {
+    test::<LATE>(table)?;
     permitted(trace.len(), 384).ok_or(Refusal::TraceLength)?;
     test_words(trace, &claim)?;
-    walk(table, trace, &claim, |_| {})
+    walk::<LATE>(table, trace, &claim, |_| {})
 }
 
 /// Read-off: 1, 2, 4, 7, 8, 9, 10, 11. The taps are kept aside until the last
 /// test has passed.
-pub fn read_off(
+pub fn read_off<const LATE: bool>(
     table: &[u64],
     trace: &[u64],
     claim: [u64; 4],
     destination: &mut [u64],
 ) -> Result<u64, Refusal> {
-    test(table)?;
+    test::<LATE>(table)?;
     let k = permitted(trace.len(), 384).ok_or(Refusal::TraceLength)?;
     if destination.len() != 12 * k + 4 {
         return Err(Refusal::DestinationLength);
     }
     test_words(trace, &claim)?;
     let mut taps = Vec::with_capacity(12 * k + 4);
-    let tests = walk(table, trace, &claim, |tap| taps.extend_from_slice(tap))?;
+    let tests = walk::<LATE>(table, trace, &claim, |tap| taps.extend_from_slice(tap))?;
     destination.copy_from_slice(&taps);
     Ok(tests)
 }

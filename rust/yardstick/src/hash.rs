@@ -6,7 +6,11 @@ use second::Refusal;
 
 /// Ten rounds on short cells; `see` is shown each middle state.
 #[inline]
-fn rounds(table: &Table, input: &Cells, mut see: impl FnMut(&Cells)) -> Cells {
+fn rounds<const LATE: bool>(
+    table: &Table<LATE>,
+    input: &Cells,
+    mut see: impl FnMut(&Cells),
+) -> Cells {
     let mut state: Cells = std::array::from_fn(|j| short(input[j] + table.k[0][j]));
     for round in 0..10 {
         for cell in state.iter_mut() {
@@ -23,12 +27,12 @@ fn rounds(table: &Table, input: &Cells, mut see: impl FnMut(&Cells)) -> Cells {
 }
 
 /// Hash: 1, 2, 4, 6.
-pub fn hash(table: &[u64], words: [u64; 8]) -> Result<[u64; 4], Refusal> {
-    test(table)?;
+pub fn hash<const LATE: bool>(table: &[u64], words: [u64; 8]) -> Result<[u64; 4], Refusal> {
+    test::<LATE>(table)?;
     if let Some(index) = first_not_canonical(&words) {
         return Err(Refusal::TapWord { index });
     }
-    let table = Table::convert(table);
+    let table = Table::<LATE>::convert(table);
     let mut input = [0; 12];
     for (cell, word) in input.iter_mut().zip(words) {
         *cell = from_word(word);
@@ -38,8 +42,12 @@ pub fn hash(table: &[u64], words: [u64; 8]) -> Result<[u64; 4], Refusal> {
 }
 
 /// Build: 1, 2, 4, 5, 8, 6.
-pub fn build(table: &[u64], taps: &[u64], destination: &mut [u64]) -> Result<[u64; 4], Refusal> {
-    test(table)?;
+pub fn build<const LATE: bool>(
+    table: &[u64],
+    taps: &[u64],
+    destination: &mut [u64],
+) -> Result<[u64; 4], Refusal> {
+    test::<LATE>(table)?;
     let k = permitted(taps.len().wrapping_sub(4), 12).ok_or(Refusal::TapLength)?;
     if destination.len() != 384 * k {
         return Err(Refusal::DestinationLength);
@@ -47,7 +55,7 @@ pub fn build(table: &[u64], taps: &[u64], destination: &mut [u64]) -> Result<[u6
     if let Some(index) = first_not_canonical(taps) {
         return Err(Refusal::TapWord { index });
     }
-    let table = Table::convert(table);
+    let table = Table::<LATE>::convert(table);
     let mut taps = taps.chunks_exact(4);
     let mut rows = destination.chunks_exact_mut(12);
     let mut write = |cells: &Cells| {

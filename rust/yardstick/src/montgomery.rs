@@ -93,19 +93,39 @@ pub fn root(x: u64) -> u64 {
     }
 }
 
-/// row times cells plus `plus`, below 6p. The row and `plus` are below p, the
-/// cells short: twelve products are below 24 p^2, which fits 127 bits and is
-/// hardly more than 3p once divided by R. The sum is reduced once.
+/// row times cells plus `plus`, short. The row and `plus` are below p, the cells
+/// short.
 #[inline(always)]
-pub fn dot(row: &[u64; 12], cells: &[u64; 12], plus: u64) -> u64 {
+pub fn dot<const LATE: bool>(row: &[u64; 12], cells: &[u64; 12], plus: u64) -> u64 {
+    if LATE {
+        late(row, cells, plus)
+    } else {
+        each(row, cells, plus)
+    }
+}
+
+/// Each product is reduced by itself.
+#[inline(always)]
+fn each(row: &[u64; 12], cells: &[u64; 12], plus: u64) -> u64 {
+    let mut sum = plus;
+    for j in 0..12 {
+        sum = less(sum + mul(row[j], cells[j]), 2 * P);
+    }
+    sum
+}
+
+/// The sum is reduced once: twelve products are below 24 p^2, which fits 127
+/// bits and is hardly more than 3p once divided by R.
+#[inline(always)]
+fn late(row: &[u64; 12], cells: &[u64; 12], plus: u64) -> u64 {
     let mut sum = (plus as u128) << 64;
     for j in 0..12 {
         sum += row[j] as u128 * cells[j] as u128;
     }
-    reduce(sum)
+    short(reduce(sum))
 }
 
-/// Brings an answer of `dot` below 2p.
+/// Brings a value below 8p under 2p.
 #[inline(always)]
 pub fn short(x: u64) -> u64 {
     less(less(x, 4 * P), 2 * P)

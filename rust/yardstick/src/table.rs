@@ -1,6 +1,6 @@
 //! The table test, and the table in Montgomery form.
 
-use crate::montgomery::{canonical, dot, from_word, reduce, short, P};
+use crate::montgomery::{canonical, dot, from_word, reduce, P};
 use second::Refusal;
 
 pub type Cells = [u64; 12];
@@ -8,7 +8,7 @@ pub type Matrix = [Cells; 12];
 
 /// 1, 2, 4. The products are of plain words, so each sum comes out divided by R
 /// and is compared with 1 / R or 0.
-pub fn test(words: &[u64]) -> Result<(), Refusal> {
+pub fn test<const LATE: bool>(words: &[u64]) -> Result<(), Refusal> {
     if words.len() != 540 {
         return Err(Refusal::TableLength);
     }
@@ -21,7 +21,7 @@ pub fn test(words: &[u64]) -> Result<(), Refusal> {
     for (i, row) in m.iter().enumerate() {
         for (j, column) in columns.iter().enumerate() {
             let expected = if i == j { one } else { 0 };
-            if canonical(short(dot(row, column, 0))) != expected {
+            if canonical(dot::<LATE>(row, column, 0)) != expected {
                 let cell = (12 * i + j) as u64;
                 return Err(Refusal::InverseCell { cell });
             }
@@ -66,14 +66,14 @@ pub fn inverse(words: &[u64]) -> Matrix {
 }
 
 /// The table as a hash needs it, in Montgomery form.
-pub struct Table {
+pub struct Table<const LATE: bool> {
     pub m: Matrix,
     pub k: [Cells; 21],
 }
 
-impl Table {
+impl<const LATE: bool> Table<LATE> {
     /// From an accepted table.
-    pub fn convert(words: &[u64]) -> Table {
+    pub fn convert(words: &[u64]) -> Self {
         Table {
             m: m(words),
             k: std::array::from_fn(|number| form(k(words, number))),
@@ -86,7 +86,7 @@ impl Table {
         let k = &self.k[number];
         let mut answer = [0; 12];
         for (i, cell) in answer.iter_mut().enumerate() {
-            *cell = short(dot(&self.m[i], cells, k[i]));
+            *cell = dot::<LATE>(&self.m[i], cells, k[i]);
         }
         answer
     }

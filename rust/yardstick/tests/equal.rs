@@ -2,6 +2,7 @@
 //! tests of `inputs`, case by case.
 
 use second::field::P;
+use yardstick::BOTH;
 
 /// splitmix64 from a fixed seed.
 struct Random(u64);
@@ -65,7 +66,9 @@ fn hash() {
         let words = std::array::from_fn(|_| random.canonical());
         let answer = second::hash(&table, words);
         assert!(answer.is_ok());
-        assert_eq!(yardstick::hash(&table, words), answer);
+        for yardstick in BOTH {
+            assert_eq!((yardstick.hash)(&table, words), answer);
+        }
     }
 }
 
@@ -82,7 +85,9 @@ fn large_sums() {
     for word in ENDS {
         let answer = second::hash(&table, [word; 8]);
         assert!(answer.is_ok());
-        assert_eq!(yardstick::hash(&table, [word; 8]), answer);
+        for yardstick in BOTH {
+            assert_eq!((yardstick.hash)(&table, [word; 8]), answer);
+        }
     }
 }
 
@@ -92,17 +97,20 @@ fn build_check_and_read_off() {
     for k in [1, 1, 2, 4, 8] {
         let table = random.table();
         let taps = random.canonicals(12 * k + 4);
-        let (mut trace, mut other) = (vec![7; 384 * k], vec![8; 384 * k]);
+        let mut trace = vec![7; 384 * k];
         let answer = second::build(&table, &taps, &mut trace);
-        assert_eq!(yardstick::build(&table, &taps, &mut other), answer);
-        assert_eq!(other, trace);
         let claim = answer.expect("builds");
         let tests = Ok(372 * k as u64);
-        assert_eq!(yardstick::check(&table, &trace, claim), tests);
-        let mut read = vec![7; 12 * k + 4];
-        let answer = yardstick::read_off(&table, &trace, claim, &mut read);
-        assert_eq!(answer, tests);
-        assert_eq!(read, taps);
+        for yardstick in BOTH {
+            let mut other = vec![8; 384 * k];
+            assert_eq!((yardstick.build)(&table, &taps, &mut other), answer);
+            assert_eq!(other, trace);
+            assert_eq!((yardstick.check)(&table, &trace, claim), tests);
+            let mut read = vec![7; 12 * k + 4];
+            let answer = (yardstick.read_off)(&table, &trace, claim, &mut read);
+            assert_eq!(answer, tests);
+            assert_eq!(read, taps);
+        }
     }
 }
 
@@ -119,11 +127,13 @@ fn altered_traces() {
         trace[cell] = random.word() % P;
         let answer = second::check(&table, &trace, claim);
         assert!(answer.is_err(), "{cell}");
-        assert_eq!(yardstick::check(&table, &trace, claim), answer);
-        let mut read = vec![7; 28];
-        let other = yardstick::read_off(&table, &trace, claim, &mut read);
-        assert_eq!(other, answer);
-        assert_eq!(read, [7; 28]);
+        for yardstick in BOTH {
+            assert_eq!((yardstick.check)(&table, &trace, claim), answer);
+            let mut read = vec![7; 28];
+            let other = (yardstick.read_off)(&table, &trace, claim, &mut read);
+            assert_eq!(other, answer);
+            assert_eq!(read, [7; 28]);
+        }
         trace[cell] = honest;
     }
     for cell in 0..4 {
@@ -131,6 +141,8 @@ fn altered_traces() {
         claim[cell] = random.word() % P;
         let answer = second::check(&table, &trace, claim);
         assert!(answer.is_err(), "{cell}");
-        assert_eq!(yardstick::check(&table, &trace, claim), answer);
+        for yardstick in BOTH {
+            assert_eq!((yardstick.check)(&table, &trace, claim), answer);
+        }
     }
 }
