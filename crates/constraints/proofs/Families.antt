@@ -2,7 +2,7 @@
 -- Assumes nothing.
 use mathlib.Core.Path.{_≡_}
 use mathlib.Core.Bool.{true, false, _&&_, not, or-true}
-use mathlib.Core.Logic.{_⊎_, ⊎-elim}
+use mathlib.Core.Logic.{⊎-elim}
 use Prim.Native.Nat.{ℕ, _+_, _*_, _-_, _≤_, _<_}
 use native.Mathlib.Omega.{arith}
 use borrow.Author.Tests.{le-leb, leb-true, eq-eqb, ne-eqb, eqb-true, eqb-false, not-true}
@@ -27,7 +27,7 @@ range a b c e =
     let s = and-both (leb a c) (leb c b) e in
     (leb-true a c (s .0), leb-true c b (s .1))
 
-in-range : (a b c : ℕ) → a ≤ c → c ≤ b → between a b c ≡ true
+pub in-range : (a b c : ℕ) → a ≤ c → c ≤ b → between a b c ≡ true
 in-range a b c p q = and-intro (leb a c) (leb c b) (le-leb a c p) (le-leb c b q)
 
 module _ (k i c : ℕ) where

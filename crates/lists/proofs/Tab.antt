@@ -1,4 +1,4 @@
--- Lists by their cells, and lists that a loop fills from the front.
+-- Lists by their cells, lists that a loop fills from the front, and parts of a list.
 -- Assumes nothing.
 use mathlib.Core.Path.{_≡_, refl, sym, ap, ap₂, _∙_}
 use mathlib.Core.List.{List, [], _∷_, _++_, append-nil}
@@ -97,3 +97,10 @@ filled-before n f s i h = List·getD-append (tab n f) (drop n s) 0 i (omega (ari
 pub filled-same : (n : ℕ) (f : ℕ → ℕ) (s : List ℕ) → n ≤ length s → ((i : ℕ) → i < n → cell s i ≡ f i) → s ≡ filled n f s
 unfolding filled
 filled-same n f s h e = sym (take-append-drop n s) ∙ ap (λ l. l ++ drop n s) (tab-unique n (take n s) f (length-take-le n s h) (λ i l. getD-take n s i 0 l ∙ e i l))
+
+-- ---- a part of a list
+pub length-part : (l : List ℕ) (base size : ℕ) → base + size ≤ length l → length (take size (drop base l)) ≡ size
+length-part l base size h = length-take-le size (drop base l) (omega (arith, length-drop base l))
+
+pub cell-part : (l : List ℕ) (base size i : ℕ) → i < size → cell (take size (drop base l)) i ≡ cell l (base + i)
+cell-part l base size i h = getD-take size (drop base l) i 0 h ∙ getD-drop base l i 0

@@ -98,29 +98,30 @@ module _ (m : ℕ) (big : 1 < m) where
       low : (u : ℕ) → u < m ^ suc n → u / m < m ^ n
       low u g = div-lt-iff-lt-mul {k = m} {x = u} {y = m ^ n} (omega arith) .1 (subst (λ y. u < y) (pow-suc m n) g)
 
-  -- a matrix that takes no two columns to the same one takes some column to each
-  module _ (n : ℕ) (b : ℕ → ℕ → ℕ) (inj : (x y : ℕ → ℕ) → Same m n (row n b x) (row n b y) → Same m n x y) where
-    image : ℕ → ℕ → ℕ
+  -- what a matrix makes of the column of digits of v
+  module _ (n : ℕ) (b : ℕ → ℕ → ℕ) where
+    abbrev pub image : ℕ → ℕ → ℕ
     image v i = row n b (dec m v) i % m
 
-    image-lt : (v i : ℕ) → i < n → image v i < m
-    unfolding image
+    pub image-lt : (v i : ℕ) → i < n → image v i < m
     image-lt v i l = mod-lt (row n b (dec m v) i) (omega arith)
 
+  -- a matrix that takes no two columns to the same one takes some column to each
+  module _ (n : ℕ) (b : ℕ → ℕ → ℕ) (inj : (x y : ℕ → ℕ) → Same m n (row n b x) (row n b y) → Same m n x y) where
     F : ℕ → ℕ
-    F v = enc m n (image v)
+    F v = enc m n (image n b v)
 
     F-inj : Inj (m ^ n) F
-    unfolding F image
+    unfolding F
     F-inj v w hv hw e = dec-inj n v w hv hw (λ i l. sym (mod-eq-of-lt (dec-lt v i)) ∙ inj (dec m v) (dec m w) same i l ∙ mod-eq-of-lt (dec-lt w i))
       where
         same : Same m n (row n b (dec m v)) (row n b (dec m w))
-        same i l = sym (dec-enc n (image v) (image-lt v) i l) ∙ ap (λ u. dec m u i) e ∙ dec-enc n (image w) (image-lt w) i l
+        same i l = sym (dec-enc n (image n b v) (image-lt n b v) i l) ∙ ap (λ u. dec m u i) e ∙ dec-enc n (image n b w) (image-lt n b w) i l
 
     -- its cells are below m
     pub reach : (y : ℕ → ℕ) → (x : ℕ → ℕ) × Same m n (row n b x) y × ((i : ℕ) → x i < m)
-    unfolding F image
-    reach y = (dec m (r .0), (λ i l. sym (dec-enc n (image (r .0)) (image-lt (r .0)) i l) ∙ ap (λ u. dec m u i) (r .2) ∙ dec-enc n (λ k. y k % m) (λ k g. mod-lt (y k) (omega arith)) i l), dec-lt (r .0))
+    unfolding F
+    reach y = (dec m (r .0), (λ i l. sym (dec-enc n (image n b (r .0)) (image-lt n b (r .0)) i l) ∙ ap (λ u. dec m u i) (r .2) ∙ dec-enc n (λ k. y k % m) (λ k g. mod-lt (y k) (omega arith)) i l), dec-lt (r .0))
       where
         r : (v : ℕ) × (v < m ^ n) × (F v ≡ enc m n (λ k. y k % m))
-        r = onto (m ^ n) F (λ v h. enc-lt n (image v) (image-lt v)) F-inj (enc m n (λ k. y k % m)) (enc-lt n (λ k. y k % m) (λ k g. mod-lt (y k) (omega arith)))
+        r = onto (m ^ n) F (λ v h. enc-lt n (image n b v) (image-lt n b v)) F-inj (enc m n (λ k. y k % m)) (enc-lt n (λ k. y k % m) (λ k g. mod-lt (y k) (omega arith)))

@@ -3,7 +3,7 @@
 -- Assumes nothing.
 use Prim.Native.Nat.{ℕ, zero, suc, _+_, _*_, _-_, _%_, _^_, _<_}
 use mathlib.Core.Path.{_≡_, refl, sym, ap, _∙_}
-use mathlib.Core.Logic.{_⊎_, inl, inr, ⊎-elim, _↔_}
+use mathlib.Core.Logic.{_⊎_, inl, inr, ⊎-elim}
 use native.Mathlib.Nat.{le-suc-iff, mod-lt, mod-eq-of-lt, mod-mod}
 use native.Mathlib.Decide.{ℕ-discrete}
 use native.Mathlib.Omega.{arith}
@@ -12,7 +12,7 @@ use Rattle.field.proofs.Power.{big}
 use Rattle.matrix.specs.Matrix.{timesColumn, product, identity, Inverse, Kernel}
 use Rattle.matrix.proofs.Modulo.{minus, unminus}
 use Rattle.matrix.proofs.Linear.{row, rows, Same, row-row, row-pick, identity-row, row-add, row-same, same-row, row-zero, identity-lt, times-ext, product-column, undo}
-use Rattle.matrix.proofs.Columns.{find, enc, dec, enc-zeros, dec-zero, enc-lt, dec-lt, dec-enc, dec-inj, reach}
+use Rattle.matrix.proofs.Columns.{find, enc, dec, enc-zeros, dec-zero, enc-lt, dec-lt, dec-enc, dec-inj, image, image-lt, reach}
 
 some : (x : ℕ → ℕ) (l : ℕ) → ((i : ℕ) × (i < l) × (0 < x i)) ⊎ ((i : ℕ) → i < l → x i ≡ 0)
 some x zero = inr (λ i h. absurd (omega arith))
@@ -71,21 +71,15 @@ module _ (m : ℕ) (big : 1 < m) (n : ℕ) where
   either : (a : ℕ → ℕ → ℕ) → ((r : ℕ → ℕ → ℕ) × Inv a r × ((i k : ℕ) → r i k < m)) ⊎ Ker a
   either a = ⊎-elim (λ (f : (u : ℕ) × (u < m ^ n - 1) × (G u ≡ 0)). inr (kernel f)) (λ (f : (u : ℕ) → u < m ^ n - 1 → G u ≡ 0 → ⊥). inl (inverse f)) (find G 0 (m ^ n - 1))
     where
-      image : ℕ → ℕ → ℕ
-      image v i = row n a (dec m v) i % m
-
       -- over the numbers of the non-zero columns
       G : ℕ → ℕ
-      G u = enc m n (image (suc u))
-
-      image-lt : (v i : ℕ) → i < n → image v i < m
-      image-lt v i l = mod-lt (row n a (dec m v) i) (omega arith)
+      G u = enc m n (image m big n a (suc u))
 
       kernel : (u : ℕ) × (u < m ^ n - 1) × (G u ≡ 0) → Ker a
       kernel (u, l, e) = ⊎-elim (λ (w : (i : ℕ) × (i < n) × (0 < dec m (suc u) i)). k w) (λ (w : (i : ℕ) → i < n → dec m (suc u) i ≡ 0). absurd (bad w)) (some (dec m (suc u)) n)
         where
           k : (i : ℕ) × (i < n) × (0 < dec m (suc u) i) → Ker a
-          k (i, b, p) = record { column = dec m (suc u); low = dec-lt m big (suc u); place = i; within = b; nonzero = p; zeros = λ j g. sym (dec-enc m big n (image (suc u)) (image-lt (suc u)) j g) ∙ ap (λ v. dec m v j) e ∙ dec-zero m j }
+          k (i, b, p) = record { column = dec m (suc u); low = dec-lt m big (suc u); place = i; within = b; nonzero = p; zeros = λ j g. sym (dec-enc m big n (image m big n a (suc u)) (image-lt m big n a (suc u)) j g) ∙ ap (λ v. dec m v j) e ∙ dec-zero m j }
 
           bad : ((i : ℕ) → i < n → dec m (suc u) i ≡ 0) → ⊥
           bad w = omega (arith, dec-inj m big n (suc u) 0 (omega arith) (omega arith) (λ j g. w j g ∙ sym (dec-zero m j)))
@@ -111,12 +105,12 @@ module _ (m : ℕ) (big : 1 < m) (n : ℕ) where
 
               go : (v : ℕ) → enc m n z ≡ v → Same m n x y
               go zero e i l = unminus m big (x i) (y i) (sym (dec-enc m big n z z-lt i l) ∙ ap (λ v. dec m v i) e ∙ dec-zero m i)
-              go (suc u) e i l = absurd (f u small (enc-zeros m n (image (suc u)) zeros))
+              go (suc u) e i l = absurd (f u small (enc-zeros m n (image m big n a (suc u)) zeros))
                 where
                   small : u < m ^ n - 1
                   small = omega (arith, e, enc-lt m big n z z-lt)
 
-                  zeros : (k : ℕ) → k < n → image (suc u) k ≡ 0
+                  zeros : (k : ℕ) → k < n → image m big n a (suc u) k ≡ 0
                   zeros k g = row-same m n a (dec m (suc u)) z (λ j b. ap (λ v. v % m) (ap (λ v. dec m v j) (sym e) ∙ dec-enc m big n z z-lt j b)) k ∙ az k g
 
 -- ---- the definitions
@@ -159,10 +153,6 @@ not-both n a b h k = omega (arith, zero-there, k .nonzero)
     zero-there =
         sym (undo n b a (other-side n a b h) (k .column) (k .place) (k .within) (k .canonical (k .place) (k .within)))
         ∙ row-zero P n b (timesColumn n a (k .column)) (λ i l. ap (λ v. v % P) (k .zeros i l)) (k .place)
-
--- no inverse exactly where some non-zero column goes to all zeros (document 01, "The table")
-pub no-inverse : (n : ℕ) (a : ℕ → ℕ → ℕ) → ((b : ℕ → ℕ → ℕ) → Inverse n a b → ⊥) ↔ Kernel n a
-no-inverse n a = ((λ none. ⊎-elim (λ (r : Invertible n a). absurd (none (r .matrix) (r .right))) (λ (k : Kernel n a). k) (dichotomy n a)), λ k b h. not-both n a b h k)
 
 -- there is only one inverse of canonical cells
 pub inverse-unique : (n : ℕ) (a b c : ℕ → ℕ → ℕ) → Inverse n a b → Inverse n a c → ((i k : ℕ) → i < n → k < n → Canonical (b i k)) → ((i k : ℕ) → i < n → k < n → Canonical (c i k)) → (i k : ℕ) → i < n → k < n → b i k ≡ c i k

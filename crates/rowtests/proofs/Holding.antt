@@ -14,11 +14,11 @@ use Rattle.field.specs.Field.{add}
 use Rattle.table.specs.Table.{constant}
 use Rattle.constraints.specs.Constraints.{within, entering, row, forward, back, holds}
 use Rattle.constraints.proofs.Families.{Applies, zero-columns, new-zeros, starts, output-kept, goes-on, ends, joins, claims, applies-cases}
+use Rattle.constraints.proofs.ForwardBack.{enters-at}
 use Rattle.rows.specs.Lent.{HasRow}
 use Rattle.steps.specs.Steps.{columns, tested}
 use Rattle.steps.proofs.Made.{cell-before}
 use Rattle.rowtests.specs.RowTests.{forwardOf, backAfter, InTrace, Tested}
-use Rattle.rowtests.proofs.SpanLaws.{entering-row}
 
 -- ---- where a constraint is tested
 record Placed (k i c : ℕ) : Type 0 where
@@ -46,7 +46,7 @@ not-entering i e = rw e refl
 
 placed : (k i c : ℕ) → Applies k i c → Placed k i c
 placed k i c (zero-columns j l e r) = omega arith
-placed k i c (new-zeros j l e r) = ⊎-elim (λ h. omega arith) (λ h. omega arith) (entering-row i r)
+placed k i c (new-zeros j l e r) = ⊎-elim (λ h. omega arith) (λ h. omega arith) (enters-at i r)
 placed k i c (starts j l e r) = omega arith
 placed k i c (output-kept j l e r s) = omega (arith, four-tested i)
 placed k i c (goes-on j f l e r s n) = omega (arith, all-tested i n)

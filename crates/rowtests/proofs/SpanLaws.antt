@@ -1,8 +1,8 @@
 -- The lowest and the highest constraint of a row: no constraint below the one or above the other applies there.
 -- Assumes nothing.
 use mathlib.Core.Path.{_≡_, refl, sym, _∙_, subst, subst₂}
-use mathlib.Core.Bool.{Bool, true, false, _||_}
-use mathlib.Core.Logic.{_⊎_, inl, inr, ⊎-elim}
+use mathlib.Core.Bool.{Bool, true, false}
+use mathlib.Core.Logic.{inl, inr, ⊎-elim}
 use Prim.Native.Nat.{ℕ, _≤_, _<_}
 use native.Mathlib.Nat.{mod-lt}
 use native.Mathlib.Omega.{arith}
@@ -11,6 +11,7 @@ use lib.Dec.{leb, eqb}
 use Rattle.lists.specs.Lists.{choose}
 use Rattle.constraints.specs.Constraints.{within, entering, applies}
 use Rattle.constraints.proofs.Families.{Applies, zero-columns, new-zeros, starts, output-kept, goes-on, ends, joins, claims, applies-cases}
+use Rattle.constraints.proofs.ForwardBack.{enters-at, enters-not-at}
 use Rattle.rowtests.specs.RowTests.{lowest, highest}
 
 -- whatever k is, no constraint below low or above high applies at row i
@@ -31,23 +32,12 @@ record Room (w low high : ℕ) : Type 0 where
   at-30 : w ≡ 30 → (low ≤ 33) × (44 ≤ high)
   at-31 : w ≡ 31 → (low ≤ 45) × (52 ≤ high)
 
-pub entering-row : (i : ℕ) → entering i ≡ true → (within i ≡ 10) ⊎ (within i ≡ 20)
-entering-row i = go (eqb (within i) 10) refl
-  where
-    go : (b : Bool) → eqb (within i) 10 ≡ b → (b || eqb (within i) 20) ≡ true → (within i ≡ 10) ⊎ (within i ≡ 20)
-    go true e h = inl (eqb-true _ _ e)
-    go false e h = inr (eqb-true _ _ h)
-
 not-entering : (i : ℕ) → entering i ≡ false → (within i ≡ 10 → ⊥) × (within i ≡ 20 → ⊥)
-not-entering i = go (eqb (within i) 10) refl
-  where
-    go : (b : Bool) → eqb (within i) 10 ≡ b → (b || eqb (within i) 20) ≡ false → (within i ≡ 10 → ⊥) × (within i ≡ 20 → ⊥)
-    go true e h = absurd (let z : _≡_ {A = ℕ} 0 1 = cc in omega arith)
-    go false e h = (eqb-false _ _ e, eqb-false _ _ h)
+not-entering i e = (λ z. enters-not-at i e (inl z), λ z. enters-not-at i e (inr z))
 
 within-span : (k i c low high : ℕ) → Room (within i) low high → Applies k i c → (low ≤ c) × (c ≤ high)
 within-span k i c low high room (zero-columns j l e r) = omega (arith, room .at-0 r)
-within-span k i c low high room (new-zeros j l e r) = ⊎-elim (λ h. omega (arith, room .at-10 h)) (λ h. omega (arith, room .at-20 h)) (entering-row i r)
+within-span k i c low high room (new-zeros j l e r) = ⊎-elim (λ h. omega (arith, room .at-10 h)) (λ h. omega (arith, room .at-20 h)) (enters-at i r)
 within-span k i c low high room (starts j l e r) = omega (arith, room .at-0 r)
 within-span k i c low high room (output-kept j l e r s) = omega (arith, room .middle r s)
 within-span k i c low high room (goes-on j f l e r s n) =
@@ -92,7 +82,7 @@ row-spans i = at-zero (eqb (within i) 0) refl
     at-middle false q a b d = at-last (eqb (within i) 30) refl (leb-false _ _ q)
 
     at-entering : (e : Bool) → entering i ≡ e → (within i ≡ 0 → ⊥) → Chosen false e (leb (within i) 29) (eqb (within i) 30)
-    at-entering true q a = ⊎-elim (λ w. spans i 5 24 (omega arith) (omega arith) (omega arith) (omega arith)) (λ w. spans i 5 24 (omega arith) (omega arith) (omega arith) (omega arith)) (entering-row i q)
+    at-entering true q a = ⊎-elim (λ w. spans i 5 24 (omega arith) (omega arith) (omega arith) (omega arith)) (λ w. spans i 5 24 (omega arith) (omega arith) (omega arith) (omega arith)) (enters-at i q)
     at-entering false q a =
         let n = not-entering i q in
         at-middle (leb (within i) 29) refl a (n .0) (n .1)

@@ -17,7 +17,7 @@ use Rattle.field.proofs.Forms.{element-lt}
 use Rattle.matrix.specs.Matrix.{entry, timesColumn, times}
 use Rattle.matrix.proofs.Linear.{times-ext}
 use Rattle.matrix.proofs.States.{cell-times}
-use Rattle.winograd.specs.Winograd.{scaled, IsReady}
+use Rattle.winograd.specs.Winograd.{IsReady}
 use Rattle.winograd.proofs.ReadyWords.{cell-ready, ready-is}
 use Rattle.table.specs.Table.{matrixOf, inverseOf, constant}
 use Rattle.table.proofs.Parts.{cell-constant}

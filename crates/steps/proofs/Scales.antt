@@ -1,11 +1,11 @@
 -- The scales make up for cubes divided by 2^128.
 -- Assumes nothing.
-use Prim.Native.Nat.{ℕ, _+_, _*_, _%_, _^_, _<_}
-use mathlib.Core.Path.{_≡_, refl, sym, ap, ap₂, _∙_, subst}
+use Prim.Native.Nat.{ℕ, _+_, _*_, _%_, _<_}
+use mathlib.Core.Path.{_≡_, refl, sym, ap, ap₂, _∙_}
 use mathlib.Core.List.{List}
 use native.Mathlib.Nat.{mul-one, mod-mod}
 use native.Mathlib.Omega.{arith}
-use Rattle.lists.specs.Lists.{cell, sum}
+use Rattle.lists.specs.Lists.{sum}
 use Rattle.lists.proofs.Sum.{sum-mul-r}
 use Rattle.field.specs.Field.{P, cube}
 use Rattle.field.specs.Montgomery.{element}

@@ -1,21 +1,14 @@
--- The parts of a list, and of a prepared table: their lengths, cells and canonical words.
+-- The parts of a prepared table: their lengths, cells and canonical words.
 -- Assumes nothing.
 use Prim.Native.Nat.{ℕ, _+_, _*_, _≤_, _<_}
-use mathlib.Core.Path.{_≡_, _∙_}
+use mathlib.Core.Path.{_≡_}
 use mathlib.Core.List.{List}
 use native.Mathlib.Omega.{arith}
-use lib.ListN.{length, take, drop, length-drop}
-use lib.Seq.{length-take-le, getD-take, getD-drop}
+use lib.ListN.{length, take, drop}
 use Rattle.lists.specs.Lists.{cell}
+use Rattle.lists.proofs.Tab.{length-part, cell-part}
 use Rattle.words.specs.Words.{AllCanonical}
 use Rattle.table.specs.Table.{matrixOf, inverseOf, constant}
-
--- ---- any part
-pub length-part : (t : List ℕ) (base size : ℕ) → base + size ≤ length t → length (take size (drop base t)) ≡ size
-length-part t base size h = length-take-le size (drop base t) (omega (arith, length-drop base t))
-
-pub cell-part : (t : List ℕ) (base size i : ℕ) → i < size → cell (take size (drop base t)) i ≡ cell t (base + i)
-cell-part t base size i h = getD-take size (drop base t) i 0 h ∙ getD-drop base t i 0
 
 pub part-canonical : (t : List ℕ) (base size : ℕ) → base + size ≤ length t → AllCanonical t → AllCanonical (take size (drop base t))
 part-canonical t base size h c i l = rw (cell-part t base size i (omega (arith, length-part t base size h))) (c (base + i) (omega (arith, length-part t base size h)))

@@ -1,9 +1,9 @@
 -- Winograd's inner product: the products of the crosswise sums are the inner product and the products of neighbours.
 -- Assumes nothing.
 use Prim.Native.Nat.{ℕ, zero, suc, _+_, _*_, _-_, _%_, _^_, _<_, _≤_}
-use mathlib.Core.Path.{_≡_, refl, sym, ap, _∙_, subst}
+use mathlib.Core.Path.{_≡_, refl, sym, ap, _∙_}
 use native.Mathlib.Numerals.{add-one}
-use native.Mathlib.Nat.{zero-add, mul-one, mod-mod, add-mul-mod-self-left, mul-le-mul, mul-le-mul-right, le-trans, lt-of-le-of-lt, lt-of-mul-lt-mul-right}
+use native.Mathlib.Nat.{zero-add, mul-one, mod-mod, add-mul-mod-self-left, mul-le-mul, mul-le-mul-right, le-trans, lt-of-mul-lt-mul-right}
 use native.Mathlib.Omega.{arith}
 use lib.Dec.{lit<}
 use Rattle.lists.specs.Lists.{sum}

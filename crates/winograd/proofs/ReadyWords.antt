@@ -2,25 +2,16 @@
 -- Assumes nothing.
 use mathlib.Core.Path.{_≡_, refl, sym, ap, _∙_, subst}
 use mathlib.Core.List.{List}
-use Prim.Native.Nat.{ℕ, _+_, _*_, _-_, _≤_, _<_}
+use Prim.Native.Nat.{ℕ, _+_, _*_, _-_, _<_}
 use native.Mathlib.Omega.{arith}
 use borrow.Author.Tests.{lt-ltb, le-ltb}
 use lib.Dec.{ltb}
-use lib.ListN.{length, take, drop, length-drop}
-use lib.Seq.{length-take-le, getD-take, getD-drop}
 use Rattle.lists.specs.Lists.{choose, cell}
 use Rattle.lists.proofs.Tab.{length-tab, cell-tab}
 use Rattle.field.specs.Field.{P}
 use Rattle.field.proofs.Forms.{element-lt}
 use Rattle.winograd.specs.Winograd.{neighbours, scaled, ready, IsReady}
 use Rattle.winograd.proofs.Pairs.{neighbours-ext}
-
--- ---- twelve words of a list
-pub length-part : (l : List ℕ) (at : ℕ) → at + 12 ≤ length l → length (take (at + 12 - at) (drop at l)) ≡ 12
-length-part l at h = length-take-le (at + 12 - at) (drop at l) (omega (arith, length-drop at l)) ∙ omega arith
-
-pub cell-part : (l : List ℕ) (at i : ℕ) → i < 12 → cell (take (at + 12 - at) (drop at l)) i ≡ cell l (at + i)
-cell-part l at i h = getD-take (at + 12 - at) (drop at l) i 0 (omega arith) ∙ getD-drop at l i 0
 
 -- word t of m made ready
 abbrev pub word : List ℕ → ℕ → ℕ → ℕ

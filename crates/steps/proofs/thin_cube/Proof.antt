@@ -1,10 +1,9 @@
 -- `steps::thin_cube` meets its contract.
 -- Assumes nothing.
-use mathlib.Core.Path.{_≡_, ap, _∙_}
-use Prim.Native.Nat.{_*_, _%_}
+use mathlib.Core.Path.{ap, _∙_}
+use Prim.Native.Nat.{_%_}
 use borrow.Author.Needs.{needs}
 use Rattle.field.specs.Field.{P}
-use Rattle.field.specs.Montgomery.{element}
 use Rattle.field.proofs.Forms.{times-divided}
 use Rattle.sums.proofs.Reduction.{made-canonical}
 use Rattle.steps.specs.Steps.{thinCube}

@@ -4,10 +4,11 @@ use mathlib.Core.Path.{_≡_, refl, sym, _∙_}
 use native.Mathlib.Omega.{arith}
 use borrow.Author.Tests.{not-true, not-false}
 use lib.ListN.{length}
+use Rattle.lists.proofs.Tab.{length-part}
 use Rattle.words.proofs.Laws.{good-all}
 use Rattle.refusals.specs.declared.Answer.the-variants.{Accepted}
 use Rattle.table.specs.Table.{rawTest, RawInverse, refuses}
-use Rattle.table.proofs.Parts.{length-part, part-canonical}
+use Rattle.table.proofs.Parts.{part-canonical}
 use Rattle.table.proofs.Prepared.{wrong-length, wrong-room, wrong-word, raw-accepted, without, inverted, written}
 use borrow.Author.Needs.{needs}
 use Rattle.table.proofs.prepare.Statement.{statement}

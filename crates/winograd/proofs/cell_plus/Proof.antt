@@ -1,11 +1,9 @@
 -- `winograd::cell_plus` meets its contract: the sum passed is that of the crosswise products, over what is taken off.
 -- Assumes nothing.
 use mathlib.Core.Path.{_≡_, sym, ap, _∙_}
-use Prim.Native.Nat.{ℕ, _+_, _*_, _-_, _%_, _^_, _≤_, _<_}
+use Prim.Native.Nat.{ℕ, _+_, _*_, _-_, _^_, _≤_, _<_}
 use native.Mathlib.Numerals.{add-one}
-use native.Mathlib.Nat.{add-zero}
 use native.Mathlib.Omega.{arith}
-use borrow.Author.Needs.{needs}
 use Rattle.lists.specs.Lists.{cell, sum as total}
 use Rattle.lists.proofs.Sum.{sum-zero, sum-suc}
 use Rattle.field.specs.Field.{P, Canonical}

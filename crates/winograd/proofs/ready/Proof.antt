@@ -1,17 +1,16 @@
 -- `winograd::ready` meets its contract: the scaled words are read back for their neighbours, and what was stored stays.
 -- Assumes nothing.
-use mathlib.Core.Path.{_≡_, refl, sym, ap, _∙_, subst}
-use mathlib.Core.List.{List}
+use mathlib.Core.Path.{_≡_, sym, ap, _∙_, subst}
 use Prim.Native.Nat.{ℕ, _+_, _*_, _-_, _≤_, _<_}
 use native.Mathlib.Omega.{arith}
 use borrow.Author.Needs.{needs}
 use lib.ListN.{length, length-set}
 use Rattle.lists.specs.Lists.{cell}
-use Rattle.lists.proofs.Tab.{filled, filled-same, filled-more, filled-before, filled-all}
+use Rattle.lists.proofs.Tab.{filled, filled-same, filled-more, filled-before, filled-all, length-part, cell-part}
 use Rattle.field.specs.Field.{P}
 use Rattle.winograd.specs.Winograd.{neighbours, scaled, ready as made-ready}
-use Rattle.winograd.proofs.Pairs.{neighbours-ext, neighbours-lt}
-use Rattle.winograd.proofs.ReadyWords.{length-part, cell-part, word, word-scaled, word-end, scaled-lt}
+use Rattle.winograd.proofs.Pairs.{neighbours-ext}
+use Rattle.winograd.proofs.ReadyWords.{word, word-scaled, word-end, scaled-lt}
 use Rattle.winograd.proofs.ready.Statement.{statement}
 use Rattle.winograd.proofs.ready.Tie as tie
 
@@ -64,7 +63,7 @@ neighbours-requires c κs =
     let l = c .before .before .before in
     let a = l .before .before .before in
     let at = 12 * l .loop .i in
-    (length-part (l .loop .out) at (omega (arith, l .loop .inv .1)), λ j h. subst (λ x. x < P) (sym (cell-part (l .loop .out) at j h ∙ row l (omega arith) j h)) (scaled-lt (a .args .m .now) (a .args .by) (at + j)))
+    (length-part (l .loop .out) at (at + 12 - at) (omega (arith, l .loop .inv .1)) ∙ omega arith, λ j h. subst (λ x. x < P) (sym (cell-part (l .loop .out) at (at + 12 - at) j (omega arith) ∙ row l (omega arith) j h)) (scaled-lt (a .args .m .now) (a .args .by) (at + j)))
 
 sub-out : tie.Need-sub-out Inv-loop μ-loop
 sub-out c = omega (arith, c .neighbours .ensures .1)
@@ -92,7 +91,7 @@ loop-again c =
     let f = word (a .args .m .now) (a .args .by) in
     let old = l .before .scale .result in
     let v : 2 * P - c .neighbours .result ≡ f (144 + i) =
-    ap (λ x. 2 * P - x) (c .neighbours .ensures .0 ∙ neighbours-ext _ (λ j. scaled (a .args .m .now) (a .args .by) (12 * i + j)) (λ j h. cell-part (l .loop .out) (12 * i) j h ∙ row l (omega arith) j h))
+    ap (λ x. 2 * P - x) (c .neighbours .ensures .0 ∙ neighbours-ext _ (λ j. scaled (a .args .m .now) (a .args .by) (12 * i + j)) (λ j h. cell-part (l .loop .out) (12 * i) (12 * i + 12 - 12 * i) j (omega arith) ∙ row l (omega arith) j h))
     ∙ sym (word-end (a .args .m .now) (a .args .by) i) in
     let next : 144 + i + 1 ≡ 144 + (i + 1) = omega arith in (
       omega arith,

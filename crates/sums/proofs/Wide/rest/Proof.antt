@@ -1,7 +1,7 @@
 -- `sums::Wide::rest` meets its contract: the upper word is reduced first, and what the estimated quotient leaves is below 6p.
 -- Assumes nothing.
 use mathlib.Core.Path.{_≡_, refl, sym, ap, _∙_, subst₂}
-use Prim.Native.Nat.{ℕ, _+_, _*_, _%_, _^_, _<_, _≤_}
+use Prim.Native.Nat.{ℕ, _+_, _*_, _%_, _^_, _<_}
 use native.Mathlib.Nat.{add-comm, add-le-add, le-refl, lt-of-lt-of-le}
 use lib.Arith.{add-lt-cancel-left}
 use lib.Dec.{lit≤}
