@@ -88,12 +88,12 @@ pub fn second_step(
     ensures { λ r. ⌜ r ≡ columns count (secondStep (now (table .entry)) round s) ⌝ }
 {
     let cubed = thin_cubes(s);
-    let within = winograd::neighbours(&cubed);
+    let excess = winograd::neighbours(&cubed);
     let start = CONSTANTS + 12 * (2 * round + 2);
     let mut out = [0u64; 12];
     let mut i: usize = 0;
     while i < count {
-        let mixed = winograd::cell_plus(ready, i, &cubed, within, table[start + i]);
+        let mixed = winograd::cell_plus(ready, i, &cubed, excess, table[start + i]);
         out[i] = sums::less_once(mixed, Fp::P);
         i += 1;
     }
@@ -106,11 +106,11 @@ pub fn back_step(ready: &[u64], table: &[u64], round: usize, s: [u64; 12]) -> [u
     ensures { λ r. ⌜ r ≡ backStep (now (table .entry)) round s ⌝ }
 {
     let less = less_constant(table, 2 * round + 1, s);
-    let within = winograd::neighbours(&less);
+    let excess = winograd::neighbours(&less);
     let mut out = [0u64; 12];
     let mut i: usize = 0;
     while i < 12 {
-        out[i] = thin_cube(winograd::cell_plus(ready, i, &less, within, 0));
+        out[i] = thin_cube(winograd::cell_plus(ready, i, &less, excess, 0));
         i += 1;
     }
     out

@@ -1,5 +1,5 @@
-// A matrix times many columns, by Winograd's inner product: a row's cells are added to those of the column crosswise, so that two products cost one multiplication.
-// What that adds too, products within the row and within the column, is taken off; the row's are known once the matrix is made ready.
+// A matrix times many columns, by Winograd's inner product: the cells of the row and of the column are added crosswise in pairs, so that two products cost one multiplication.
+// The products of neighbours, within the row and within the column, come in excess and are taken off; the row's are computed once, when the matrix is made ready.
 ghost use mathlib.Core.Path.{_≡_};
 ghost use Prim.Native.Nat.{ℕ, _+_, _*_, _%_, _<_};
 ghost use lib.ListN.{length};
@@ -57,15 +57,15 @@ pub fn ready(m: &[u64], by: u64) -> [u64; 156]
     out
 }
 
-// Cell i of the matrix times s, divided by 2^64, plus k.
-pub fn cell_plus(ready: &[u64], i: usize, s: &[u64], within: u64, k: u64) -> u64
-    requires { ⌜ IsReady (now ready) × (i < 12) × (length (now s) ≡ 12) × CanonicalTo 12 (now s) × (within ≡ neighbours (cell (now s))) × Canonical k ⌝ }
+// Cell i of the matrix times s, divided by 2^64, plus k; the excess is s's neighbours.
+pub fn cell_plus(ready: &[u64], i: usize, s: &[u64], excess: u64, k: u64) -> u64
+    requires { ⌜ IsReady (now ready) × (i < 12) × (length (now s) ≡ 12) × CanonicalTo 12 (now s) × (excess ≡ neighbours (cell (now s))) × Canonical k ⌝ }
     ensures { λ r. ⌜ (r % P ≡ (element (sum 12 (λ j. cell (now (ready .entry)) (12 * i + j) * cell (now (s .entry)) j)) + k) % P) × Short r ⌝ }
 {
     let start = 12 * i;
     // Six, but the compiler shall learn it in the callers, into whose loops it then takes this one.
     let pairs = s.len() / 2;
-    let mut sum = Wide(ready[144 + i] - within + k, 0);
+    let mut sum = Wide(ready[144 + i] - excess + k, 0);
     let mut j: usize = 0;
     while j < pairs {
         let even = 2 * j;

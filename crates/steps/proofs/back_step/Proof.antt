@@ -16,10 +16,10 @@ use Rattle.steps.proofs.back_step.Statement.{statement}
 use Rattle.steps.proofs.back_step.Tie as tie
 
 abbrev Inv-loop : tie.InvT-loop
-Inv-loop ready table round less within out₀ i₀ out i = (i ≤ 12) × (length out ≡ 12) × (out ≡ filled i (λ n. cube (timesColumn 12 (entry (inverseOf table)) (cell less) n)) out₀)
+Inv-loop ready table round less excess out₀ i₀ out i = (i ≤ 12) × (length out ≡ 12) × (out ≡ filled i (λ n. cube (timesColumn 12 (entry (inverseOf table)) (cell less) n)) out₀)
 
 abbrev μ-loop : tie.MeasureT-loop
-μ-loop ready table round less within out₀ i₀ out i = 12 - i
+μ-loop ready table round less excess out₀ i₀ out i = 12 - i
 
 mul-less-constant : tie.Need-mul-less-constant Inv-loop μ-loop
 mul-less-constant c = omega arith

@@ -14,10 +14,10 @@ use Rattle.steps.proofs.second_step.Statement.{statement}
 use Rattle.steps.proofs.second_step.Tie as tie
 
 abbrev Inv-loop : tie.InvT-loop
-Inv-loop ready table round count cubed within start out₀ i₀ out i = (i ≤ count) × (length out ≡ 12) × (out ≡ filled i (λ n. add (inner ready cubed n) (cell table (start + n))) out₀)
+Inv-loop ready table round count cubed excess start out₀ i₀ out i = (i ≤ count) × (length out ≡ 12) × (out ≡ filled i (λ n. add (inner ready cubed n) (cell table (start + n))) out₀)
 
 abbrev μ-loop : tie.MeasureT-loop
-μ-loop ready table round count cubed within start out₀ i₀ out i = count - i
+μ-loop ready table round count cubed excess start out₀ i₀ out i = count - i
 
 thin-cubes-requires : tie.Need-thin-cubes-requires Inv-loop μ-loop
 thin-cubes-requires c κs = search needs
