@@ -67,7 +67,7 @@ pub fn test(file: &[u8], index: usize) -> Answer
     if 15 < high.payload() {
         return Answer::Refused(Refusal::WrongValue(index));
     }
-    if Fp::P <= value(high, middle, low) {
+    if !Fp::is_canonical(value(high, middle, low)) {
         return Answer::Refused(Refusal::WrongValue(index));
     }
     Answer::Accepted

@@ -9,7 +9,7 @@ pub fn first_bad(s: &[u64]) -> usize
 {
     let mut i: usize = 0;
     while i < s.len() {
-        if Fp::P <= s[i] {
+        if !Fp::is_canonical(s[i]) {
             return i;
         }
         i += 1;

@@ -5,6 +5,8 @@ use mathlib.Core.List.{List}
 use Prim.Native.Nat.{ℕ, _+_}
 use native.Mathlib.Omega.{arith}
 use borrow.Author.Needs.{needs}
+use borrow.Author.Tests.{ltb-true, ltb-false, not-true, not-false}
+use Rattle.field.specs.Field.{P}
 use Rattle.fileword.specs.Words.{kindOf, payloadOf, wordAt}
 use Rattle.elements.specs.Elements.{elementAt}
 use Rattle.elements.proofs.Laws.{read-three, no-word}
@@ -98,15 +100,18 @@ returns-4 c =
 value-requires : tie.Need-value-requires
 value-requires c κs = search needs
 
+is-canonical-requires : tie.Need-is-canonical-requires
+is-canonical-requires c κs = search needs
+
 returns-5 : tie.Need-returns-5
 returns-5 c =
-    let k = three-kinds (c .before .before .before .before) in
-    sym (too-large _ _ (k .0) (k .1) (k .2) (rw (value-is (c .before)) at (c .if5 .taken)))
+    let k = three-kinds (c .before .before .before .before .before) in
+    sym (too-large _ _ (k .0) (k .1) (k .2) (rw (value-is (c .before .before)) at (ltb-false (c .before .before .value .result) P (sym (c .before .is-canonical .ensures) ∙ not-true _ (c .if5 .taken)))))
 
 returns-6 : tie.Need-returns-6
 returns-6 c =
-    let k = three-kinds (c .before .before .before .before) in
-    sym (accepts _ _ (record { high = k .0; middle = k .1; low = k .2; value = rw (value-is (c .before)) at (c .if5 .left) }))
+    let k = three-kinds (c .before .before .before .before .before) in
+    sym (accepts _ _ (record { high = k .0; middle = k .1; low = k .2; value = rw (value-is (c .before .before)) at (ltb-true (c .before .before .value .result) P (sym (c .before .is-canonical .ensures) ∙ not-false _ (c .if5 .left))) }))
 
 pub test-spec : {M : Type 1} → statement M
 test-spec =
@@ -128,5 +133,6 @@ test-spec =
     payload-requires
     returns-4
     value-requires
+    is-canonical-requires
     returns-5
     returns-6)

@@ -5,6 +5,7 @@ use Prim.Native.Nat.{ℕ, _-_, _≤_, _<_}
 use native.Mathlib.Omega.{arith}
 use borrow.Author.Count.{below-more}
 use borrow.Author.Needs.{needs}
+use borrow.Author.Tests.{ltb-true, ltb-false, not-true, not-false}
 use lib.ListN.{length}
 use Rattle.lists.specs.Lists.{cell}
 use Rattle.field.specs.Field.{Canonical}
@@ -21,14 +22,17 @@ abbrev μ-loop : tie.MeasureT-loop
 loop-holds : tie.Need-loop-holds Inv-loop μ-loop
 loop-holds c = (omega arith, λ j h. absurd (omega arith))
 
-mul-if1 : tie.Need-mul-if1 Inv-loop μ-loop
-mul-if1 c = search needs
+mul-is-canonical : tie.Need-mul-is-canonical Inv-loop μ-loop
+mul-is-canonical c = search needs
 
-shared-slice-read-if1 : tie.Need-shared-slice-read-if1 Inv-loop μ-loop
-shared-slice-read-if1 c = search needs
+shared-slice-read-is-canonical : tie.Need-shared-slice-read-is-canonical Inv-loop μ-loop
+shared-slice-read-is-canonical c = search needs
+
+is-canonical-requires : tie.Need-is-canonical-requires Inv-loop μ-loop
+is-canonical-requires c κs = search needs
 
 returns : tie.Need-returns Inv-loop μ-loop
-returns c = stops _ _ (omega arith) (c .before .before .before .loop .inv .1) (c .if1 .taken)
+returns c = stops _ _ (omega arith) (c .before .before .before .before .loop .inv .1) (ltb-false _ _ (sym (c .before .is-canonical .ensures) ∙ not-true _ (c .if1 .taken)))
 
 add-i : tie.Need-add-i Inv-loop μ-loop
 add-i c = omega arith
@@ -37,12 +41,12 @@ loop-less : tie.Need-loop-less Inv-loop μ-loop
 loop-less c = omega arith
 
 loop-again : tie.Need-loop-again Inv-loop μ-loop
-loop-again c = (omega arith, below-more _ _ (c .before .before .before .loop .inv .1) (c .if1 .left))
+loop-again c = (omega arith, below-more _ _ (c .before .before .before .before .loop .inv .1) (ltb-true _ _ (sym (c .before .is-canonical .ensures) ∙ not-false _ (c .if1 .left))))
 
 returns-2 : tie.Need-returns-2 Inv-loop μ-loop
 returns-2 c =
     let i = c .before .loop .i in
-    let s = c .before .before .args .s .now in
+    let s = c .before .before .before .args .s .now in
     let e : i ≡ length s = omega arith in
     e ∙ sym (all-good s (λ j h. c .before .loop .inv .1 j (omega arith)))
 
@@ -53,8 +57,9 @@ first-bad-spec =
     Inv-loop
     μ-loop
     loop-holds
-    mul-if1
-    shared-slice-read-if1
+    mul-is-canonical
+    shared-slice-read-is-canonical
+    is-canonical-requires
     returns
     add-i
     loop-less
