@@ -2,12 +2,12 @@
 -- Assumes nothing.
 use Prim.Native.Nat.{ℕ, _+_, _*_, _-_, _/_, _%_, _^_, _<_, _≤_}
 use mathlib.Core.Path.{_≡_, refl, sym, ap, ap₂, _∙_, subst}
-use native.Mathlib.Nat.{add-mul-mod-self-left, mod-mod, mod-lt, mod-eq-of-lt, mul-one, mul-comm, mul-assoc, mod-add-div, mul-le-mul, lt-of-le-of-lt, div-lt-iff-lt-mul, mul-lt-mul-of-pos-right, le-of-lt}
+use native.Mathlib.Nat.{add-mul-mod-self-left, mod-mod, mod-lt, mod-eq-of-lt, mul-one, mul-comm, mul-assoc, mod-add-div, mul-le-mul, lt-of-le-of-lt, div-lt-iff-lt-mul, mul-lt-mul-of-pos-right}
 use native.Mathlib.Omega.{arith}
-use lib.Dec.{lit<, lit≤}
+use lib.Dec.{lit<}
 use lib.Pow.{shr-lt}
 use Rattle.field.specs.Field.{P, mul}
-use Rattle.field.specs.Montgomery.{Short, element, reduceWord, timesWord, enterWord}
+use Rattle.field.specs.Montgomery.{Short, element, reduceWord, timesWord, enterWord, unitInverse, wordInverse, unitSquare}
 use Rattle.field.proofs.Modular.{mul-mod-l, mul-mod-r}
 
 -- numbers that differ by multiples of m
@@ -36,16 +36,16 @@ module _ (p k j : ℕ) (inv : (k * j) % p ≡ 1) where
       s = omega arith
 
 -- 2^64 and its inverse
-inverse-of-unit : (2 ^ 64 * 288230397626548624) % P ≡ 1
+inverse-of-unit : (2 ^ 64 * unitInverse) % P ≡ 1
 inverse-of-unit = refl
 
 -- ---- the reduction: t is h 2^64 + l, and f p is u 2^64 + l
-pub lower-equal : (l f : ℕ) → l < 2 ^ 64 → f ≡ l * 16140900978596511745 % 2 ^ 64 → f * P % 2 ^ 64 ≡ l
+pub lower-equal : (l f : ℕ) → l < 2 ^ 64 → f ≡ l * wordInverse % 2 ^ 64 → f * P % 2 ^ 64 ≡ l
 lower-equal l f h e =
     ap (λ x. x * P % 2 ^ 64) e
-    ∙ mul-mod-l (2 ^ 64) (l * 16140900978596511745) P
-    ∙ ap (λ x. x % 2 ^ 64) (mul-assoc l 16140900978596511745 P)
-    ∙ sym (mul-mod-r (2 ^ 64) l (16140900978596511745 * P))
+    ∙ mul-mod-l (2 ^ 64) (l * wordInverse) P
+    ∙ ap (λ x. x % 2 ^ 64) (mul-assoc l wordInverse P)
+    ∙ sym (mul-mod-r (2 ^ 64) l (wordInverse * P))
     ∙ ap (λ x. x % 2 ^ 64) (mul-one l)
     ∙ mod-eq-of-lt h
 
@@ -68,17 +68,17 @@ reduced t h l f u r et ef er = same P (r * 2 ^ 64) t f (2 ^ 64) (go P f er ef et
     go p f′ a b c = omega arith
 
 -- what is taken off, from its words
-split : (l f u : ℕ) → l < 2 ^ 64 → f ≡ l * 16140900978596511745 % 2 ^ 64 → u ≡ f * P / 2 ^ 64 → f * P ≡ u * 2 ^ 64 + l
+split : (l f u : ℕ) → l < 2 ^ 64 → f ≡ l * wordInverse % 2 ^ 64 → u ≡ f * P / 2 ^ 64 → f * P ≡ u * 2 ^ 64 + l
 split l f u h ef eu = sym (mod-add-div (f * P) (2 ^ 64)) ∙ turned (f * P % 2 ^ 64) (f * P / 2 ^ 64) ∙ ap₂ (λ x y. x * 2 ^ 64 + y) (sym eu) (lower-equal l f h ef)
   where
     turned : (x y : ℕ) → x + 2 ^ 64 * y ≡ y * 2 ^ 64 + x
     turned x y = omega arith
 
-pub reduce-law : (h l f u r : ℕ) → l < 2 ^ 64 → f ≡ l * 16140900978596511745 % 2 ^ 64 → u ≡ f * P / 2 ^ 64 → r + u ≡ h + P → r % P ≡ element (h * 2 ^ 64 + l)
-reduce-law h l f u r hl ef eu er = divided P (2 ^ 64) 288230397626548624 inverse-of-unit r (h * 2 ^ 64 + l) (reduced (h * 2 ^ 64 + l) h l f u r refl (split l f u hl ef eu) er)
+pub reduce-law : (h l f u r : ℕ) → l < 2 ^ 64 → f ≡ l * wordInverse % 2 ^ 64 → u ≡ f * P / 2 ^ 64 → r + u ≡ h + P → r % P ≡ element (h * 2 ^ 64 + l)
+reduce-law h l f u r hl ef eu er = divided P (2 ^ 64) unitInverse inverse-of-unit r (h * 2 ^ 64 + l) (reduced (h * 2 ^ 64 + l) h l f u r refl (split l f u hl ef eu) er)
 
-times-law : (a b l f u r : ℕ) → l ≡ a * b % 2 ^ 64 → f ≡ l * 16140900978596511745 % 2 ^ 64 → u ≡ f * P / 2 ^ 64 → r + u ≡ a * b / 2 ^ 64 + P → element r ≡ mul (element a) (element b)
-times-law a b l f u r el ef eu er = product-form P (2 ^ 64) 288230397626548624 inverse-of-unit a b r (reduced (a * b) (a * b / 2 ^ 64) l f u r split-t (split l f u l-low ef eu) er)
+times-law : (a b l f u r : ℕ) → l ≡ a * b % 2 ^ 64 → f ≡ l * wordInverse % 2 ^ 64 → u ≡ f * P / 2 ^ 64 → r + u ≡ a * b / 2 ^ 64 + P → element r ≡ mul (element a) (element b)
+times-law a b l f u r el ef eu er = product-form P (2 ^ 64) unitInverse inverse-of-unit a b r (reduced (a * b) (a * b / 2 ^ 64) l f u r split-t (split l f u l-low ef eu) er)
   where
     l-low : l < 2 ^ 64
     l-low = subst (λ x. x < 2 ^ 64) (sym el) (mod-lt (a * b) (lit< tt))
@@ -90,35 +90,35 @@ times-law a b l f u r el ef eu er = product-form P (2 ^ 64) 288230397626548624 i
         turned x y = omega arith
 
 -- ---- into the form and out of it
-pub enter-law : (x r : ℕ) → x < P → element r ≡ mul (element x) (element 2288261904184696897) → element r ≡ x
+pub enter-law : (x r : ℕ) → x < P → element r ≡ mul (element x) (element unitSquare) → element r ≡ x
 enter-law x r h e =
     e
-    ∙ mul-mod-l P (x * 288230397626548624) 2305842407918272505
-    ∙ ap (λ z. z % P) (mul-assoc x 288230397626548624 2305842407918272505)
-    ∙ sym (mul-mod-r P x (288230397626548624 * 2305842407918272505))
+    ∙ mul-mod-l P (x * unitInverse) 2305842407918272505
+    ∙ ap (λ z. z % P) (mul-assoc x unitInverse 2305842407918272505)
+    ∙ sym (mul-mod-r P x (unitInverse * 2305842407918272505))
     ∙ ap (λ z. z % P) (mul-one x)
     ∙ mod-eq-of-lt h
 
 pub leave-law : (v x : ℕ) → element x ≡ mul (element v) (element 1) → x % P ≡ element v
 leave-law v x e =
-    sym (undo P 288230397626548624 (2 ^ 64) refl x)
-    ∙ sym (mul-mod-l P (x * 288230397626548624) (2 ^ 64))
+    sym (undo P unitInverse (2 ^ 64) refl x)
+    ∙ sym (mul-mod-l P (x * unitInverse) (2 ^ 64))
     ∙ ap (λ z. (z * 2 ^ 64) % P) e
-    ∙ mul-mod-l P (element v * 288230397626548624) (2 ^ 64)
-    ∙ undo P 288230397626548624 (2 ^ 64) refl (element v)
-    ∙ mod-mod (v * 288230397626548624) P
+    ∙ mul-mod-l P (element v * unitInverse) (2 ^ 64)
+    ∙ undo P unitInverse (2 ^ 64) refl (element v)
+    ∙ mod-mod (v * unitInverse) P
 
 pub element-lt : (v : ℕ) → element v < P
-element-lt v = mod-lt (v * 288230397626548624) (omega arith)
+element-lt v = mod-lt (v * unitInverse) (omega arith)
 
 -- ---- the laws of `timesWord`
 module _ (a b : ℕ) (ha : Short a) (hb : Short b) where
   factor : ℕ
-  factor = a * b % 2 ^ 64 * 16140900978596511745 % 2 ^ 64
+  factor = a * b % 2 ^ 64 * wordInverse % 2 ^ 64
 
   off-small : factor * P / 2 ^ 64 < P
   unfolding factor
-  off-small = factor-small factor (mod-lt (a * b % 2 ^ 64 * 16140900978596511745) (lit< tt))
+  off-small = factor-small factor (mod-lt (a * b % 2 ^ 64 * wordInverse) (lit< tt))
 
   pub times-element : element (timesWord a b) ≡ mul (element a) (element b)
   unfolding factor timesWord reduceWord
@@ -148,7 +148,7 @@ module _ (a b : ℕ) (ha : Short a) (hb : Short b) where
       low h u l = omega arith
 
 pub enter-element : (x : ℕ) → x < P → element (enterWord x) ≡ x
-enter-element x h = enter-law x (enterWord x) h (times-element x 2288261904184696897 (omega arith) (omega arith))
+enter-element x h = enter-law x (enterWord x) h (times-element x unitSquare (omega arith) (omega arith))
 
 pub enter-short : (x : ℕ) → x < P → Short (enterWord x)
-enter-short x h = times-short x 2288261904184696897 (omega arith) (omega arith)
+enter-short x h = times-short x unitSquare (omega arith) (omega arith)

@@ -23,16 +23,16 @@ use Rattle.table.specs.Table.{matrixOf, inverseOf, constant}
 use Rattle.table.proofs.Parts.{cell-constant}
 use Rattle.hash.specs.Hash.{cubes, plus, mix, secondStep}
 use Rattle.constraints.specs.Constraints.{minus, backStep}
-use Rattle.steps.specs.Steps.{thinCube, forwardReady, backReady, columns}
+use Rattle.steps.specs.Steps.{thinCube, forwardReady, backReady, columns, forwardScale, backScale}
 use Rattle.steps.proofs.Scales.{forward-cell, back-cell}
 
 pub forward-is : (T ready : List ℕ) → ready ≡ forwardReady T → IsReady ready
 unfolding forwardReady
-forward-is T ready e = subst IsReady (sym e) (ready-is (matrixOf T) 700181197168064166)
+forward-is T ready e = subst IsReady (sym e) (ready-is (matrixOf T) forwardScale)
 
 pub back-is : (T ready : List ℕ) → ready ≡ backReady T → IsReady ready
 unfolding backReady
-back-is T ready e = subst IsReady (sym e) (ready-is (inverseOf T) 573374571730495292)
+back-is T ready e = subst IsReady (sym e) (ready-is (inverseOf T) backScale)
 
 -- row i of a ready matrix times a column, divided by 2^64
 abbrev pub inner : List ℕ → List ℕ → ℕ → ℕ
@@ -70,7 +70,7 @@ second-made T ready s cubed out round start count hc er ec es e =
   where
     mixed : (i : ℕ) → i < 12 → inner ready cubed i ≡ cell (mix T (cubes s)) i
     mixed i h =
-        forward-cell (matrixOf T) i (λ j. cell ready (12 * i + j)) (cell cubed) (λ j l. ap (λ x. cell x (12 * i + j)) er ∙ cell-ready (matrixOf T) 700181197168064166 (12 * i + j) (omega arith)) (cell s) (λ j l. ap (λ x. cell x j) ec ∙ cell-tab 12 (λ n. thinCube (cell s n)) j l)
+        forward-cell (matrixOf T) i (λ j. cell ready (12 * i + j)) (cell cubed) (λ j l. ap (λ x. cell x (12 * i + j)) er ∙ cell-ready (matrixOf T) forwardScale (12 * i + j) (omega arith)) (cell s) (λ j l. ap (λ x. cell x j) ec ∙ cell-tab 12 (λ n. thinCube (cell s n)) j l)
         ∙ times-ext 12 (entry (matrixOf T)) (entry (matrixOf T)) (λ j. cube (cell s j)) (cell (cubes s)) i (λ j l. refl) (λ j l. sym (cell-tab 12 (λ n. cube (cell s n)) j l))
         ∙ sym (cell-times (matrixOf T) (cubes s) i h)
 
@@ -79,7 +79,7 @@ second-made T ready s cubed out round start count hc er ec es e =
 -- the cell that is stored, from a word that is the inner product
 pub back-word : (T ready less : List ℕ) (i y : ℕ) → i < 12 → ready ≡ backReady T → y % P ≡ (inner ready less i + 0) % P → thinCube y ≡ cube (timesColumn 12 (entry (inverseOf T)) (cell less) i)
 unfolding backReady
-back-word T ready less i y h er e = back-cell (inverseOf T) i (λ j. cell ready (12 * i + j)) (cell less) (λ j l. ap (λ x. cell x (12 * i + j)) er ∙ cell-ready (inverseOf T) 573374571730495292 (12 * i + j) (omega arith)) y (e ∙ ap (λ x. x % P) (add-zero (inner ready less i)) ∙ mod-eq-of-lt (element-lt _))
+back-word T ready less i y h er e = back-cell (inverseOf T) i (λ j. cell ready (12 * i + j)) (cell less) (λ j l. ap (λ x. cell x (12 * i + j)) er ∙ cell-ready (inverseOf T) backScale (12 * i + j) (omega arith)) y (e ∙ ap (λ x. x % P) (add-zero (inner ready less i)) ∙ mod-eq-of-lt (element-lt _))
 
 pub undone-made : (T s less out : List ℕ) (round : ℕ) → less ≡ minus s (constant T (2 * round + 1)) → out ≡ tab 12 (λ i. cube (timesColumn 12 (entry (inverseOf T)) (cell less) i)) → out ≡ backStep T round s
 unfolding backStep cubes

@@ -8,12 +8,12 @@ use native.Mathlib.Omega.{arith}
 use Rattle.lists.specs.Lists.{sum}
 use Rattle.lists.proofs.Sum.{sum-mul-r}
 use Rattle.field.specs.Field.{P, cube}
-use Rattle.field.specs.Montgomery.{element}
+use Rattle.field.specs.Montgomery.{element, unitInverse}
 use Rattle.field.proofs.Modular.{mul-mod-l, mul-mod-r}
 use Rattle.matrix.specs.Matrix.{entry, timesColumn}
 use Rattle.matrix.proofs.Modulo.{mul-eq, sum-eq}
 use Rattle.winograd.specs.Winograd.{scaled}
-use Rattle.steps.specs.Steps.{thinCube}
+use Rattle.steps.specs.Steps.{thinCube, forwardScale, backScale}
 
 -- ---- modulo p, where j is the inverse of 2^64
 module _ (p j : ℕ) where
@@ -80,21 +80,21 @@ module _ (p j : ℕ) where
         gathered = omega arith
 
 -- ---- rows of a matrix made ready
-pub forward-cell : (m : List ℕ) (i : ℕ) (r x : ℕ → ℕ) → ((n : ℕ) → n < 12 → r n ≡ scaled m 700181197168064166 (12 * i + n)) → (s : ℕ → ℕ) → ((n : ℕ) → n < 12 → x n ≡ thinCube (s n))
+pub forward-cell : (m : List ℕ) (i : ℕ) (r x : ℕ → ℕ) → ((n : ℕ) → n < 12 → r n ≡ scaled m forwardScale (12 * i + n)) → (s : ℕ → ℕ) → ((n : ℕ) → n < 12 → x n ≡ thinCube (s n))
     → element (sum 12 (λ n. r n * x n)) ≡ timesColumn 12 (entry m) (λ n. cube (s n)) i
 unfolding timesColumn scaled
 forward-cell m i r x hr s hx =
-    ap (λ z. z % P) (sym (sum-mul-r 12 288230397626548624 (λ n. r n * x n)))
-    ∙ sum-eq P 12 (λ n. r n * x n * 288230397626548624) (λ n. entry m i n * cube (s n)) (λ n l. ap₂ (λ a b. (a * b * 288230397626548624) % P) (hr n l) (hx n l) ∙ forward-term P 288230397626548624 700181197168064166 refl (entry m i n) (s n))
+    ap (λ z. z % P) (sym (sum-mul-r 12 unitInverse (λ n. r n * x n)))
+    ∙ sum-eq P 12 (λ n. r n * x n * unitInverse) (λ n. entry m i n * cube (s n)) (λ n l. ap₂ (λ a b. (a * b * unitInverse) % P) (hr n l) (hx n l) ∙ forward-term P unitInverse forwardScale refl (entry m i n) (s n))
 
-pub back-cell : (m : List ℕ) (i : ℕ) (r x : ℕ → ℕ) → ((n : ℕ) → n < 12 → r n ≡ scaled m 573374571730495292 (12 * i + n))
+pub back-cell : (m : List ℕ) (i : ℕ) (r x : ℕ → ℕ) → ((n : ℕ) → n < 12 → r n ≡ scaled m backScale (12 * i + n))
     → (y : ℕ) → y % P ≡ element (sum 12 (λ n. r n * x n)) → thinCube y ≡ cube (timesColumn 12 (entry m) x i)
 unfolding timesColumn scaled
-back-cell m i r x hr y e = back-cube P 288230397626548624 573374571730495292 refl y (sum 12 (λ n. entry m i n * x n)) (e ∙ ap (λ z. z % P) (sym (sum-mul-r 12 288230397626548624 (λ n. r n * x n))) ∙ sum-eq P 12 (λ n. r n * x n * 288230397626548624) (λ n. entry m i n * x n * (573374571730495292 * 288230397626548624 * 288230397626548624)) (λ n l. ap (λ a. (a * x n * 288230397626548624) % P) (hr n l) ∙ back-term P 288230397626548624 573374571730495292 refl (entry m i n) (x n)) ∙ ap (λ z. z % P) (sum-mul-r 12 (573374571730495292 * 288230397626548624 * 288230397626548624) (λ n. entry m i n * x n)))
+back-cell m i r x hr y e = back-cube P unitInverse backScale refl y (sum 12 (λ n. entry m i n * x n)) (e ∙ ap (λ z. z % P) (sym (sum-mul-r 12 unitInverse (λ n. r n * x n))) ∙ sum-eq P 12 (λ n. r n * x n * unitInverse) (λ n. entry m i n * x n * (backScale * unitInverse * unitInverse)) (λ n l. ap (λ a. (a * x n * unitInverse) % P) (hr n l) ∙ back-term P unitInverse backScale refl (entry m i n) (x n)) ∙ ap (λ z. z % P) (sum-mul-r 12 (backScale * unitInverse * unitInverse) (λ n. entry m i n * x n)))
 
 -- ---- a thin cube from its two products
 pub thin-made : (x square : ℕ) → square % P ≡ element (x * x) → element (square * x) ≡ thinCube x
-thin-made x square e = ap (λ z. z % P) (turned square) ∙ sym (mul-mod-l P square (x * 288230397626548624)) ∙ ap (λ z. (z * (x * 288230397626548624)) % P) e ∙ ap (λ z. z % P) (sym (turned (element (x * x))))
+thin-made x square e = ap (λ z. z % P) (turned square) ∙ sym (mul-mod-l P square (x * unitInverse)) ∙ ap (λ z. (z * (x * unitInverse)) % P) e ∙ ap (λ z. z % P) (sym (turned (element (x * x))))
   where
-    turned : (a : ℕ) → a * x * 288230397626548624 ≡ a * (x * 288230397626548624)
+    turned : (a : ℕ) → a * x * unitInverse ≡ a * (x * unitInverse)
     turned a = omega arith

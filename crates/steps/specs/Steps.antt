@@ -13,13 +13,20 @@ use Rattle.constraints.specs.Constraints.{entering}
 abbrev pub thinCube : ℕ → ℕ
 thinCube x = element (element (x * x) * x)
 
--- M, with a scale that makes up for cubes divided by 2^128 (proofs/Scales.antt, `forward-cell`)
-unfoldable pub forwardReady : List ℕ → List ℕ
-forwardReady T = ready (matrixOf T) 700181197168064166
+-- 2^256 mod p: 2^128 makes up for cubes divided by it, 2^128 for the two divisions by 2^64 (proofs/Scales.antt, `forward-cell`)
+abbrev pub forwardScale : ℕ
+forwardScale = 700181197168064166
 
--- the inverse of M, with a scale whose cube makes up for the division (proofs/Scales.antt, `back-cell`)
+-- the cube root of 2^128, times 2^128, mod p: the cube then makes up for its division (proofs/Scales.antt, `back-cell`)
+abbrev pub backScale : ℕ
+backScale = 573374571730495292
+
+-- M and its inverse made ready with these scales
+unfoldable pub forwardReady : List ℕ → List ℕ
+forwardReady T = ready (matrixOf T) forwardScale
+
 unfoldable pub backReady : List ℕ → List ℕ
-backReady T = ready (inverseOf T) 573374571730495292
+backReady T = ready (inverseOf T) backScale
 
 -- the first n columns of a state, and zeros
 unfoldable pub columns : ℕ → List ℕ → List ℕ

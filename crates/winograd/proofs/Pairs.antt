@@ -9,7 +9,7 @@ use lib.Dec.{lit<}
 use Rattle.lists.specs.Lists.{sum}
 use Rattle.lists.proofs.Sum.{sum-ext, sum-le}
 use Rattle.field.specs.Field.{P, Canonical}
-use Rattle.field.specs.Montgomery.{element}
+use Rattle.field.specs.Montgomery.{element, unitInverse}
 use Rattle.field.proofs.Forms.{element-lt}
 use Rattle.field.proofs.Modular.{mul-mod-r}
 use Rattle.matrix.proofs.Modulo.{add-eq}
@@ -67,7 +67,7 @@ module _ (p k j : ℕ) (inv : (k * j) % p ≡ 1) where
 pub inner : (a x : ℕ → ℕ) (start c : ℕ) → start + (neighbours a + neighbours x) ≡ c + P * 2
     → element (start * 2 ^ 64 + sum 6 (cross a x)) ≡ (element (sum 12 (λ j. a j * x j)) + c) % P
 unfolding neighbours
-inner a x start c e = taken P (2 ^ 64) 288230397626548624 refl start (sum 6 (cross a x)) (sum 12 (λ j. a j * x j)) (sum 6 (near a)) (sum 6 (near x)) (neighbours a) (neighbours x) c e refl refl (crosswise 6 a x)
+inner a x start c e = taken P (2 ^ 64) unitInverse refl start (sum 6 (cross a x)) (sum 12 (λ j. a j * x j)) (sum 6 (near a)) (sum 6 (near x)) (neighbours a) (neighbours x) c e refl refl (crosswise 6 a x)
 
 -- ---- the sums leave room in the upper word
 room : (n b u l start most : ℕ) (f : ℕ → ℕ) → n ≤ 6 → ((i : ℕ) → i < n → f i ≤ b) → 6 * b < most * 2 ^ 64 → u * 2 ^ 64 + l ≡ start * 2 ^ 64 + sum n f → u < start + most

@@ -1,7 +1,7 @@
 -- `field::montgomery::reduce` meets its contract: what is taken off has the same lower word, so that 2^64 divides the rest.
 -- Assumes nothing.
 use mathlib.Core.Path.{_≡_, sym, ap, _∙_, subst}
-use Prim.Native.Nat.{_+_, _*_, _-_, _/_, _%_, _^_, _<_}
+use Prim.Native.Nat.{_+_, _*_, _-_, _/_, _^_, _<_}
 use native.Mathlib.Nat.{mod-lt}
 use native.Mathlib.Omega.{arith}
 use borrow.Author.Needs.{needs}

@@ -1,10 +1,9 @@
 -- `field::montgomery::times` meets its contract: the product's two words are reduced.
 -- Assumes nothing.
 use mathlib.Core.Path.{_≡_, sym, ap₂, _∙_, subst}
-use Prim.Native.Nat.{_+_, _*_, _/_, _^_, _<_}
 use native.Mathlib.Omega.{arith}
 use borrow.Author.Needs.{needs}
-use Rattle.field.specs.Field.{P, mul}
+use Rattle.field.specs.Field.{mul}
 use Rattle.field.specs.Montgomery.{Short, element, reduceWord, timesWord}
 use Rattle.field.proofs.Forms.{upper-small, times-element, times-short}
 use Rattle.field.proofs.montgomery.times.Statement.{statement}
