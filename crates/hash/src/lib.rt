@@ -16,7 +16,7 @@ use refusals::Digested;
 use refusals::Refusal;
 
 // Every cell cubed.
-pub fn cubes(s: [u64; 12]) -> [u64; 12]
+fn cubes(s: [u64; 12]) -> [u64; 12]
     requires { ⌜ CanonicalTo 12 s ⌝ }
     ensures { λ r. ⌜ r ≡ cubes s ⌝ }
 {

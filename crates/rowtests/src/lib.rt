@@ -64,7 +64,7 @@ pub fn span_of(row: RowNumber) -> Span
     Span(45, 52)
 }
 
-// Forward of the row, at rows 1 to 30.
+// The tested columns of forward of the row, at rows 1 to 30.
 pub fn forward_of(ready: &[u64], table: &[u64], trace: &[u64], row: RowNumber) -> [u64; 12]
     requires { ⌜ IsTable (now table) × (now ready ≡ forwardReady (now table)) × InTrace (now trace) (row .0) ⌝ }
     ensures { λ r. ⌜ r ≡ forwardOf (now (table .entry)) (now (trace .entry)) (row .0) ⌝ }
