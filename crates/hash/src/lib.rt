@@ -37,15 +37,12 @@ fn mix(table: &[u64], s: [u64; 12]) -> [u64; 12]
     matrix::times(&table[0..144], s)
 }
 
-// Where K_0 stands in the table: after M and its inverse, 144 words each.
-const CONSTANTS: usize = 288;
-
 // s plus K_n.
 fn plus_constant(table: &[u64], n: usize, s: [u64; 12]) -> [u64; 12]
     requires { ⌜ IsTable (now table) × (n < 21) × CanonicalTo 12 s ⌝ }
     ensures { λ r. ⌜ r ≡ plus s (constant (now (table .entry)) n) ⌝ }
 {
-    let start = CONSTANTS + 12 * n;
+    let start = table::CONSTANTS + 12 * n;
     let mut out = [0u64; 12];
     let mut j: usize = 0;
     while j < 12 {

@@ -35,7 +35,7 @@ pub fn opening(table: &[u64], column: usize) -> u64
     requires { ⌜ IsTable (now table) × (column < 12) ⌝ }
     ensures { λ r. ⌜ (r ≡ cell (constant (now (table .entry)) 0) column) × Canonical r ⌝ }
 {
-    table[288 + column]
+    table[table::CONSTANTS + column]
 }
 
 // The round whose middle state the row holds: rows 1 to 10, 11 to 20, 21 to 30 are rounds 0 to 9.
@@ -62,7 +62,7 @@ fn plus_entering(table: &[u64], s: [u64; 12]) -> [u64; 12]
     let mut out = s;
     let mut j: usize = 0;
     while j < 4 {
-        out[j] = Fp(s[j]).add(Fp(table[288 + j])).0;
+        out[j] = Fp(s[j]).add(Fp(table[table::CONSTANTS + j])).0;
         j += 1;
     }
     out

@@ -13,9 +13,6 @@ ghost use Rattle.steps.specs.Steps.{thinCube, forwardReady, backReady, c
 use field::Fp;
 use field::montgomery;
 
-// Where K_0 stands in the table.
-const CONSTANTS: usize = 288;
-
 // 2^256 mod p: 2^128 for the cubes, 2^128 for the two divisions.
 const FORWARD: u64 = 700181197168064166;
 
@@ -50,7 +47,7 @@ pub fn less_constant(table: &[u64], n: usize, s: [u64; 12]) -> [u64; 12]
     requires { ⌜ IsTable (now table) × (n < 21) × CanonicalTo 12 s ⌝ }
     ensures { λ r. ⌜ (r ≡ minus s (constant (now (table .entry)) n)) × CanonicalTo 12 r ⌝ }
 {
-    let start = CONSTANTS + 12 * n;
+    let start = table::CONSTANTS + 12 * n;
     let mut out = [0u64; 12];
     let mut j: usize = 0;
     while j < 12 {
@@ -89,7 +86,7 @@ pub fn second_step(
 {
     let cubed = thin_cubes(s);
     let excess = winograd::neighbours(&cubed);
-    let start = CONSTANTS + 12 * (2 * round + 2);
+    let start = table::CONSTANTS + 12 * (2 * round + 2);
     let mut out = [0u64; 12];
     let mut i: usize = 0;
     while i < count {

@@ -9,6 +9,9 @@ ghost use Rattle.table.specs.Table.{firstUnlike, tableTest, prepared, Pr
 use refusals::Answer;
 use refusals::Refusal;
 
+// Where K_0 stands in a prepared table: after M and its inverse, 144 words each.
+pub const CONSTANTS: usize = 288;
+
 // Column k of a 12 × 12 matrix.
 fn column(n: &[u64], k: usize) -> [u64; 12]
     requires { ⌜ (length (now n) ≡ 144) × (k < 12) ⌝ }
