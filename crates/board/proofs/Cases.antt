@@ -1,6 +1,6 @@
 -- What Pack and Unpack answer, case by case in the order of their tests, and what acceptance says.
 -- Assumes nothing.
-use mathlib.Core.Path.{_≡_, refl, ap, _∙_}
+use mathlib.Core.Path.{_≡_, refl, sym, ap, _∙_}
 use mathlib.Core.Bool.{true, false}
 use mathlib.Core.List.{List}
 use Prim.Native.Nat.{ℕ, _+_, _*_, _/_, _<_, _≤_}
@@ -24,7 +24,7 @@ use Rattle.refusals.specs.declared.Answer.{Answer}
 use Rattle.refusals.specs.declared.Answer.the-variants.{Accepted, Refused}
 use Rattle.refusals.specs.declared.Digest.{Digest}
 use Rattle.refusals.specs.declared.Digested.the-variants as digested
-use Rattle.board.specs.Board.{countWord, fileSize, counted, packAnswer, countIn, spareIn, batchesIn, claimIn, countTest, unpackTest, unpackAnswer, IsBoard}
+use Rattle.board.specs.Board.{countWord, fileSize, counted, packAnswer, packed, packLeaves, countIn, spareIn, batchesIn, claimIn, tapsIn, countTest, unpackTest, unpackAnswer, unpackLeaves, IsBoard}
 
 -- ---- Pack
 pub pack-length : (taps claim : List ℕ) (size : ℕ) → tapBatches (length taps) ≡ count.Refused → packAnswer taps claim size ≡ Refused TapLength
@@ -86,6 +86,18 @@ pack-accepted taps claim size = go (tapBatches (length taps)) refl
 pub pack-complete : (taps claim : List ℕ) (size k : ℕ) → IsPacked taps claim size k → packAnswer taps claim size ≡ Accepted
 pack-complete taps claim size k h =
     pack-accepts taps claim size k (ap tapBatches (h .taps-size) ∙ tap-complete k (h .permitted)) (h .size-is) (all-good claim (h .claim-canonical)) (all-good taps (h .taps-canonical))
+
+-- Pack's answer, with what is left in the destination
+module _ (taps claim old : List ℕ) where
+  pub pack-turned-back : {r : Refusal} → packAnswer taps claim (length old) ≡ Refused r
+      → (Refused r ≡ packAnswer taps claim (length old)) × (old ≡ packLeaves taps claim old)
+  unfolding packLeaves
+  pack-turned-back e = (sym e, rw e)
+
+  pub pack-written : {new : List ℕ} → packAnswer taps claim (length old) ≡ Accepted → new ≡ packed taps claim
+      → (Accepted ≡ packAnswer taps claim (length old)) × (new ≡ packLeaves taps claim old)
+  unfolding packLeaves
+  pack-written e q = (sym e, q ∙ rw e)
 
 -- ---- word 0
 pub count-kind : (w : ℕ) → (kindOf w ≡ 0 → ⊥) → countTest w ≡ Refused (WrongKind 0)
@@ -179,6 +191,18 @@ unpack-returns file size e = rw e
 pub unpack-refuses : (file : List ℕ) (size : ℕ) (r : Refusal) → unpackTest file size ≡ Refused r → unpackAnswer file size ≡ digested.Refused r
 unfolding unpackAnswer
 unpack-refuses file size r e = rw e
+
+-- with what is left in the destination
+module _ (file old : List ℕ) where
+  pub unpack-turned-back : {r : Refusal} → unpackTest file (length old) ≡ Refused r
+      → (digested.Refused r ≡ unpackAnswer file (length old)) × (old ≡ unpackLeaves file old)
+  unfolding unpackAnswer unpackLeaves
+  unpack-turned-back e = (rw e, rw e)
+
+  pub unpack-written : {new : List ℕ} → unpackTest file (length old) ≡ Accepted → new ≡ tapsIn file
+      → (digested.Accepted (digest (claimIn file)) ≡ unpackAnswer file (length old)) × (new ≡ unpackLeaves file old)
+  unfolding unpackAnswer unpackLeaves
+  unpack-written e q = (rw e, q ∙ rw e)
 
 -- and conversely
 pub returned : (file : List ℕ) (size : ℕ) (d : Digest) → unpackAnswer file size ≡ digested.Accepted d → (unpackTest file size ≡ Accepted) × (digest (claimIn file) ≡ d)

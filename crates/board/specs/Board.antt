@@ -11,7 +11,7 @@ use Rattle.counts.specs.declared.BatchCount.{BatchCount}
 use Rattle.counts.specs.declared.BatchCount.the-variants as count
 use Rattle.fileword.specs.Words.{joined, kindOf, payloadOf, wordAt, bytesOf}
 use Rattle.elements.specs.Elements.{wordsOf, elementsAt, unless, elementsTest, IsElement}
-use Rattle.refusals.specs.Refusals.{answerAfter, digestedAfter, digest}
+use Rattle.refusals.specs.Refusals.{answerAfter, digestedAfter, digest, answerKept, digestedKept}
 use Rattle.refusals.specs.declared.Refusal.{Refusal}
 use Rattle.refusals.specs.declared.Refusal.the-variants.{TapLength, TapWord, DestinationLength, ClaimWord, FileLength, WrongKind, WrongValue}
 use Rattle.refusals.specs.declared.Answer.{Answer}
@@ -54,6 +54,10 @@ packAnswer taps claim size =
 unfoldable pub packed : List ℕ → List ℕ → List ℕ
 packed taps claim = fileOf taps claim (length taps / 12)
 
+-- what Pack leaves in the destination: that file, or what was there
+unfoldable pub packLeaves : List ℕ → List ℕ → List ℕ → List ℕ
+packLeaves taps claim old = answerKept (packAnswer taps claim (length old)) (packed taps claim) old
+
 -- ---- what any bytes hold
 
 abbrev pub countIn : ℕ → ℕ
@@ -92,6 +96,10 @@ unpackTest file size =
 -- the claim is returned
 unfoldable pub unpackAnswer : List ℕ → ℕ → Digested
 unpackAnswer file size = digestedAfter (unpackTest file size) (digested.Accepted (digest (claimIn file)))
+
+-- what Unpack leaves in the destination: the 12k + 4 tap words, or what was there
+unfoldable pub unpackLeaves : List ℕ → List ℕ → List ℕ
+unpackLeaves file old = digestedKept (unpackAnswer file (length old)) (tapsIn file) old
 
 -- the four words of a claim that is returned
 abbrev pub claimOf : Digest → List ℕ

@@ -3,8 +3,7 @@
 ghost use mathlib.Core.Path.{_≡_};
 ghost use Prim.Native.Nat.{_+_, _*_, _≤_};
 ghost use lib.ListN.{length};
-ghost use Rattle.refusals.specs.Refusals.{answerKept, digestedKept};
-ghost use Rattle.board.specs.Board.{fileOf, fileSize, packAnswer, packed, countIn, countTest, unpackTest, unpackAnswer, tapsIn};
+ghost use Rattle.board.specs.Board.{fileOf, fileSize, packAnswer, packLeaves, countIn, countTest, unpackTest, unpackAnswer, unpackLeaves};
 use counts::BatchCount;
 use fileword::Word;
 use refusals::Answer;
@@ -14,7 +13,7 @@ use refusals::Refusal;
 
 // Writes the board file of the taps and the claim: 5, 8, 9, 6.
 pub fn pack(taps: &[u64], claim: [u64; 4], destination: &mut [u8]) -> Answer
-    ensures { λ r. ⌜ (r ≡ packAnswer (now (taps .entry)) claim (length (now (destination .entry)))) × (now (destination .exit) ≡ answerKept r (packed (now (taps .entry)) claim) (now (destination .entry))) ⌝ }
+    ensures { λ r. ⌜ (r ≡ packAnswer (now (taps .entry)) claim (length (now (destination .entry)))) × (now (destination .exit) ≡ packLeaves (now (taps .entry)) claim (now (destination .entry))) ⌝ }
 {
     let count = counts::tap_batches(taps.len());
     let BatchCount::Permitted(k) = count else {
@@ -93,7 +92,7 @@ fn test_file(file: &[u8], size: usize) -> Answer
 
 // Writes the taps of a board file and returns its claim. The whole file is tested before the first word is written, since a refusal alters nothing.
 pub fn unpack(file: &[u8], destination: &mut [u64]) -> Digested
-    ensures { λ r. ⌜ (r ≡ unpackAnswer (now (file .entry)) (length (now (destination .entry)))) × (now (destination .exit) ≡ digestedKept r (tapsIn (now (file .entry))) (now (destination .entry))) ⌝ }
+    ensures { λ r. ⌜ (r ≡ unpackAnswer (now (file .entry)) (length (now (destination .entry)))) × (now (destination .exit) ≡ unpackLeaves (now (file .entry)) (now (destination .entry))) ⌝ }
 {
     let tested = test_file(file, destination.len());
     let Answer::Accepted = tested else {

@@ -2,7 +2,8 @@
 -- Assumes nothing.
 use mathlib.Core.Path.{_≡_, sym, ap, _∙_}
 use mathlib.Core.List.{List}
-use Prim.Native.Nat.{ℕ, _+_, _*_}
+use Prim.Native.Nat.{ℕ, _+_, _*_, _/_}
+use native.Mathlib.Omega.{arith}
 use borrow.Author.Tests.{eq-eqb, ne-eqb}
 use lib.ListN.{length}
 use Rattle.counts.specs.Counts.{traceBatches}
@@ -16,9 +17,10 @@ use Rattle.refusals.specs.declared.Answer.the-variants as answer
 use Rattle.refusals.specs.declared.Checked.{Checked}
 use Rattle.refusals.specs.declared.Checked.the-variants.{Accepted, Refused}
 use Rattle.table.specs.Table.{tableTest}
+use Rattle.constraints.specs.ReadOff.{readTaps}
 use Rattle.checker.specs.Answers.{judged, traceAfter}
 use Rattle.checker.proofs.AnswerLaws.{table-refused, table-accepted, length-refused, length-permitted}
-use Rattle.readoff.specs.Answers.{sizeJudged, readOffAnswer}
+use Rattle.readoff.specs.Answers.{sizeJudged, readOffAnswer, readOffLeaves}
 
 module _ (T t claim : List ℕ) (size : ℕ) {x : Answer} (tested : x ≡ tableTest T) where
   pub by-table : {r : Refusal} {a : Checked} → x ≡ answer.Refused r → a ≡ checkedAfter x (Accepted 0) → (a ≡ Refused r) × (a ≡ readOffAnswer T t claim size)
@@ -45,9 +47,15 @@ module _ (T t claim : List ℕ) (size : ℕ) {x : Answer} (tested : x ≡ tableT
       unfolding sizeJudged
       by-judge h e = after-length (rw (eq-eqb size (12 * k + 4) h) e)
 
--- a refusal leaves the old content, acceptance the new one
-pub kept-old : {a : Checked} {r : Refusal} (new old : List ℕ) → a ≡ Refused r → old ≡ checkedKept a new old
-kept-old new old e = sym (ap (λ x. checkedKept x new old) e)
+-- ---- the answer with what is left in the destination
+module _ (T t claim old : List ℕ) {a : Checked} (answered : a ≡ readOffAnswer T t claim (length old)) where
+  pub turned-back : {r : Refusal} → a ≡ Refused r → (a ≡ readOffAnswer T t claim (length old)) × (old ≡ readOffLeaves T t claim old)
+  unfolding readOffLeaves
+  turned-back e = (answered, ap (λ x. checkedKept x (readTaps T t (length t / 384)) old) (sym e ∙ answered))
 
-pub kept-new : {a : Checked} {n : ℕ} (new old : List ℕ) → a ≡ Accepted n → new ≡ checkedKept a new old
-kept-new new old e = sym (ap (λ x. checkedKept x new old) e)
+  pub read : (k : ℕ) {n : ℕ} {new : List ℕ} → a ≡ Accepted n → length t ≡ 384 * k → new ≡ readTaps T t k
+      → (a ≡ readOffAnswer T t claim (length old)) × (new ≡ readOffLeaves T t claim old)
+  unfolding readOffLeaves
+  read k e size q =
+      let b : k ≡ length t / 384 = omega arith in
+      (answered, q ∙ ap (readTaps T t) b ∙ ap (λ x. checkedKept x (readTaps T t (length t / 384)) old) (sym e ∙ answered))

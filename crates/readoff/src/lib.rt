@@ -1,14 +1,13 @@
 // Read-off: Check, and then the taps that the trace holds (document 01, "The 52 constraints").
 ghost use mathlib.Core.Path.{_≡_};
-ghost use Prim.Native.Nat.{_+_, _*_, _/_, _^_, _≤_, _<_};
+ghost use Prim.Native.Nat.{_+_, _*_, _^_, _≤_, _<_};
 ghost use lib.ListN.{length};
 ghost use Rattle.lists.specs.Lists.{tab};
 ghost use Rattle.words.specs.Words.{AllCanonical};
-ghost use Rattle.refusals.specs.Refusals.{checkedKept};
 ghost use Rattle.table.specs.Table.{IsTable};
 ghost use Rattle.constraints.specs.ReadOff.{readInput, readWord, readTaps};
 ghost use Rattle.steps.specs.Steps.{backReady};
-ghost use Rattle.readoff.specs.Answers.{readOffAnswer};
+ghost use Rattle.readoff.specs.Answers.{readOffAnswer, readOffLeaves};
 ghost use Rattle.readoff.specs.Lent.{HasTap};
 use counts::BatchCount;
 use counts::BatchNumber;
@@ -64,7 +63,7 @@ fn write_taps(inverse: &[u64], table: &[u64], trace: &[u64], k: usize, destinati
 
 // Read-off: 1, 2, 4; 7; 8; 9; 10; 11. It writes when every test has passed.
 pub fn read_off(table: &[u64], trace: &[u64], claim: [u64; 4], destination: &mut [u64]) -> Checked
-    ensures { λ r. ⌜ (r ≡ readOffAnswer (now (table .entry)) (now (trace .entry)) claim (length (now (destination .entry)))) × (now (destination .exit) ≡ checkedKept r (readTaps (now (table .entry)) (now (trace .entry)) (length (now (trace .entry)) / 384)) (now (destination .entry))) ⌝ }
+    ensures { λ r. ⌜ (r ≡ readOffAnswer (now (table .entry)) (now (trace .entry)) claim (length (now (destination .entry)))) × (now (destination .exit) ≡ readOffLeaves (now (table .entry)) (now (trace .entry)) claim (now (destination .entry))) ⌝ }
 {
     let tested = table::test(table);
     let Answer::Accepted = tested else {

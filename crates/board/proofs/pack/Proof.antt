@@ -1,6 +1,6 @@
 -- `board::pack` meets its contract: 5, 8, 9, 6, and then the file.
 -- Assumes nothing.
-use mathlib.Core.Path.{_≡_, refl, sym, ap, _∙_}
+use mathlib.Core.Path.{_≡_, sym, ap, _∙_}
 use Prim.Native.Nat.{ℕ, _+_, _*_, _/_}
 use native.Mathlib.Omega.{arith}
 use lib.ListN.{length}
@@ -10,7 +10,7 @@ use Rattle.counts.proofs.Laws.{tap-sound}
 use Rattle.refusals.specs.declared.Refusal.the-variants.{ClaimWord, TapWord}
 use Rattle.refusals.specs.declared.Answer.the-variants.{Refused}
 use Rattle.board.specs.Board.{packed}
-use Rattle.board.proofs.Cases.{pack-length, pack-destination, pack-claim, pack-tap, pack-accepts}
+use Rattle.board.proofs.Cases.{pack-length, pack-destination, pack-claim, pack-tap, pack-accepts, pack-turned-back, pack-written}
 use borrow.Author.Needs.{needs}
 use Rattle.board.proofs.pack.Statement.{statement}
 use Rattle.board.proofs.pack.Tie as tie
@@ -42,7 +42,7 @@ enum-told : tie.Need-enum-told
 enum-told c = search needs
 
 returns : tie.Need-returns
-returns c = (sym (pack-length _ _ _ (sym (c .before .before .tap-batches .ensures) ∙ c .enum-told .given .1)), refl)
+returns c = pack-turned-back _ _ _ (pack-length _ _ _ (sym (c .before .before .tap-batches .ensures) ∙ c .enum-told .given .1))
 
 mul-if1 : tie.Need-mul-if1
 mul-if1 c = omega (arith, size c .1 .high)
@@ -51,7 +51,7 @@ add-if1 : tie.Need-add-if1
 add-if1 c = omega (arith, size c .1 .high)
 
 returns-2 : tie.Need-returns-2
-returns-2 c = (sym (pack-destination _ _ _ _ (counted (c .before)) (c .if1 .taken)), refl)
+returns-2 c = pack-turned-back _ _ _ (pack-destination _ _ _ _ (counted (c .before)) (c .if1 .taken))
 
 slice-aggregate-first-bad : tie.Need-slice-aggregate-first-bad
 slice-aggregate-first-bad c = search needs
@@ -63,7 +63,9 @@ returns-3 : tie.Need-returns-3
 returns-3 c =
     let one = c .before .before .before in
     let bad = c .before .first-bad .ensures in
-    (ap (λ n. Refused (ClaimWord n)) bad ∙ sym (pack-claim _ _ _ _ (counted (one .before)) (one .if1 .left) (λ e. c .if2 .taken (bad ∙ e ∙ four (one .before)))), refl)
+    pack-turned-back _ _ _
+    (pack-claim _ _ _ _ (counted (one .before)) (one .if1 .left) (λ e. c .if2 .taken (bad ∙ e ∙ four (one .before)))
+    ∙ sym (ap (λ n. Refused (ClaimWord n)) bad))
 
 first-bad-requires-2 : tie.Need-first-bad-requires-2
 first-bad-requires-2 c κs = search needs
@@ -73,7 +75,10 @@ returns-4 c =
     let two = c .before .before in
     let one = two .before .before .before in
     let bad = c .before .first-bad2 .ensures in
-    (ap (λ n. Refused (TapWord n)) bad ∙ sym (pack-tap _ _ _ _ (counted (one .before)) (one .if1 .left) (sym (two .before .first-bad .ensures) ∙ two .if2 .left ∙ sym (four (one .before))) (λ e. c .if3 .taken (bad ∙ e))), refl)
+    let good-claim = sym (two .before .first-bad .ensures) ∙ two .if2 .left ∙ sym (four (one .before)) in
+    pack-turned-back _ _ _
+    (pack-tap _ _ _ _ (counted (one .before)) (one .if1 .left) good-claim (λ e. c .if3 .taken (bad ∙ e))
+    ∙ sym (ap (λ n. Refused (TapWord n)) bad))
 
 write-file-requires : tie.Need-write-file-requires
 write-file-requires c κs =
@@ -91,10 +96,12 @@ returns-5 c =
     let two = three .before .before in
     let one = two .before .before .before in
     let t = size (one .before) in
-    let batches : length (start (one .before) .args .taps .now) / 12 ≡ k (one .before) = omega (arith, t .0) in (
-      sym (pack-accepts _ _ _ _ (counted (one .before)) (one .if1 .left) (sym (two .before .first-bad .ensures) ∙ two .if2 .left ∙ sym (four (one .before))) (sym (three .before .first-bad2 .ensures) ∙ three .if3 .left)),
-      c .before .before .write-file .ensures ∙ rw batches,
-    )
+    let batches : length (start (one .before) .args .taps .now) / 12 ≡ k (one .before) = omega (arith, t .0) in
+    let good-claim = sym (two .before .first-bad .ensures) ∙ two .if2 .left ∙ sym (four (one .before)) in
+    let good-taps = sym (three .before .first-bad2 .ensures) ∙ three .if3 .left in
+    pack-written _ _ _
+    (pack-accepts _ _ _ _ (counted (one .before)) (one .if1 .left) good-claim good-taps)
+    (c .before .before .write-file .ensures ∙ rw batches)
 
 pub pack-spec : {M : Type 1} → statement M
 pack-spec =

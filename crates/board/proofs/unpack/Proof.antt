@@ -10,7 +10,7 @@ use Rattle.field.specs.Field.{P}
 use Rattle.elements.specs.Elements.{elementAt, elementsAt}
 use Rattle.refusals.specs.declared.Digested.the-variants.{Refused}
 use Rattle.board.specs.Board.{batchesIn, claimIn, tapsIn, IsBoard}
-use Rattle.board.proofs.Cases.{unpack-accepted, unpack-returns, unpack-refuses}
+use Rattle.board.proofs.Cases.{unpack-accepted, unpack-turned-back, unpack-written}
 use Rattle.board.proofs.Round.{after-claim}
 use borrow.Author.Needs.{needs}
 use Rattle.board.proofs.unpack.Statement.{statement}
@@ -44,7 +44,8 @@ returns c =
     let tested = c .before .before .before .test-file in
     let refused = c .before .enum-told2 .given .1 in
     let r : c .after .result ≡ Refused (c .before .enum-told2 .given .0 .0) = c .after .ensures ∙ rw refused in
-    (r ∙ sym (unpack-refuses _ _ _ (sym (tested .ensures) ∙ refused)), rw r)
+    let left = unpack-turned-back _ _ (sym (tested .ensures) ∙ refused) in
+    (r ∙ left .0, left .1)
 
 read-requires : tie.Need-read-requires
 read-requires c κs = element c 0 (lit< tt)
@@ -71,9 +72,15 @@ unfolding claimIn tapsIn elementsAt tab
 returns-2 c =
     let read = c .before .before .before .before in
     let told = read .before .before .before .before in
-    let claim = unpack-returns _ _ (sym (told .before .before .test-file .ensures) ∙ told .enum-told .given .1) in (
-      rw (read .before .before .before .read .ensures, read .before .before .read2 .ensures, read .before .read3 .ensures, read .read4 .ensures) (sym claim),
-      c .before .before .read-all .ensures ∙ rw (board told .1),
+    let accepted = sym (told .before .before .test-file .ensures) ∙ told .enum-told .given .1 in
+    let left = unpack-written _ _ accepted (c .before .before .read-all .ensures ∙ rw (board told .1)) in (
+      rw (
+        read .before .before .before .read .ensures,
+        read .before .before .read2 .ensures,
+        read .before .read3 .ensures,
+        read .read4 .ensures,
+      ) (left .0),
+      left .1,
     )
 
 pub unpack-spec : {M : Type 1} → statement M

@@ -1,11 +1,9 @@
 -- `readoff::read_off` meets its contract: each return is the case of the definition that the tests before it left, and the destination is written after the last of them.
 -- Assumes nothing.
-use mathlib.Core.Path.{_≡_, refl, sym, ap, _∙_}
-use Prim.Native.Nat.{_/_}
+use mathlib.Core.Path.{refl, sym, _∙_}
 use lib.ListN.{length}
-use Rattle.constraints.specs.ReadOff.{readTaps}
 use Rattle.checker.proofs.AnswerLaws.{is-table, batches, words-canonical}
-use Rattle.readoff.proofs.ReadAnswers.{by-table, by-length, by-size, by-judge, kept-old, kept-new}
+use Rattle.readoff.proofs.ReadAnswers.{by-table, by-length, by-size, by-judge, turned-back, read}
 use native.Mathlib.Omega.{arith}
 use borrow.Author.Needs.{needs}
 use Rattle.readoff.proofs.read_off.Statement.{statement}
@@ -28,7 +26,7 @@ returns c =
     let d = c .before .before .before in
     let a = d .before .before .before .before .args in
     let p = by-table (a .table .now) (a .trace .now) (a .claim) (length (a .destination .now)) (d .test .ensures) (c .before .enum-told2 .given .1) (c .after .ensures) in
-    (p .1, kept-old _ _ (p .0))
+    turned-back (a .table .now) (a .trace .now) (a .claim) (a .destination .now) (p .1) (p .0)
 
 trace-batches-requires : tie.Need-trace-batches-requires
 trace-batches-requires c κs = search needs
@@ -44,7 +42,9 @@ returns-2 c =
     let e = c .before .before in
     let d = e .before .before .before in
     let a = d .before .before .before .before .args in
-    (by-length (a .table .now) (a .trace .now) (a .claim) (length (a .destination .now)) (d .test .ensures) (e .before .enum-told .given .1) (e .trace-batches .ensures) (c .enum-told3 .given .1), refl)
+    turned-back (a .table .now) (a .trace .now) (a .claim) (a .destination .now)
+    (by-length (a .table .now) (a .trace .now) (a .claim) (length (a .destination .now)) (d .test .ensures) (e .before .enum-told .given .1) (e .trace-batches .ensures) (c .enum-told3 .given .1))
+    refl
 
 mul-if1 : tie.Need-mul-if1
 mul-if1 c =
@@ -62,7 +62,9 @@ returns-3 c =
     let e = f .before .before in
     let d = e .before .before .before in
     let a = d .before .before .before .before .args in
-    (by-size (a .table .now) (a .trace .now) (a .claim) (length (a .destination .now)) (d .test .ensures) (e .before .enum-told .given .1) (e .trace-batches .ensures) (f .counted .given .1) (c .if1 .taken), refl)
+    turned-back (a .table .now) (a .trace .now) (a .claim) (a .destination .now)
+    (by-size (a .table .now) (a .trace .now) (a .claim) (length (a .destination .now)) (d .test .ensures) (e .before .enum-told .given .1) (e .trace-batches .ensures) (f .counted .given .1) (c .if1 .taken))
+    refl
 
 judge-requires : tie.Need-judge-requires
 judge-requires c κs =
@@ -85,7 +87,9 @@ returns-4 c =
     let e = f .before .before in
     let d = e .before .before .before in
     let a = d .before .before .before .before .args in
-    (by-judge (a .table .now) (a .trace .now) (a .claim) (length (a .destination .now)) (d .test .ensures) (e .before .enum-told .given .1) (e .trace-batches .ensures) (f .counted .given .1) (j .before .if1 .left) (j .judge .ensures), kept-old _ _ (c .enum-told5 .given .1))
+    turned-back (a .table .now) (a .trace .now) (a .claim) (a .destination .now)
+    (by-judge (a .table .now) (a .trace .now) (a .claim) (length (a .destination .now)) (d .test .ensures) (e .before .enum-told .given .1) (e .trace-batches .ensures) (f .counted .given .1) (j .before .if1 .left) (j .judge .ensures))
+    (c .enum-told5 .given .1)
 
 back-ready-requires : tie.Need-back-ready-requires
 back-ready-requires c κs =
@@ -118,10 +122,11 @@ returns-5 c =
     let d = e .before .before .before in
     let a = d .before .before .before .before .args in
     let b = batches (length (a .trace .now)) (e .trace-batches .ensures) (f .counted .given .1) in
-    let k : f .counted .given .0 .0 ≡ length (a .trace .now) / 384 = omega (arith, b .0) in (
-      by-judge (a .table .now) (a .trace .now) (a .claim) (length (a .destination .now)) (d .test .ensures) (e .before .enum-told .given .1) (e .trace-batches .ensures) (f .counted .given .1) (j .before .if1 .left) (j .judge .ensures),
-      w .write-taps .ensures ∙ ap (readTaps (a .table .now) (a .trace .now)) k ∙ kept-new _ _ (w .before .before .before .before .enum-told4 .given .1),
-    )
+    read (a .table .now) (a .trace .now) (a .claim) (a .destination .now)
+    (by-judge (a .table .now) (a .trace .now) (a .claim) (length (a .destination .now)) (d .test .ensures) (e .before .enum-told .given .1) (e .trace-batches .ensures) (f .counted .given .1) (j .before .if1 .left) (j .judge .ensures))
+    _ (w .before .before .before .before .enum-told4 .given .1)
+    (b .0)
+    (w .write-taps .ensures)
 
 pub read-off-spec : {M : Type 1} → statement M
 read-off-spec =
