@@ -14,6 +14,7 @@ use Rattle.refusals.specs.declared.Digested.the-variants as digested
 use Rattle.refusals.specs.declared.Checked.{Checked}
 use Rattle.refusals.specs.declared.Checked.the-variants as checked
 use Rattle.export.specs.Code.{code, codeOf, answerCode, digestedCode, checkedCode, numberIn, constraintIn, rowIn, valueIn, decode, answerTold, digestedTold, checkedTold}
+use Rattle.export.proofs.Endings.{AnswerEnds, DigestedEnds, CheckedEnds}
 
 -- ---- the four parts
 module _ (number constraint row value : ℕ) where
@@ -76,29 +77,17 @@ decode-code (WrongKind i) h = rw (number-in 13 0 0 i (lit< tt), value-in 13 0 0 
 decode-code (WrongValue i) h = rw (number-in 14 0 0 i (lit< tt), value-in 14 0 0 i h)
 
 -- ---- answers within the bits
-abbrev pub AnswerInBits : Answer → Type 0
-AnswerInBits answer.Accepted = Unit
-AnswerInBits (answer.Refused r) = InBits r
-
-abbrev pub DigestedInBits : Digested → Type 0
-DigestedInBits (digested.Accepted d) = Unit
-DigestedInBits (digested.Refused r) = InBits r
-
-abbrev pub CheckedInBits : Checked → Type 0
-CheckedInBits (checked.Accepted tests) = tests < 2 ^ 28
-CheckedInBits (checked.Refused r) = InBits r
-
-pub decode-answer : (a : Answer) → AnswerInBits a → decode (answerCode a) ≡ answerTold a
+pub decode-answer : (a : Answer) → AnswerEnds InBits a → decode (answerCode a) ≡ answerTold a
 unfolding answerCode decode
 decode-answer answer.Accepted h = refl
 decode-answer (answer.Refused r) h = decode-code r h
 
-pub decode-digested : (a : Digested) → DigestedInBits a → decode (digestedCode a) ≡ digestedTold a
+pub decode-digested : (a : Digested) → DigestedEnds (λ d. Unit) InBits a → decode (digestedCode a) ≡ digestedTold a
 unfolding digestedCode decode
 decode-digested (digested.Accepted d) h = refl
 decode-digested (digested.Refused r) h = decode-code r h
 
-pub decode-checked : (a : Checked) → CheckedInBits a → decode (checkedCode a) ≡ checkedTold a
+pub decode-checked : (a : Checked) → CheckedEnds (λ tests. tests < 2 ^ 28) InBits a → decode (checkedCode a) ≡ checkedTold a
 unfolding checkedCode decode
 decode-checked (checked.Accepted tests) h = rw (number-in 0 0 0 tests (lit< tt), value-in 0 0 0 tests h)
 decode-checked (checked.Refused r) h = decode-code r h

@@ -13,14 +13,13 @@ use Rattle.refusals.specs.declared.Refusal.the-variants.{DestinationLength}
 use Rattle.refusals.specs.declared.Answer.{Answer}
 use Rattle.refusals.specs.declared.Digested.{Digested}
 use Rattle.refusals.specs.declared.Digested.the-variants.{Accepted, Refused}
-use Rattle.refusals.specs.Refusals.{answerKept, digestedAfter, digestedKept, checkedKept}
+use Rattle.refusals.specs.Refusals.{digestedAfter, digestedKept}
 use Rattle.table.specs.Table.{tableTest, Prepares}
 use Rattle.hash.specs.Answers.{forBatches, hashAnswer, chainAnswer}
 use Rattle.trace.specs.Trace.{trace}
 use Rattle.trace.specs.Answers.{buildAnswer}
-use Rattle.constraints.specs.ReadOff.{readTaps}
-use Rattle.readoff.specs.Answers.{readOffAnswer}
-use Rattle.board.specs.Board.{packAnswer, packed, unpackAnswer, tapsIn}
+use Rattle.readoff.specs.Answers.{readOffAnswer, readOffLeaves}
+use Rattle.board.specs.Board.{packAnswer, packLeaves, unpackAnswer, tapsIn}
 use Rattle.export.specs.Code.{answerCode, digestedCode, checkedCode}
 
 -- ---- a digest, and its destination
@@ -70,12 +69,12 @@ pub record BuildCall (T w : List ℕ) (code : ℕ) (old new output output′ : L
 -- Read-off: 1, 2, 4, 7, 8, 9, 10, 11
 pub record ReadOffCall (T t claim : List ℕ) (code : ℕ) (taps taps′ : List ℕ) : Type 0 where
   pub coded : code ≡ checkedCode (readOffAnswer T t claim (length taps))
-  pub list : taps′ ≡ checkedKept (readOffAnswer T t claim (length taps)) (readTaps T t (length t / 384)) taps
+  pub list : taps′ ≡ readOffLeaves T t claim taps
 
 -- Pack: 5, 8, 9, 6
 pub record PackCall (taps claim old : List ℕ) (code : ℕ) (new : List ℕ) : Type 0 where
   pub coded : code ≡ answerCode (packAnswer taps claim (length old))
-  pub file : new ≡ answerKept (packAnswer taps claim (length old)) (packed taps claim) old
+  pub file : new ≡ packLeaves taps claim old
 
 -- Unpack: 12 (below 4), word 0's 13 then 14, 12, 8, then each element's three kinds and its value. No list of taps has 0 words,
 -- so that the answer for such a destination stops at 8

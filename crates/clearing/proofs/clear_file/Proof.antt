@@ -10,7 +10,7 @@ use Rattle.words.specs.Words.{AllCanonical}
 use Rattle.refusals.specs.Refusals.{digestedKept}
 use Rattle.refusals.specs.declared.Digest.{Digest}
 use Rattle.refusals.specs.declared.Digested.the-variants.{Accepted}
-use Rattle.board.specs.Board.{tapsIn, unpackAnswer}
+use Rattle.board.specs.Board.{tapsIn, unpackAnswer, unpackLeaves}
 use Rattle.board.proofs.Round.{board-canonical}
 use Rattle.clearing.specs.Clearing.{Taps}
 use Rattle.clearing.proofs.Stages.{length-part, part-again, part-within, length-again, file-taps, file-board, file-cleared, file-refused}
@@ -47,7 +47,11 @@ answered u = u .unpack .ensures .0 ∙ ap (unpackAnswer (file u)) (length-part (
 
 -- the part that is lent on holds the file's taps
 taps-there : (u : tie.After-unpack) (d : Digest) → u .unpack .result ≡ Accepted d → take (size u) (last u ++ drop (size u) (room u)) ≡ tapsIn (file u)
-taps-there u d q = part-again (room u) (last u) (size u) (fits u) (kept u) ∙ u .unpack .ensures .1 ∙ ap (λ a. digestedKept a (tapsIn (file u)) (take (size u) (room u))) q
+unfolding unpackLeaves
+taps-there u d q =
+    part-again (room u) (last u) (size u) (fits u) (kept u)
+    ∙ u .unpack .ensures .1
+    ∙ ap (λ a. digestedKept a (tapsIn (file u)) (take (size u) (room u))) (sym (u .unpack .ensures .0) ∙ q)
 
 tap-words-requires : tie.Need-tap-words-requires
 tap-words-requires c κs = search needs

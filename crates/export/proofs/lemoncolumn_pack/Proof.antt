@@ -18,7 +18,7 @@ same-length c = search needs
 returns : tie.Need-returns
 returns c =
     let called = c .before .before .before .pack .ensures in
-    record { coded = c .answer-code .ensures ∙ ap answerCode (called .0); file = rw (called .0) at (called .1) }
+    record { coded = c .answer-code .ensures ∙ ap answerCode (called .0); file = called .1 }
 
 pub lemoncolumn-pack-spec : {M : Type 1} → statement M
 lemoncolumn-pack-spec = tie.close (tie.spec pack-requires answer-code-requires same-length returns)

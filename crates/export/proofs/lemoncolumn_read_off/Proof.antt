@@ -18,7 +18,7 @@ same-length c = search needs
 returns : tie.Need-returns
 returns c =
     let called = c .before .before .before .read-off .ensures in
-    record { coded = c .checked-code .ensures ∙ ap checkedCode (called .0); list = rw (called .0) at (called .1) }
+    record { coded = c .checked-code .ensures ∙ ap checkedCode (called .0); list = called .1 }
 
 pub lemoncolumn-read-off-spec : {M : Type 1} → statement M
 lemoncolumn-read-off-spec =

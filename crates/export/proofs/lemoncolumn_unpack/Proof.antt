@@ -2,6 +2,7 @@
 -- Assumes nothing.
 use mathlib.Core.Path.{ap, _∙_}
 use borrow.Author.Needs.{needs}
+use Rattle.board.specs.Board.{unpackLeaves}
 use Rattle.export.specs.Code.{digestedCode}
 use Rattle.export.specs.Calls.{unpackCall}
 use Rattle.export.proofs.Answers.{told-stopped, told-as, into-four, not-into-four, no-list-refuses, list-kept}
@@ -44,11 +45,14 @@ same-length-3 : tie.Need-same-length-3
 same-length-3 c = search needs
 
 returns-2 : tie.Need-returns-2
-unfolding unpackCall
+unfolding unpackCall unpackLeaves
 returns-2 c =
     let called = c .before .before .before .before .before .before in
-    let same = called .unpack2 .ensures .0 ∙ into-four _ _ _ (called .before .before .if1 .left) in
-    record { told = told-as _ _ _ _ _ same (c .before .before .hand-over .ensures); list = rw same at (called .unpack2 .ensures .1) }
+    let full = into-four _ _ _ (called .before .before .if1 .left) in
+    record {
+      told = told-as _ _ _ _ _ (called .unpack2 .ensures .0 ∙ full) (c .before .before .hand-over .ensures);
+      list = rw full at (called .unpack2 .ensures .1);
+    }
 
 pub lemoncolumn-unpack-spec : {M : Type 1} → statement M
 lemoncolumn-unpack-spec =
