@@ -2,7 +2,7 @@
 -- Assumes nothing.
 use mathlib.Core.Path.{_≡_, refl, sym, ap, _∙_, subst}
 use mathlib.Core.List.{List}
-use mathlib.Core.Logic.{_⊎_, inl, inr}
+use mathlib.Core.Logic.{_⊎_, _↔_, inl, inr}
 use Prim.Native.Nat.{ℕ, _+_, _*_, _/_}
 use native.Mathlib.Omega.{arith}
 use lib.ListN.{length}
@@ -10,48 +10,66 @@ use Rattle.words.specs.Words.{AllCanonical}
 use Rattle.counts.specs.Counts.{IsPermitted}
 use Rattle.refusals.specs.Refusals.{checkedKept}
 use Rattle.refusals.specs.declared.Refusal.the-variants.{Constraint}
+use Rattle.refusals.specs.declared.Answer.the-variants as answer
 use Rattle.refusals.specs.declared.Checked.{Checked}
 use Rattle.refusals.specs.declared.Checked.the-variants.{Accepted, Refused}
-use Rattle.table.specs.Table.{IsTable}
+use Rattle.table.specs.Table.{tableTest, IsTable}
+use Rattle.table.proofs.Theorems.{test-sound}
 use Rattle.constraints.specs.Constraints.{tests, verdict}
 use Rattle.constraints.specs.ReadOff.{readTaps}
 use Rattle.constraints.specs.FirstFailing.{IsFirstFailing}
 use Rattle.checker.specs.Answers.{checkAnswer}
 use Rattle.checker.proofs.Theorems.{check-verdict}
-use Rattle.readoff.specs.Answers.{readOffAnswer}
+use Rattle.readoff.specs.Answers.{readOffAnswer, readOffLeaves}
 use Rattle.readoff.proofs.Theorems.{same-for}
 use Rattle.exact.specs.Exact.{IsListFor}
 use Rattle.exact.proofs.Exactness as exact
-use Rattle.demands.specs.Demands.{Demand3}
+use Rattle.demands.specs.Demand3.{Exact, Demand3}
 
-module _ (T t claim : List ℕ) (k : ℕ) (table : IsTable T) (permitted : IsPermitted k) (size : length t ≡ 384 * k) (canonical : AllCanonical t) (claim-size : length claim ≡ 4) (claim-canonical : AllCanonical claim) where
+-- what no earlier refusal turns back
+module _ (T t claim : List ℕ) (k : ℕ) (table : IsTable T) (permitted : IsPermitted k) (size : length t ≡ 384 * k) (canonical : AllCanonical t)
+    (claim-size : length claim ≡ 4) (claim-canonical : AllCanonical claim) where
   checks : checkAnswer T t claim ≡ verdict T t claim k
   checks = check-verdict T t claim k table permitted size canonical claim-size claim-canonical
 
   agrees : readOffAnswer T t claim (12 * k + 4) ≡ checkAnswer T t claim
   agrees = same-for T t claim k size
 
-  batches : length t / 384 ≡ k
-  batches = omega (arith, size)
+  accepts-exactly : (checkAnswer T t claim ≡ Accepted (372 * k)) ↔ ((w : List ℕ) × IsListFor T t claim k w)
+  accepts-exactly =
+      let e = exact.accepts-exactly T t claim k table permitted size canonical claim-size in
+      (λ a. e .0 (sym checks ∙ a), λ w. checks ∙ e .1 w)
 
-  decided : (v : Checked) → verdict T t claim k ≡ v → (verdict T t claim k ≡ Accepted (372 * k))
-      ⊎ ((i : ℕ) × (c : ℕ) × (n : ℕ) × (verdict T t claim k ≡ Refused (Constraint (record { 0 = i }) c n)) × IsFirstFailing T t claim (tests k) i c n)
-  decided (Accepted n) e = inl (e ∙ ap Accepted (exact.whole-order T t claim k table permitted size canonical claim-size n e .1))
-  decided (Refused r) e = inr (exact.first-failing T t claim k table permitted size canonical claim-size (λ a. let z : _≡_ {A = ℕ} 0 1 = cc in omega arith))
+  writes : (n : ℕ) (old : List ℕ) → length old ≡ 12 * k + 4 → readOffAnswer T t claim (length old) ≡ Accepted n → IsListFor T t claim k (readOffLeaves T t claim old)
+  unfolding readOffLeaves
+  writes n old l e =
+      let batches : length t / 384 ≡ k = omega (arith, size) in
+      let left = ap (λ (a : Checked). checkedKept a (readTaps T t (length t / 384)) old) e ∙ ap (readTaps T t) batches in
+      let walked = sym (ap (readOffAnswer T t claim) l ∙ agrees ∙ checks) ∙ e in
+      subst (IsListFor T t claim k) (sym left) (exact.reads-that-list T t claim k table permitted size canonical claim-size n walked)
 
-  pub demand-3 : Demand3 T t claim k
-  demand-3 = record {
-    accepts-exactly = (λ e. exact.accepts-exactly T t claim k table permitted size canonical claim-size .0 (sym checks ∙ e), λ w. checks ∙ exact.accepts-exactly T t claim k table permitted size canonical claim-size .1 w);
+  whole : (n : ℕ) → checkAnswer T t claim ≡ Accepted n → (n ≡ 372 * k) × (n ≡ length (tests k))
+  whole n e =
+      let o = exact.whole-order T t claim k table permitted size canonical claim-size n (sym checks ∙ e) in
+      (o .1, o .0)
+
+  decided : (v : Checked) → verdict T t claim k ≡ v → (checkAnswer T t claim ≡ Accepted (372 * k))
+      ⊎ ((i : ℕ) × (c : ℕ) × (n : ℕ) × (checkAnswer T t claim ≡ Refused (Constraint (record { 0 = i }) c n)) × IsFirstFailing T t claim (tests k) i c n)
+  decided (Accepted n) e = inl (checks ∙ e ∙ ap Accepted (whole n (checks ∙ e) .0))
+  decided (Refused r) e =
+      let f = exact.first-failing T t claim k table permitted size canonical claim-size (λ a. let z : _≡_ {A = ℕ} 0 1 = cc in omega arith) in
+      inr (f .0, f .1, f .2, checks ∙ f .3, f .4)
+
+  exactly : Exact T t claim k
+  exactly = record {
+    accepts-exactly = accepts-exactly;
     no-other = λ w v l s c e. sym (exact.one-list-a-trace T k table permitted w v (l .size) (l .canonical) s c (l .traced ∙ sym e));
     read-off-agrees = agrees;
-    read-off-writes = λ n old e. subst (IsListFor T t claim k) (sym (ap (λ (a : Checked). checkedKept a (readTaps T t (length t / 384)) old) e ∙ ap (readTaps T t) batches)) (exact.reads-that-list T t claim k table permitted size canonical claim-size n (sym (agrees ∙ checks) ∙ e));
-    whole-order = λ n e. (let o = exact.whole-order T t claim k table permitted size canonical claim-size n (sym checks ∙ e) in (o .1, o .0));
-    refused-by-11 = refused (decided (verdict T t claim k) refl);
+    read-off-writes = writes;
+    whole-order = whole;
+    refused-by-11 = decided (verdict T t claim k) refl;
   }
-    where
-      refused : (verdict T t claim k ≡ Accepted (372 * k))
-          ⊎ ((i : ℕ) × (c : ℕ) × (n : ℕ) × (verdict T t claim k ≡ Refused (Constraint (record { 0 = i }) c n)) × IsFirstFailing T t claim (tests k) i c n)
-          → (checkAnswer T t claim ≡ Accepted (372 * k))
-          ⊎ ((i : ℕ) × (c : ℕ) × (n : ℕ) × (checkAnswer T t claim ≡ Refused (Constraint (record { 0 = i }) c n)) × IsFirstFailing T t claim (tests k) i c n)
-      refused (inl e) = inl (checks ∙ e)
-      refused (inr f) = inr (f .0, f .1, f .2, checks ∙ f .3, f .4)
+
+-- ---- the demand
+pub demand-3 : Demand3
+demand-3 = record { exact = λ T t claim k table permitted size canonical four claim-canonical. exactly T t claim k (test-sound T table) permitted size canonical four claim-canonical }

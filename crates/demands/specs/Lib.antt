@@ -1,1 +1,3 @@
-pub mod Demands
+pub mod Demand1
+pub mod Demand2
+pub mod Demand3

@@ -1,0 +1,42 @@
+-- Demand 2 (document 00): hash, chain and trace are those of the Rescue STARK documentation 1.0 for every accepted table; reading off a built trace,
+-- under the output its building returned, yields the taps that it was built from; a packed board file unpacks to its taps and claim, and an accepted
+-- file packs to the same bytes.
+-- Assumes nothing.
+use mathlib.Core.Path.{_≡_}
+use mathlib.Core.List.{List, _++_}
+use Prim.Native.Nat.{ℕ, _+_, _*_, _/_}
+use lib.ListN.{length}
+use Rattle.words.specs.Words.{AllCanonical}
+use Rattle.counts.specs.Counts.{IsPermitted}
+use Rattle.refusals.specs.Refusals.{digest}
+use Rattle.refusals.specs.declared.Answer.the-variants as answer
+use Rattle.refusals.specs.declared.Digest.{Digest}
+use Rattle.refusals.specs.declared.Digested.the-variants.{Accepted}
+use Rattle.refusals.specs.declared.Checked.the-variants as checked
+use Rattle.table.specs.Table.{tableTest}
+use Rattle.hash.specs.Hash.{hash, chain}
+use Rattle.hash.specs.Answers.{hashAnswer, chainAnswer}
+use Rattle.trace.specs.Trace.{trace}
+use Rattle.trace.specs.Answers.{buildAnswer, buildLeaves}
+use Rattle.readoff.specs.Answers.{readOffAnswer, readOffLeaves}
+use Rattle.fileword.specs.Words.{AllBytes}
+use Rattle.board.specs.Board.{packAnswer, packLeaves, unpackAnswer, unpackLeaves, claimOf}
+
+pub record Demand2 : Type 0 where
+  -- for every accepted table and permitted k, hash, chain and trace of canonical words are those of the definitions
+  pub hashes : (T a b : List ℕ) → tableTest T ≡ answer.Accepted → length a ≡ 4 → AllCanonical a → length b ≡ 4 → AllCanonical b
+      → hashAnswer T (a ++ b) ≡ Accepted (digest (hash T a b))
+  pub chains : (T w : List ℕ) (k : ℕ) → tableTest T ≡ answer.Accepted → IsPermitted k → length w ≡ 12 * k + 4 → AllCanonical w
+      → chainAnswer T w ≡ Accepted (digest (chain T w k))
+  pub builds : (T w old : List ℕ) (k : ℕ) → tableTest T ≡ answer.Accepted → IsPermitted k → length w ≡ 12 * k + 4 → AllCanonical w → length old ≡ 384 * k
+      → (buildAnswer T w (length old) ≡ Accepted (digest (chain T w k))) × (buildLeaves T w old ≡ trace T w k)
+  -- a trace that Build wrote into old, read off under the output d that it returned
+  pub reads-back : (T w old room : List ℕ) (d : Digest) → buildAnswer T w (length old) ≡ Accepted d → length room ≡ length w
+      → (readOffAnswer T (buildLeaves T w old) (claimOf d) (length room) ≡ checked.Accepted (372 * (length w / 12)))
+      × (readOffLeaves T (buildLeaves T w old) (claimOf d) room ≡ w)
+  -- a file that Pack wrote into old, unpacked
+  pub unpacks : (w claim old room : List ℕ) → length claim ≡ 4 → packAnswer w claim (length old) ≡ answer.Accepted → length room ≡ length w
+      → (unpackAnswer (packLeaves w claim old) (length room) ≡ Accepted (digest claim)) × (unpackLeaves (packLeaves w claim old) room ≡ w)
+  -- a file that Unpack accepted with the claim d, packed from the taps that it left in old
+  pub packs : (file old room : List ℕ) (d : Digest) → AllBytes file → unpackAnswer file (length old) ≡ Accepted d → length room ≡ length file
+      → (packAnswer (unpackLeaves file old) (claimOf d) (length room) ≡ answer.Accepted) × (packLeaves (unpackLeaves file old) (claimOf d) room ≡ file)
