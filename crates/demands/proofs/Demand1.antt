@@ -27,15 +27,14 @@ use Rattle.table.specs.Table.{Prepares}
 use Rattle.table.proofs.Theorems.{prepares-some, prepares-unique, refused-kept}
 use Rattle.hash.specs.Hash as rescue
 use Rattle.hash.proofs.Inputs.{hash-tap, output-tap}
-use Rattle.hash.specs.Answers.{hashAnswer, chainAnswer}
 use Rattle.trace.specs.Trace.{trace}
-use Rattle.trace.specs.Answers.{buildAnswer, buildLeaves}
+use Rattle.trace.specs.Answers.{buildLeaves}
 use Rattle.constraints.specs.ReadOff.{readTaps}
 use Rattle.checker.specs.Answers.{checkAnswer}
 use Rattle.readoff.specs.Answers.{readOffAnswer, readOffLeaves}
-use Rattle.board.specs.Board.{packAnswer, packed, packLeaves, unpackAnswer, tapsIn, claimIn, unpackLeaves, claimOf}
+use Rattle.board.specs.Board.{packAnswer, packed, packLeaves, tapsIn, claimIn, unpackLeaves, claimOf}
 use Rattle.board.proofs.Round.{claim-is}
-use Rattle.export.specs.Code.{decode, answerCode, digestedCode, checkedCode, answerTold, digestedTold, checkedTold}
+use Rattle.export.specs.Code.{decode, checkedCode, answerTold, digestedTold, checkedTold}
 use Rattle.export.specs.Calls.{written, Told, PrepareCall, hashCall, chainCall, buildCall, BuildCall, ReadOffCall, PackCall, unpackCall, UnpackCall}
 use Rattle.export.proofs.Endings as ends
 use Rattle.export.proofs.Endings.{AnswerEnds, DigestedEnds, CheckedEnds, TableCauses}

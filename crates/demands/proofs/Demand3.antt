@@ -10,10 +10,9 @@ use Rattle.words.specs.Words.{AllCanonical}
 use Rattle.counts.specs.Counts.{IsPermitted}
 use Rattle.refusals.specs.Refusals.{checkedKept}
 use Rattle.refusals.specs.declared.Refusal.the-variants.{Constraint}
-use Rattle.refusals.specs.declared.Answer.the-variants as answer
 use Rattle.refusals.specs.declared.Checked.{Checked}
 use Rattle.refusals.specs.declared.Checked.the-variants.{Accepted, Refused}
-use Rattle.table.specs.Table.{tableTest, IsTable}
+use Rattle.table.specs.Table.{IsTable}
 use Rattle.table.proofs.Theorems.{test-sound}
 use Rattle.constraints.specs.Constraints.{tests, verdict}
 use Rattle.constraints.specs.ReadOff.{readTaps}

@@ -1,7 +1,7 @@
 -- How each operation, and each call from another language, can end: with which results and with which refusals, and what is known there of what was
 -- lent. Q is any property of refusals and R any property of results; from what each test of an order leaves to be shown, the answer has them.
 -- Assumes nothing.
-use mathlib.Core.Path.{_≡_, refl, sym, subst, _∙_}
+use mathlib.Core.Path.{_≡_, refl, subst}
 use mathlib.Core.Bool.{Bool, true, false}
 use mathlib.Core.List.{List}
 use Prim.Native.Nat.{ℕ, zero, suc, _+_, _*_, _<_, _≤_}
