@@ -77,11 +77,21 @@ awk 'FNR == 1 { fence = 0 } /^```/ { fence = !fence; next }
 # ---- theorems: those of section 1, and where a row of a table ends in the file that has them
 declared='^ *(pub )?(unfoldable |abbrev )?'
 awk 'function each(file, cell) { m = split(cell, word, "`"); for (i = 2; i <= m; i += 2) print file, word[i] }
-    /^\| [123] \|/ { split($0, part, / \| /); each("crates/demands/specs/Demands.antt", part[3]) }
+    /^\| [123] \|/ { split($0, part, / \| /); each("crates/demands/specs/Demand" substr($0, 3, 1) ".antt", part[3]) }
     /^\|.*\| `crates\/[^`]*\.antt` \|$/ { n = split($0, part, / \| /); file = part[n]; gsub(/[`| ]/, "", file); each(file, part[n - 1]) }' README.md "$page" |
     while read -r file name; do
         [ ! -e "$file" ] || grep -qE "$declared$name :" "$file" || wrong "$file has no $name"
     done
+
+# ---- the demands, to the letter: each statement is closed and stands in specs/, and each theorem is of that type, with no parameter and in no section
+for n in 1 2 3; do
+    stated=crates/demands/specs/Demand$n.antt
+    proved=crates/demands/proofs/Demand$n.antt
+    [ "$(grep -cx "pub record Demand$n : Type 0 where" "$stated")" = 1 ] || wrong "$stated does not declare 'pub record Demand$n : Type 0 where'"
+    [ "$(grep -cx "pub demand-$n : Demand$n" "$proved")" = 1 ] || wrong "$proved does not declare 'pub demand-$n : Demand$n'"
+    grep -qE "^use Rattle\.demands\.specs\.Demand$n\.\{(.*, )?Demand$n\}$" "$proved" || wrong "$proved does not take Demand$n from $stated"
+    ! grep -nE "^ *(pub |abbrev |unfoldable |record |data )*Demand$n( |\$)" "$proved" || wrong "$proved declares a Demand$n of its own"
+done
 
 # ---- section 4, a line for each edit: the edit, the fact and where it stands, then the theorems. What the prover said of an edit is there after
 # `rt must-fail` or the gate has tried it
