@@ -1,9 +1,11 @@
 #!/bin/sh
-# Clears folders of boards made here in the two ways of the README, "Many boards": with examples/rust/folder.rs, and with
-# the program under xargs, by the README's own command. Each line must be document 01's, so that both say the same of each
-# board. Also sums, exit statuses, and what is said where something cannot be read. Stops at the first difference.
+# Clears folders of boards made here in the two ways of the README, "Many boards": with examples/rust/folder.rs, and
+# with the program under xargs, by the README's own command. Each line must be document 01's, so that both say the same of
+# each board. Also sums, exit statuses, and what is said where something cannot be read. Stops at the first difference.
 set -eu
 cd "$(dirname "$0")/.."
+
+rt staticlib export
 
 root=$PWD
 work=$(mktemp -d)
@@ -105,8 +107,7 @@ says 'zero.raw: refused 3' zero.raw boards
 { Z; zeros 1; } >long.raw
 says 'long.raw: refused 1' long.raw boards
 
-# ---- the same folder by the README's command. Every board has its line, also where there is no verdict on it: the table
-# cannot be read, or the program is stopped
+# ---- the same folder by the README's command, whose lines must be those of $1; $2 says what is tried
 by_readme() {
     sh -eu "$work/fresh/many.sh" 2>errors
     sort "$1" | diff - lines || fail "$2: the lines of the README's command are not those expected"
@@ -117,10 +118,16 @@ cp "$root/target/bin/clear" target/bin/clear
 by_readme boards.program 'all boards'
 [ ! -s errors ] || fail "the README's command, on standard error: $(cat errors)"
 
+# Every board has its line, also where there is no verdict on it: the table is not there, the board cannot be read (a cat
+# that fails after the table stands for that, since every file can be read as root), or the program is stopped.
 sed 's/: .*/: no answer/' boards.program >boards.unanswered
 mv table.raw away.raw
 by_readme boards.unanswered 'no table'
 mv away.raw table.raw
+mkdir failing
+printf '#!/bin/sh\n%s\nexit 1\n' "$(command -v cat)" >failing/cat
+chmod +x failing/cat
+(PATH=$PWD/failing:$PATH by_readme boards.unanswered 'boards that cannot be read')
 printf '#!/bin/sh\nkill -9 $$\n' >target/bin/clear
 by_readme boards.unanswered 'a program that is stopped'
 

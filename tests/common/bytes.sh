@@ -1,4 +1,4 @@
-# Bytes, tables and board files of document 01, for the scripts of tests/, which read this file. It is no test by itself.
+# Bytes, tables and board files of document 01, for the scripts of tests/ to read in. No test by itself.
 # $work is a folder of the script's own.
 
 # ---- bytes
