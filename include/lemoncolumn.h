@@ -2,9 +2,10 @@
  *
  * Link with libexport.a, which `rt staticlib export` writes to target/staticlib/ (x86-64 Linux).
  *
- * Every call answers for any words and any lengths. What it needs is that each pointer is valid for the length beside it
- * (not null, aligned for its type, also where the length is 0), and that what a call writes overlaps nothing else that is lent to it.
- * A refused call leaves every lent buffer as it was.
+ * Every call answers for any words and any lengths. What it needs is that each pointer is valid for the length beside
+ * it (not null, aligned for its type, also where the length is 0), that what a call writes overlaps nothing else that is
+ * lent to it, and that lent memory does not change during a call: no other thread writes to it, nor reads what the call
+ * writes. Calls at the same time may share what they only read. A refused call leaves every lent buffer as it was.
  *
  * A word is an unsigned 64-bit number, canonical when below LEMONCOLUMN_P. k is a permitted batch count: 1, 2, 4, .., 1024. */
 #ifndef LEMONCOLUMN_H
@@ -98,7 +99,24 @@ static inline uint64_t lemoncolumn_row(lemoncolumn_code code)
     return code >> 12 & 0xffffff;
 }
 
-/* Bits 36 to 63: the index, of refusals 2, 4, 6, 9, 10, 13 and 14. */
+/* Whether an index comes with the number. 11 has row, constraint and tests instead; any other number stands alone. */
+static inline int lemoncolumn_has_index(lemoncolumn_code code)
+{
+    switch (lemoncolumn_number(code)) {
+    case LEMONCOLUMN_TABLE_WORD:
+    case LEMONCOLUMN_WRONG_INVERSE:
+    case LEMONCOLUMN_TAP_WORD:
+    case LEMONCOLUMN_CLAIM_WORD:
+    case LEMONCOLUMN_TRACE_WORD:
+    case LEMONCOLUMN_WRONG_KIND:
+    case LEMONCOLUMN_WRONG_VALUE:
+        return 1;
+    default:
+        return 0;
+    }
+}
+
+/* Bits 36 to 63: the index, where lemoncolumn_has_index says that there is one. */
 static inline uint64_t lemoncolumn_index(lemoncolumn_code code)
 {
     return code >> 36;

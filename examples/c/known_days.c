@@ -4,19 +4,35 @@
 #include <inttypes.h>
 #include <stdio.h>
 
+/* The refusal, then its place if there is one. */
+static void show_refusal(lemoncolumn_code code)
+{
+    printf("refused %d", (int)lemoncolumn_number(code));
+    if (lemoncolumn_number(code) == LEMONCOLUMN_CONSTRAINT)
+        printf(" %" PRIu64 " %" PRIu64, lemoncolumn_row(code), lemoncolumn_constraint(code));
+    else if (lemoncolumn_has_index(code))
+        printf(" %" PRIu64, lemoncolumn_index(code));
+    printf("\n");
+}
+
+/* The answer of a call that tests no trace. */
 static void show(const char *day, lemoncolumn_code code)
 {
-    printf("%s:", day);
-    switch (lemoncolumn_number(code)) {
-    case LEMONCOLUMN_ACCEPTED:
-        printf(" accepted %" PRIu64 "\n", lemoncolumn_tests(code));
-        break;
-    case LEMONCOLUMN_CONSTRAINT:
-        printf(" refused 11 %" PRIu64 " %" PRIu64 "\n", lemoncolumn_row(code), lemoncolumn_constraint(code));
-        break;
-    default:
-        printf(" refused %d %" PRIu64 "\n", (int)lemoncolumn_number(code), lemoncolumn_index(code));
-    }
+    printf("%s: ", day);
+    if (lemoncolumn_number(code) == LEMONCOLUMN_ACCEPTED)
+        printf("accepted\n");
+    else
+        show_refusal(code);
+}
+
+/* The answer of check or read-off, which return the tests walked when they accept. */
+static void show_tests(const char *day, lemoncolumn_code code)
+{
+    printf("%s: ", day);
+    if (lemoncolumn_number(code) == LEMONCOLUMN_ACCEPTED)
+        printf("accepted %" PRIu64 "\n", lemoncolumn_tests(code));
+    else
+        show_refusal(code);
 }
 
 static void show_words(const char *day, const uint64_t *words)
@@ -58,14 +74,15 @@ static void traces(const uint64_t *z)
     show("zero taps built",
          lemoncolumn_build(z, LEMONCOLUMN_TABLE_WORDS, taps, LEMONCOLUMN_TAP_WORDS(1), trace, LEMONCOLUMN_TRACE_WORDS(1), out,
                            LEMONCOLUMN_DIGEST_WORDS));
-    show("checked", lemoncolumn_check(z, LEMONCOLUMN_TABLE_WORDS, trace, LEMONCOLUMN_TRACE_WORDS(1), 0, 0, 0, 0));
-    show("claim (1,0,0,0)", lemoncolumn_check(z, LEMONCOLUMN_TABLE_WORDS, trace, LEMONCOLUMN_TRACE_WORDS(1), 1, 0, 0, 0));
+    show_tests("checked", lemoncolumn_check(z, LEMONCOLUMN_TABLE_WORDS, trace, LEMONCOLUMN_TRACE_WORDS(1), 0, 0, 0, 0));
+    show_tests("claim (1,0,0,0)", lemoncolumn_check(z, LEMONCOLUMN_TABLE_WORDS, trace, LEMONCOLUMN_TRACE_WORDS(1), 1, 0, 0, 0));
     trace[12 * 11 + 5] = 1;
-    show("row 11 column 5", lemoncolumn_check(z, LEMONCOLUMN_TABLE_WORDS, trace, LEMONCOLUMN_TRACE_WORDS(1), 0, 0, 0, 0));
+    show_tests("row 11 column 5", lemoncolumn_check(z, LEMONCOLUMN_TABLE_WORDS, trace, LEMONCOLUMN_TRACE_WORDS(1), 0, 0, 0, 0));
     for (int row = 11; row <= 20; row++)
         trace[12 * row + 5] = 1;
-    show("column 5 of rows 11 to 20",
-         lemoncolumn_read_off(z, LEMONCOLUMN_TABLE_WORDS, trace, LEMONCOLUMN_TRACE_WORDS(1), 0, 0, 0, 0, taps, LEMONCOLUMN_TAP_WORDS(1)));
+    show_tests("column 5 of rows 11 to 20",
+               lemoncolumn_read_off(z, LEMONCOLUMN_TABLE_WORDS, trace, LEMONCOLUMN_TRACE_WORDS(1), 0, 0, 0, 0, taps,
+                                    LEMONCOLUMN_TAP_WORDS(1)));
     show_words("its w_2", taps + 8);
 }
 
@@ -84,6 +101,16 @@ static void files(void)
     show("word 7 of kind 0", lemoncolumn_unpack(file, sizeof file, taps, LEMONCOLUMN_TAP_WORDS(1), claim, LEMONCOLUMN_DIGEST_WORDS));
 }
 
+/* Document 01's table of refusals, as the header decodes it. */
+static void indices(void)
+{
+    printf("refusals with an index:");
+    for (lemoncolumn_code number = LEMONCOLUMN_ACCEPTED; number <= LEMONCOLUMN_WRONG_VALUE; number++)
+        if (lemoncolumn_has_index(number))
+            printf(" %" PRIu64, number);
+    printf("\n");
+}
+
 int main(void)
 {
     uint64_t z[LEMONCOLUMN_TABLE_WORDS], a[LEMONCOLUMN_TABLE_WORDS], s[LEMONCOLUMN_TABLE_WORDS];
@@ -95,5 +122,6 @@ int main(void)
     hashes(z, a, s);
     traces(z);
     files();
+    indices();
     return 0;
 }

@@ -1,8 +1,9 @@
 //! The functions of the proved library, as include/lemoncolumn.h declares them,
 //! for memory that is lent as pointers and not as slices. Each pointer must be
-//! valid and aligned for the length after it, not null even where that is 0, and
-//! what a call writes must overlap nothing else lent to it; nothing more is
-//! asked. [`crate::decode`] reads what they return.
+//! valid and aligned for the length after it, not null even where that is 0,
+//! what a call writes must overlap nothing else lent to it, and lent memory must
+//! not change during the call; nothing more is asked. [`crate::decode`] reads
+//! what they return.
 
 extern "C" {
     pub fn lemoncolumn_prepare(

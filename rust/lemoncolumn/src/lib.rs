@@ -6,8 +6,10 @@
 //! are canonical, that is, below [`P`].
 
 pub mod calls;
+mod files;
 mod refusal;
 
+pub use files::{batches, raw_table, MOST_BATCHES, RAW_BYTES};
 pub use refusal::{decode, Refusal};
 
 use calls::*;

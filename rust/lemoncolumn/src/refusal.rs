@@ -103,24 +103,39 @@ impl Refusal {
             Refusal::WrongValue { .. } => 14,
         }
     }
+
+    /// The index or cell that document 01 returns beside the number, if it does:
+    /// for 2, 4, 6, 9, 10, 13 and 14.
+    pub fn index(self) -> Option<u64> {
+        match self {
+            Refusal::TableWord { index }
+            | Refusal::TapWord { index }
+            | Refusal::ClaimWord { index }
+            | Refusal::TraceWord { index } => Some(index),
+            Refusal::WrongInverse { cell } => Some(cell),
+            Refusal::WrongKind { word } | Refusal::WrongValue { word } => Some(word),
+            Refusal::TableLength
+            | Refusal::NoInverse
+            | Refusal::TapLength
+            | Refusal::TraceLength
+            | Refusal::DestinationLength
+            | Refusal::Constraint { .. }
+            | Refusal::FileLength => None,
+        }
+    }
 }
 
 /// The number, then the place if there is one, as the program prints them.
 impl fmt::Display for Refusal {
     fn fmt(&self, out: &mut fmt::Formatter<'_>) -> fmt::Result {
         write!(out, "refused {}", self.number())?;
-        match *self {
-            Refusal::TableWord { index }
-            | Refusal::TapWord { index }
-            | Refusal::ClaimWord { index }
-            | Refusal::TraceWord { index } => write!(out, " {index}"),
-            Refusal::WrongInverse { cell } => write!(out, " {cell}"),
-            Refusal::WrongKind { word } | Refusal::WrongValue { word } => write!(out, " {word}"),
-            Refusal::Constraint {
-                row, constraint, ..
-            } => write!(out, " {row} {constraint}"),
-            _ => Ok(()),
+        if let Refusal::Constraint {
+            row, constraint, ..
+        } = self
+        {
+            write!(out, " {row} {constraint}")?;
         }
+        self.index().map_or(Ok(()), |index| write!(out, " {index}"))
     }
 }
 
