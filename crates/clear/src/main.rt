@@ -58,19 +58,13 @@ fn main() {
     let mut bytes = [0u8; clearing::LONGEST + 1];
     let input = read_all(&mut bytes);
     let Input::Whole(read) = input else {
-        io::write_all(
-            STDERR_FILENO,
-            b"clear: no answer: standard input cannot be read\n",
-        );
+        io::write_all(STDERR_FILENO, b"clear: standard input cannot be read\n");
         return;
     };
     let outcome = clearing::clear(&bytes[..read]);
     let mut line = [0u8; 80];
     let length = outcome::text(outcome, &mut line);
     if !io::write_all(STDOUT_FILENO, &line[..length]) {
-        io::write_all(
-            STDERR_FILENO,
-            b"clear: no answer: standard output cannot be written\n",
-        );
+        io::write_all(STDERR_FILENO, b"clear: standard output cannot be written\n");
     }
 }
