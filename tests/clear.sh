@@ -1,6 +1,7 @@
 #!/bin/sh
 # Runs the built program on inputs made here, and compares each line that it prints with the one that document 01 gives
-# ("The board file", "What is turned back", "Known days"; docs/DECISIONS.md, 9). Stops at the first difference, which it names.
+# ("The board file", "What is turned back", "Known days"; docs/DECISIONS.md, 9); then has its reads and writes fail, where
+# it prints no line. Stops at the first difference, which it names.
 set -eu
 cd "$(dirname "$0")/.."
 
@@ -27,6 +28,27 @@ expect() {
     eval "$3" >"$work/input"
     "$program" <"$work/input" >"$work/output"
     compare "$1" "$2"
+}
+
+# The program, started with the redirections $3, prints nothing; standard error gets the line $2. The exit status is 0:
+# the language has no other.
+no_answer() {
+    count=$((count + 1))
+    status=0
+    : >"$work/output"
+    eval "\"\$program\" $3" 2>"$work/error" || status=$?
+    [ ! -s "$work/output" ] || {
+        echo "tests/clear.sh: $1: there is no answer, and the program wrote '$(cat "$work/output")'" >&2
+        exit 1
+    }
+    printf '%s\n' "$2" | cmp -s - "$work/error" || {
+        echo "tests/clear.sh: $1: standard error should get '$2', and got '$(cat "$work/error")'" >&2
+        exit 1
+    }
+    [ "$status" -eq 0 ] || {
+        echo "tests/clear.sh: $1: the exit status is $status" >&2
+        exit 1
+    }
 }
 
 # ---- known days: the program's two lines, and the starred ones that an input can show
@@ -109,4 +131,29 @@ compare 'byte by byte' 'accepted 1 372'
 { Z; sleep 1; zero_file 1; } | "$program" >"$work/output"
 compare 'with a pause' 'accepted 1 372'
 
-echo "tests/clear.sh: $count inputs, each answered with its line"
+# ---- input that cannot be read, or not to its end
+unread='clear: standard input cannot be read'
+no_answer 'standard input is closed' "$unread" '<&- >"$work/output"'
+no_answer 'standard input is a directory' "$unread" '<"$work" >"$work/output"'
+# A pipe that does not wait: a read fails as soon as it is empty. Only some dd can set that.
+mkfifo "$work/pipe"
+exec 3<>"$work/pipe"
+if dd iflag=nonblock count=0 <&3 2>"$work/dd"; then
+    no_answer 'a pipe that fails at once' "$unread" '<&3 >"$work/output"'
+    { Z; word 1; } >&3
+    no_answer 'a pipe that fails after 3172 bytes' "$unread" '<&3 >"$work/output"'
+    { Z; zero_file 1; } >&3
+    no_answer 'a pipe that fails after a table and a file' "$unread" '<&3 >"$work/output"'
+    { Z; zero_file 32; } >&3
+    "$program" <&3 >"$work/output"
+    compare 'a pipe that fails after 7876 bytes, of which 5573 are read' 'too long'
+fi
+exec 3>&-
+
+# ---- a line that cannot be written
+unwritten='clear: standard output cannot be written'
+no_answer 'standard output is closed' "$unwritten" '<"$work/input" >&-'
+[ ! -c /dev/full ] || no_answer 'standard output is full' "$unwritten" '<"$work/input" >/dev/full'
+no_answer 'standard input and output are closed' "$unread" '<&- >&-'
+
+echo "tests/clear.sh: $count inputs, each answered with its line, or with none where a read or a write fails"
