@@ -40,11 +40,12 @@ for library in export probes; do
 done
 
 # ---- edits: each error stands in a proof, and shows a fact that fails or follows from one; at least one shows it. What an edit changes is itself in
-# order: an error in src/ or specs/ is none of a fact. An error in the closing `..-spec` of a proof says that the needs are others than they were
+# order: an error in src/ or specs/ shows no fact. An error in the closing `..-spec` of a proof says that the needs are others than they were
 for edit in crates/*/must-fail/*.edit; do
     crate=${edit#crates/}
     crate=${crate%%/*}
     where=target/must-fail/$crate/$(basename "$edit" .edit)
+    ! grep -q '^file: proofs/' "$edit" || echo "$edit alters a proof, which shows nothing" >>"$work/wrong"
     [ -f "$where/.log" ] || { echo "$edit was not tried: there is no $where/.log" >>"$work/wrong" && continue; }
     awk -v where="$where" '
         function judge() {

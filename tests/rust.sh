@@ -15,7 +15,7 @@ for manifest in rust/*/Cargo.toml; do
         $1 == "Running" { target = $2 == "unittests" ? $3 : $2; sub(/^tests\//, "", target); sub(/\.rs$/, "", target) }
         $1 == "Doc-tests" { target = "doc" }
         /^test .* \.\.\. ok$/ { sub(/^test /, ""); sub(/ \.\.\. ok$/, ""); print crate, target, $0 }' "$work/out" >>"$work/ran"
-    grep '^test result: ' "$work/out" >>"$work/results"
+    grep '^test result: ' "$work/out" >>"$work/results" || :
 done
 
 LC_ALL=C sort "$work/ran" >"$work/sorted"
