@@ -2,10 +2,9 @@
 # Clears folders of boards made here in the two ways of the README, "Many boards": with examples/rust/folder.rs, and
 # with the program under xargs, by the README's own command. Each line must be document 01's, so that both say the same of
 # each board. Also sums, exit statuses, and what is said where something cannot be read. Stops at the first difference.
+# Needs the static library, which tests/library.sh builds, and the program.
 set -eu
 cd "$(dirname "$0")/.."
-
-rt staticlib export
 
 root=$PWD
 work=$(mktemp -d)
