@@ -1,44 +1,121 @@
 -- The starred known days hold: by computing, but for the one that speaks of every first tap.
+-- The table test is not computed again for each of them.
 -- Assumes nothing.
-use mathlib.Core.Path.{refl}
-use mathlib.Core.List.{[], _∷_}
-use Prim.Native.Nat.{zero, suc}
+use mathlib.Core.Path.{_≡_, refl, sym, ap, ap₂, _∙_}
+use mathlib.Core.List.{List, [], _∷_, _++_}
+use Prim.Native.Nat.{ℕ, zero, suc}
 use native.Mathlib.Omega.{arith}
-use Rattle.lists.specs.Lists.{tab, sum}
-use Rattle.words.specs.Words.{AllCanonical}
+use lib.Count.{ones}
+use lib.ListN.{length, take, drop, replicate}
+use lib.Seq.{take-at, drop-at}
+use Rattle.lists.specs.Lists.{tab, sum, first}
+use Rattle.words.specs.Words.{AllCanonical, firstBad}
+use Rattle.words.proofs.Laws.{all-good, append-canonical}
 use Rattle.field.specs.Field.{halving, power, root}
+use Rattle.counts.specs.Counts.{tapBatches, traceBatches}
 use Rattle.matrix.specs.Matrix.{timesColumn, times}
-use Rattle.table.specs.Table.{matrixOf, inverseOf, constant}
+use Rattle.refusals.specs.Refusals.{digest, digestedAfter, checkedAfter, checkedKept}
+use Rattle.refusals.specs.declared.Answer.the-variants as answer
+use Rattle.refusals.specs.declared.Digested.{Digested}
+use Rattle.refusals.specs.declared.Digested.the-variants.{Accepted}
+use Rattle.refusals.specs.declared.Checked.{Checked}
+use Rattle.refusals.specs.declared.Checked.the-variants as checked
+use Rattle.table.specs.Table.{matrixOf, inverseOf, constant, tableTest}
 use Rattle.hash.specs.Hash.{roots, cubes, plus, mix, firstStep, secondStep, stateAt, finalState, input, hash, tap, outputAt, chain}
+use Rattle.hash.specs.Answers.{forBatches, forTaps, hashAnswer, chainAnswer}
+use Rattle.hash.proofs.Answers.{taps-accepted}
+use Rattle.hash.proofs.Inputs.{IsTap}
 use Rattle.constraints.specs.Constraints.{row, forward, minus, backStep, back, applies, holds, rowTests, testsFrom, tests, walk, verdict}
 use Rattle.constraints.specs.ReadOff.{readInput, readWord, readTaps}
-use Rattle.knowndays.specs.Days.{shifted, Z, A, zeroTrace, altered, tapped, zeros, KnownDays}
+use Rattle.checker.specs.Answers.{judged, traceAfter, checkAnswer}
+use Rattle.readoff.specs.Answers.{readOffAnswer, readOffLeaves}
+use Rattle.readoff.proofs.Theorems.{same-for}
+use Rattle.knowndays.specs.Days.{shifted, Z, A, S, zeroTrace, altered, tapped, zeros, KnownDays}
 use Rattle.knowndays.proofs.Shift.{hash-gives-second}
+use Rattle.knowndays.proofs.Tables.{accepted-Z, accepted-A, accepted-S}
 
-small : AllCanonical (5 ∷ 6 ∷ 7 ∷ 9 ∷ [])
+-- ---- what is answered once the table is accepted
+module _ (T : List ℕ) (table : tableTest T ≡ answer.Accepted) where
+  hashed : (words : List ℕ) {d : Digested}
+      → forTaps words (Accepted (digest (hash T (take 4 words) (drop 4 words)))) ≡ d → hashAnswer T words ≡ d
+  unfolding hashAnswer
+  hashed words {d} e = ap₂ digestedAfter table e
+
+  chained : (w : List ℕ) {d : Digested}
+      → forBatches (tapBatches (length w)) (λ k. forTaps w (Accepted (digest (chain T w k)))) ≡ d → chainAnswer T w ≡ d
+  unfolding chainAnswer
+  chained w {d} e = ap₂ digestedAfter table e
+
+  judges : (t claim : List ℕ) {a : Checked}
+      → traceAfter (traceBatches (length t)) (judged T t claim) ≡ a → checkAnswer T t claim ≡ a
+  unfolding checkAnswer
+  judges t claim {a} e = ap₂ checkedAfter table e
+
+-- ---- S: the second tap comes back, whatever the first is
+abbrev second : List ℕ
+second = 5 ∷ 6 ∷ 7 ∷ 9 ∷ []
+
+small : AllCanonical second
 small zero h = omega arith
 small (suc zero) h = omega arith
 small (suc (suc zero)) h = omega arith
 small (suc (suc (suc zero))) h = omega arith
 small (suc (suc (suc (suc i)))) h = absurd (omega arith)
 
+hash-S : (a : List ℕ) → length a ≡ 4 → AllCanonical a → hashAnswer S (a ++ second) ≡ Accepted (digest second)
+hash-S a size h =
+    hashed S accepted-S w
+    (sym (taps-accepted w (firstBad w) refl _ (all-good w (append-canonical a second h small)))
+    ∙ ap₂ (λ x y. Accepted (digest (hash S x y))) (take-at a second 4 size) (drop-at a second 4 size)
+    ∙ ap (λ s. Accepted (digest s)) (hash-gives-second a second first-tap second-tap))
+  where
+    w : List ℕ
+    w = a ++ second
+
+    first-tap : IsTap a
+    first-tap = record { size = size; canonical = h }
+
+    second-tap : IsTap second
+    second-tap = record { size = refl; canonical = small }
+
+-- ---- the tapped trace
+tapped-accepted : checkAnswer Z tapped zeros ≡ checked.Accepted 372
+unfolding ones tab sum first firstBad timesColumn times matrixOf inverseOf constant cubes plus mix secondStep row forward minus backStep back applies holds rowTests testsFrom tests walk verdict judged shifted Z tapped zeros
+tapped-accepted = judges Z accepted-Z tapped zeros refl
+
+tapped-read-off : readOffAnswer Z tapped zeros 16 ≡ checked.Accepted 372
+unfolding tab tapped
+tapped-read-off = same-for Z tapped zeros 1 refl ∙ tapped-accepted
+
+tapped-tap : tap (readTaps Z tapped 1) 2 ≡ 0 ∷ 1 ∷ 0 ∷ 0 ∷ []
+unfolding tab sum timesColumn times inverseOf constant cubes tap row minus backStep back readInput readWord readTaps shifted Z tapped
+tapped-tap = refl
+
+tapped-read : (old : List ℕ) → length old ≡ 16 → tap (readOffLeaves Z tapped zeros old) 2 ≡ 0 ∷ 1 ∷ 0 ∷ 0 ∷ []
+unfolding tab tapped readOffLeaves
+tapped-read old e = ap (λ x. tap (checkedKept x (readTaps Z tapped 1) old) 2) answered ∙ tapped-tap
+  where
+    answered : readOffAnswer Z tapped zeros (length old) ≡ checked.Accepted 372
+    answered = ap (readOffAnswer Z tapped zeros) e ∙ tapped-read-off
+
 pub known-days : KnownDays
-unfolding tab sum halving power root timesColumn times matrixOf inverseOf constant roots cubes plus mix firstStep secondStep stateAt finalState input hash tap outputAt chain row forward minus backStep back applies holds rowTests testsFrom tests walk verdict readInput readWord readTaps shifted Z A zeroTrace altered tapped zeros
+unfolding ones tab sum first firstBad halving power root timesColumn times matrixOf inverseOf constant roots cubes plus mix firstStep secondStep stateAt finalState input hash tap outputAt chain row forward minus backStep back applies holds rowTests testsFrom tests walk verdict judged shifted Z A zeroTrace altered zeros
 known-days = record {
   product-of-negatives = refl;
   product-of-powers = refl;
   root-of-0 = refl;
   root-of-8 = refl;
   root-of-negative = refl;
-  hash-Z = refl;
-  hash-A = refl;
-  hash-S = λ a e h. hash-gives-second a (5 ∷ 6 ∷ 7 ∷ 9 ∷ []) (record { size = e; canonical = h }) (record { size = refl; canonical = small });
-  chain-A = refl;
-  zero-accepted = refl;
-  zero-claim = refl;
-  altered-0-8 = refl;
-  altered-31-5 = refl;
-  altered-11-5 = refl;
-  tapped-accepted = refl;
-  tapped-read = refl;
+  hash-Z = hashed Z accepted-Z ((8 ∷ 27 ∷ 1 ∷ 0 ∷ []) ++ zeros) refl;
+  hash-A = hashed A accepted-A (zeros ++ zeros) refl;
+  hash-S = hash-S;
+  chain-A = chained A accepted-A (replicate 16 0) refl;
+  zero-accepted = judges Z accepted-Z zeroTrace zeros refl;
+  zero-claim = judges Z accepted-Z zeroTrace (1 ∷ 0 ∷ 0 ∷ 0 ∷ []) refl;
+  altered-0-8 = judges Z accepted-Z (altered 0 8) zeros refl;
+  altered-31-5 = judges Z accepted-Z (altered 31 5) zeros refl;
+  altered-11-5 = judges Z accepted-Z (altered 11 5) zeros refl;
+  tapped-accepted = tapped-accepted;
+  tapped-read-off = tapped-read-off;
+  tapped-read = tapped-read;
 }

@@ -1,2 +1,3 @@
+pub mod Tables
 pub mod Shift
 pub mod KnownDays

@@ -1,4 +1,4 @@
--- The starred days of document 01, "Known days", as one list.
+-- The starred days of document 01, "Known days", as one list, and its tables through Prepare.
 -- Assumes nothing.
 use mathlib.Core.Path.{_≡_}
 use mathlib.Core.List.{List, [], _∷_, _++_}
@@ -8,29 +8,61 @@ use lib.ListN.{length, replicate, set}
 use Rattle.lists.specs.Lists.{choose, tab}
 use Rattle.words.specs.Words.{AllCanonical}
 use Rattle.field.specs.Field.{P, mul, root}
-use Rattle.hash.specs.Hash.{hash, chain, tap}
-use Rattle.constraints.specs.Constraints.{verdict}
-use Rattle.constraints.specs.ReadOff.{readTaps}
-use Rattle.refusals.specs.declared.Refusal.the-variants.{Constraint}
-use Rattle.refusals.specs.declared.Checked.the-variants.{Accepted, Refused}
+use Rattle.refusals.specs.Refusals.{digest}
+use Rattle.refusals.specs.declared.Refusal.the-variants.{NoInverse, Constraint}
+use Rattle.refusals.specs.declared.Answer.the-variants as answer
+use Rattle.refusals.specs.declared.Digested.the-variants as digested
+use Rattle.refusals.specs.declared.Checked.the-variants as checked
+use Rattle.table.specs.Table.{tableTest, Prepares}
+use Rattle.hash.specs.Hash.{tap}
+use Rattle.hash.specs.Answers.{hashAnswer, chainAnswer}
+use Rattle.checker.specs.Answers.{checkAnswer}
+use Rattle.readoff.specs.Answers.{readOffAnswer, readOffLeaves}
 
--- ---- the tables, prepared: M, its inverse, K
+-- ---- the raw tables: M row by row, then K_0 to K_20
 
--- M with 1 where j = (i + shift) mod 12, else 0, row by row
+-- M[i,j] = 1 when j = (i + shift) mod 12, else 0
 unfoldable pub shifted : ℕ → List ℕ
 shifted shift = tab 144 (λ n. choose (eqb (n % 12) ((n / 12 + shift) % 12)) 1 0)
 
 -- M identity, K zero
+unfoldable pub rawZ : List ℕ
+rawZ = shifted 0 ++ replicate 252 0
+
+-- Z with K_0[0] = 1
+unfoldable pub rawA : List ℕ
+rawA = set rawZ 144 1
+
+-- M[i,j] = 1 when j = (i + 11) mod 12, else 0; K zero
+unfoldable pub rawS : List ℕ
+rawS = shifted 11 ++ replicate 252 0
+
+-- zero M, K zero
+unfoldable pub rawZeros : List ℕ
+rawZeros = replicate 396 0
+
+-- ---- Z, A and S as Prepare writes them: M, its inverse, K
+
 unfoldable pub Z : List ℕ
 Z = shifted 0 ++ shifted 0 ++ replicate 252 0
 
--- Z with K_0[0] = 1
 unfoldable pub A : List ℕ
 A = set Z 288 1
 
--- M[i,j] = 1 when j = (i + 11) mod 12, else 0; K zero
+-- M moves each cell one place on, its inverse one place back
 unfoldable pub S : List ℕ
 S = shifted 11 ++ shifted 1 ++ replicate 252 0
+
+-- what Prepare answers for each raw table and leaves in any destination of 540 words, and no other (`prepares-unique`);
+-- with what it wrote the later operations go on
+pub record KnownTables : Type 0 where
+  pub prepare-Z : (old : List ℕ) → length old ≡ 540 → Prepares rawZ old answer.Accepted Z
+  pub prepare-A : (old : List ℕ) → length old ≡ 540 → Prepares rawA old answer.Accepted A
+  pub prepare-S : (old : List ℕ) → length old ≡ 540 → Prepares rawS old answer.Accepted S
+  pub prepare-zeros : (old : List ℕ) → length old ≡ 540 → Prepares rawZeros old (answer.Refused NoInverse) old
+  pub accepted-Z : tableTest Z ≡ answer.Accepted
+  pub accepted-A : tableTest A ≡ answer.Accepted
+  pub accepted-S : tableTest S ≡ answer.Accepted
 
 -- ---- traces of one batch
 
@@ -48,21 +80,24 @@ tapped = tab 384 (λ n. choose (eqb (n % 12) 5) (choose (eqb ((n / 12 - 1) / 10)
 unfoldable pub zeros : List ℕ
 zeros = replicate 4 0
 
--- the list; 11's count is the failing test's place
+-- the list, over what the operations answer; 11's count is the failing test's place
 pub record KnownDays : Type 0 where
   pub product-of-negatives : mul (P - 1) (P - 1) ≡ 1
   pub product-of-powers : mul 2147483648 2147483648 ≡ 2305842923314348031
   pub root-of-0 : root 0 ≡ 0
   pub root-of-8 : root 8 ≡ 2
   pub root-of-negative : root (P - 1) ≡ P - 1
-  pub hash-Z : hash Z (8 ∷ 27 ∷ 1 ∷ 0 ∷ []) zeros ≡ 8 ∷ 27 ∷ 1 ∷ 0 ∷ []
-  pub hash-A : hash A zeros zeros ≡ 1 ∷ 0 ∷ 0 ∷ 0 ∷ []
-  pub hash-S : (a : List ℕ) → length a ≡ 4 → AllCanonical a → hash S a (5 ∷ 6 ∷ 7 ∷ 9 ∷ []) ≡ 5 ∷ 6 ∷ 7 ∷ 9 ∷ []
-  pub chain-A : chain A (replicate 16 0) 1 ≡ 3 ∷ 0 ∷ 0 ∷ 0 ∷ []
-  pub zero-accepted : verdict Z zeroTrace zeros 1 ≡ Accepted 372
-  pub zero-claim : verdict Z zeroTrace (1 ∷ 0 ∷ 0 ∷ 0 ∷ []) 1 ≡ Refused (Constraint (record { 0 = 31 }) 49 369)
-  pub altered-0-8 : verdict Z (altered 0 8) zeros 1 ≡ Refused (Constraint (record { 0 = 0 }) 1 1)
-  pub altered-31-5 : verdict Z (altered 31 5) zeros 1 ≡ Refused (Constraint (record { 0 = 30 }) 38 362)
-  pub altered-11-5 : verdict Z (altered 11 5) zeros 1 ≡ Refused (Constraint (record { 0 = 11 }) 26 138)
-  pub tapped-accepted : verdict Z tapped zeros 1 ≡ Accepted 372
-  pub tapped-read : tap (readTaps Z tapped 1) 2 ≡ 0 ∷ 1 ∷ 0 ∷ 0 ∷ []
+  pub hash-Z : hashAnswer Z ((8 ∷ 27 ∷ 1 ∷ 0 ∷ []) ++ zeros) ≡ digested.Accepted (digest (8 ∷ 27 ∷ 1 ∷ 0 ∷ []))
+  pub hash-A : hashAnswer A (zeros ++ zeros) ≡ digested.Accepted (digest (1 ∷ 0 ∷ 0 ∷ 0 ∷ []))
+  pub hash-S : (a : List ℕ) → length a ≡ 4 → AllCanonical a
+      → hashAnswer S (a ++ (5 ∷ 6 ∷ 7 ∷ 9 ∷ [])) ≡ digested.Accepted (digest (5 ∷ 6 ∷ 7 ∷ 9 ∷ []))
+  pub chain-A : chainAnswer A (replicate 16 0) ≡ digested.Accepted (digest (3 ∷ 0 ∷ 0 ∷ 0 ∷ []))
+  pub zero-accepted : checkAnswer Z zeroTrace zeros ≡ checked.Accepted 372
+  pub zero-claim : checkAnswer Z zeroTrace (1 ∷ 0 ∷ 0 ∷ 0 ∷ [])
+      ≡ checked.Refused (Constraint (record { 0 = 31 }) 49 369)
+  pub altered-0-8 : checkAnswer Z (altered 0 8) zeros ≡ checked.Refused (Constraint (record { 0 = 0 }) 1 1)
+  pub altered-31-5 : checkAnswer Z (altered 31 5) zeros ≡ checked.Refused (Constraint (record { 0 = 30 }) 38 362)
+  pub altered-11-5 : checkAnswer Z (altered 11 5) zeros ≡ checked.Refused (Constraint (record { 0 = 11 }) 26 138)
+  pub tapped-accepted : checkAnswer Z tapped zeros ≡ checked.Accepted 372
+  pub tapped-read-off : readOffAnswer Z tapped zeros 16 ≡ checked.Accepted 372
+  pub tapped-read : (old : List ℕ) → length old ≡ 16 → tap (readOffLeaves Z tapped zeros old) 2 ≡ 0 ∷ 1 ∷ 0 ∷ 0 ∷ []
