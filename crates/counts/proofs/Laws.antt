@@ -10,9 +10,8 @@ use borrow.Author.Tests.{le-leb, leb-true, eq-eqb, eqb-true}
 use lib.Count.{ones, ones-step, ones-cat}
 use lib.Dec.{leb, eqb}
 use lib.Pow.{pow-pos, pow-mono}
-use Rattle.lists.specs.Lists.{choose}
-use Rattle.lists.proofs.Bools.{and-both}
-use Rattle.counts.specs.Counts.{IsPermitted, permitted, countOf, tapBatches, traceBatches}
+use Rattle.lists.proofs.Bools.{and-both, and-intro}
+use Rattle.counts.specs.Counts.{IsPermittedTo, IsPermitted, permitted, tapWordBatches, isTapLength, traceWordBatches, isTraceLength, batchesIf}
 use Rattle.counts.specs.declared.BatchCount.the-variants.{Permitted, Refused}
 
 -- ---- one set bit
@@ -65,55 +64,46 @@ permitted-power k p = power 11 k (omega (arith, p .high)) (p .one-bit)
 pub power-permitted : (j : ℕ) → j < 11 → IsPermitted (2 ^ j)
 power-permitted j h = record { low = pow-pos j; high = pow-mono {i = j} {j = 10} (omega arith); one-bit = power-ones j }
 
--- ---- the test decides
-pub permitted-sound : (k : ℕ) → permitted k ≡ true → IsPermitted k
-permitted-sound k e =
-    let s = and-both (leb 1 k) (leb k 1024 && eqb (ones k) 1) e in
-    let t = and-both (leb k 1024) (eqb (ones k) 1) (s .1) in
-    record { low = leb-true 1 k (s .0); high = leb-true k 1024 (t .0); one-bit = eqb-true (ones k) 1 (t .1) }
+-- ---- the tests decide
+module _ (most : ℕ) where
+  pub permitted-sound : (k : ℕ) → permitted most k ≡ true → IsPermittedTo most k
+  permitted-sound k e =
+      let s = and-both (leb 1 k) (leb k most && eqb (ones k) 1) e in
+      let t = and-both (leb k most) (eqb (ones k) 1) (s .1) in
+      record { low = leb-true 1 k (s .0); high = leb-true k most (t .0); one-bit = eqb-true (ones k) 1 (t .1) }
 
-pub permitted-complete : (k : ℕ) → IsPermitted k → permitted k ≡ true
-permitted-complete k p = simp (le-leb 1 k (p .low), le-leb k 1024 (p .high), eq-eqb (ones k) 1 (p .one-bit))
+  pub permitted-complete : (k : ℕ) → IsPermittedTo most k → permitted most k ≡ true
+  permitted-complete k p = simp (le-leb 1 k (p .low), le-leb k most (p .high), eq-eqb (ones k) 1 (p .one-bit))
 
-count-sound : (n k : ℕ) (b : Bool) → permitted n ≡ b → choose b (Permitted n) Refused ≡ Permitted k → (n ≡ k) × IsPermitted k
-count-sound n k true e q =
-    let s : n ≡ k = cc in
-    (s, permitted-sound k (ap permitted (sym s) ∙ e))
-count-sound n k false e q = absurd (let z : _≡_ {A = ℕ} 0 1 = cc in omega arith)
+  -- a list of 12k + 4 words, k permitted, and no other, passes
+  pub tap-length-sound : (n : ℕ) → isTapLength most n ≡ true → (n ≡ 12 * tapWordBatches n + 4) × IsPermittedTo most (tapWordBatches n)
+  tap-length-sound n e =
+      let s = and-both (eqb (n % 12) 4) (permitted most (n / 12)) e in
+      (omega (arith, eqb-true (n % 12) 4 (s .0)), permitted-sound (n / 12) (s .1))
 
-count-of : (k : ℕ) → IsPermitted k → countOf k ≡ Permitted k
-count-of k p = rw (permitted-complete k p)
+  pub tap-length-complete : (n k : ℕ) → n ≡ 12 * k + 4 → IsPermittedTo most k → (isTapLength most n ≡ true) × (tapWordBatches n ≡ k)
+  tap-length-complete n k e p =
+      let r : n % 12 ≡ 4 = omega arith in
+      let q : n / 12 ≡ k = omega arith in
+      (and-intro (eqb (n % 12) 4) (permitted most (n / 12)) (eq-eqb _ _ r) (ap (permitted most) q ∙ permitted-complete k p), q)
 
--- a list of 12k + 4 words, k permitted, and no other, has k batches
-pub tap-sound : (n k : ℕ) → tapBatches n ≡ Permitted k → (n ≡ 12 * k + 4) × IsPermitted k
-tap-sound n k = go (eqb (n % 12) 4) refl
-  where
-    go : (b : Bool) → eqb (n % 12) 4 ≡ b → choose b (countOf (n / 12)) Refused ≡ Permitted k → (n ≡ 12 * k + 4) × IsPermitted k
-    go true e q =
-        let r = eqb-true (n % 12) 4 e in
-        let s = count-sound (n / 12) k (permitted (n / 12)) refl q in
-        (omega (arith, r, s .0), s .1)
-    go false e q = absurd (let z : _≡_ {A = ℕ} 0 1 = cc in omega arith)
+  -- a trace of 384k words, k permitted, and no other, passes
+  pub trace-length-sound : (n : ℕ) → isTraceLength most n ≡ true → (n ≡ 384 * traceWordBatches n) × IsPermittedTo most (traceWordBatches n)
+  trace-length-sound n e =
+      let s = and-both (eqb (n % 384) 0) (permitted most (n / 384)) e in
+      (omega (arith, eqb-true (n % 384) 0 (s .0)), permitted-sound (n / 384) (s .1))
 
-pub tap-complete : (k : ℕ) → IsPermitted k → tapBatches (12 * k + 4) ≡ Permitted k
-tap-complete k p =
-    let r : (12 * k + 4) % 12 ≡ 4 = omega arith in
-    let q : (12 * k + 4) / 12 ≡ k = omega arith in
-    rw (eq-eqb _ _ r) (ap countOf q ∙ count-of k p)
+  pub trace-length-complete : (n k : ℕ) → n ≡ 384 * k → IsPermittedTo most k → (isTraceLength most n ≡ true) × (traceWordBatches n ≡ k)
+  trace-length-complete n k e p =
+      let r : n % 384 ≡ 0 = omega arith in
+      let q : n / 384 ≡ k = omega arith in
+      (and-intro (eqb (n % 384) 0) (permitted most (n / 384)) (eq-eqb _ _ r) (ap (permitted most) q ∙ permitted-complete k p), q)
 
--- a trace of 384k words, k permitted, and no other, has k batches
-pub trace-sound : (n k : ℕ) → traceBatches n ≡ Permitted k → (n ≡ 384 * k) × IsPermitted k
-trace-sound n k = go (eqb (n % 384) 0) refl
-  where
-    go : (b : Bool) → eqb (n % 384) 0 ≡ b → choose b (countOf (n / 384)) Refused ≡ Permitted k → (n ≡ 384 * k) × IsPermitted k
-    go true e q =
-        let r = eqb-true (n % 384) 0 e in
-        let s = count-sound (n / 384) k (permitted (n / 384)) refl q in
-        (omega (arith, r, s .0), s .1)
-    go false e q = absurd (let z : _≡_ {A = ℕ} 0 1 = cc in omega arith)
+-- ---- what a count says of the test that it was made by
+pub count-permitted : (ok : Bool) (n k : ℕ) → batchesIf ok n ≡ Permitted k → (ok ≡ true) × (n ≡ k)
+count-permitted true n k e = (refl, cc)
+count-permitted false n k e = absurd (let z : _≡_ {A = ℕ} 0 1 = cc in omega arith)
 
-pub trace-complete : (k : ℕ) → IsPermitted k → traceBatches (384 * k) ≡ Permitted k
-trace-complete k p =
-    let r : (384 * k) % 384 ≡ 0 = omega arith in
-    let q : (384 * k) / 384 ≡ k = omega arith in
-    rw (eq-eqb _ _ r) (ap countOf q ∙ count-of k p)
+pub count-refused : (ok : Bool) (n : ℕ) → batchesIf ok n ≡ Refused → ok ≡ false
+count-refused true n e = absurd (let z : _≡_ {A = ℕ} 0 1 = cc in omega arith)
+count-refused false n e = refl

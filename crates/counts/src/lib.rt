@@ -1,7 +1,7 @@
 // Batch, row, hash and tap numbers (document 01, "The trace": counts of their own), and the permitted batch counts ("Hash and chain").
 ghost use mathlib.Core.Path.{_≡_};
 ghost use Prim.Native.Nat.{_+_, _*_, _/_, _%_, _<_, _^_};
-ghost use Rattle.counts.specs.Counts.{tapBatches, traceBatches, countOf, permitted};
+ghost use Rattle.counts.specs.Counts.{batchesIf, isTapLength, isTraceLength, permitted, tapWordBatches, traceWordBatches};
 
 // A batch of three hashes, counted from 0.
 pub struct BatchNumber(pub usize);
@@ -82,43 +82,46 @@ impl TapNumber {
     }
 }
 
-// Whether k batches are permitted: from 1 to 1024, with exactly one set bit.
-pub fn is_permitted(k: usize) -> bool
-    ensures { λ r. ⌜ r ≡ permitted k ⌝ }
+// The most batches of a list of taps and of a trace.
+pub const MOST_BATCHES: usize = 1024;
+
+// Whether k batches are permitted: from 1 to the most, with exactly one set bit.
+pub fn is_permitted(most: usize, k: usize) -> bool
+    ensures { λ r. ⌜ r ≡ permitted most k ⌝ }
 {
     if k < 1 {
         return false;
     }
-    if 1024 < k {
+    if most < k {
         return false;
     }
     usize::count_ones(k) == 1
 }
 
 // The batches of a tap list of so many words.
-pub fn tap_batches(words: usize) -> BatchCount
-    ensures { λ r. ⌜ r ≡ tapBatches words ⌝ }
+pub fn tap_batches(most: usize, words: usize) -> BatchCount
+    ensures { λ r. ⌜ r ≡ batchesIf (isTapLength most words) (tapWordBatches words) ⌝ }
 {
     if words % 12 != 4 {
         return BatchCount::Refused;
     }
-    batch_count(words / 12)
+    batch_count(most, words / 12)
 }
 
 // The batches of a trace of so many words.
-pub fn trace_batches(words: usize) -> BatchCount
-    ensures { λ r. ⌜ r ≡ traceBatches words ⌝ }
+pub fn trace_batches(most: usize, words: usize) -> BatchCount
+    ensures { λ r. ⌜ r ≡ batchesIf (isTraceLength most words) (traceWordBatches words) ⌝ }
 {
     if words % 384 != 0 {
         return BatchCount::Refused;
     }
-    batch_count(words / 384)
+    batch_count(most, words / 384)
 }
 
-fn batch_count(k: usize) -> BatchCount
-    ensures { λ r. ⌜ r ≡ countOf k ⌝ }
+fn batch_count(most: usize, k: usize) -> BatchCount
+    ensures { λ r. ⌜ r ≡ batchesIf (permitted most k) k ⌝ }
 {
-    if is_permitted(k) {
+    if is_permitted(most, k) {
         BatchCount::Permitted(k)
     } else {
         BatchCount::Refused

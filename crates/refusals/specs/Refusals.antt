@@ -1,10 +1,11 @@
 -- The number of each refusal and the values returned with it (document 01, "What is turned back").
 -- Assumes nothing.
-use mathlib.Core.List.{List, [], _∷_}
+use mathlib.Core.List.{List}
 use Prim.Native.Nat.{ℕ}
 use lib.ListN.{getD}
 use Rattle.refusals.specs.declared.Refusal.{Refusal}
 use Rattle.refusals.specs.declared.Refusal.the-variants.{TableLength, TableWord, NoInverse, WrongInverse, TapLength, TapWord, TraceLength, DestinationLength, ClaimWord, TraceWord, Constraint, FileLength, WrongKind, WrongValue}
+use Rattle.refusals.specs.declared.Particulars.{Particulars}
 use Rattle.refusals.specs.declared.Answer.{Answer}
 use Rattle.refusals.specs.declared.Answer.the-variants as answer
 use Rattle.refusals.specs.declared.Digest.{Digest}
@@ -13,22 +14,29 @@ use Rattle.refusals.specs.declared.Digested.the-variants as digested
 use Rattle.refusals.specs.declared.Checked.{Checked}
 use Rattle.refusals.specs.declared.Checked.the-variants as checked
 
--- the refusal's number, and then what is returned with it
-abbrev pub told : Refusal → List ℕ
-told TableLength = 1 ∷ []
-told (TableWord i) = 2 ∷ i ∷ []
-told NoInverse = 3 ∷ []
-told (WrongInverse i) = 4 ∷ i ∷ []
-told TapLength = 5 ∷ []
-told (TapWord i) = 6 ∷ i ∷ []
-told TraceLength = 7 ∷ []
-told DestinationLength = 8 ∷ []
-told (ClaimWord i) = 9 ∷ i ∷ []
-told (TraceWord i) = 10 ∷ i ∷ []
-told (Constraint row constraint tests) = 11 ∷ row .0 ∷ constraint ∷ tests ∷ []
-told FileLength = 12 ∷ []
-told (WrongKind i) = 13 ∷ i ∷ []
-told (WrongValue i) = 14 ∷ i ∷ []
+-- a number alone, and a number with an index
+abbrev pub alone : ℕ → Particulars
+alone n = record { number = n; values = 0; row = 0; constraint = 0; value = 0 }
+
+abbrev pub indexed : ℕ → ℕ → Particulars
+indexed n i = record { number = n; values = 1; row = 0; constraint = 0; value = i }
+
+-- the refusal's number, and what is returned with it: nothing, an index, or row, constraint and tests
+abbrev pub told : Refusal → Particulars
+told TableLength = alone 1
+told (TableWord i) = indexed 2 i
+told NoInverse = alone 3
+told (WrongInverse i) = indexed 4 i
+told TapLength = alone 5
+told (TapWord i) = indexed 6 i
+told TraceLength = alone 7
+told DestinationLength = alone 8
+told (ClaimWord i) = indexed 9 i
+told (TraceWord i) = indexed 10 i
+told (Constraint row constraint tests) = record { number = 11; values = 3; row = row .0; constraint = constraint; value = tests }
+told FileLength = alone 12
+told (WrongKind i) = indexed 13 i
+told (WrongValue i) = indexed 14 i
 
 -- the first four cells of a list, as an output or a claim is returned
 abbrev pub digest : List ℕ → Digest

@@ -1,9 +1,10 @@
 // What is turned back (document 01, the section of that name), and the answers that hold it.
 ghost use mathlib.Core.Path.{_≡_};
-ghost use Rattle.refusals.specs.Refusals.{checkedAfter, digestedAfter};
+ghost use Rattle.refusals.specs.Refusals.{alone, checkedAfter, digestedAfter, indexed, told};
+ghost use Rattle.refusals.specs.Answers.{Refuses};
 use counts::RowNumber;
 
-// A cause, with what is returned with its number. specs/Refusals.antt lists number and values for each.
+// A cause, with what is returned with its number. `told` lists number and values for each.
 pub enum Refusal {
     TableLength,
     TableWord(usize),
@@ -25,9 +26,101 @@ pub enum Refusal {
     WrongValue(usize),
 }
 
-// The answer of the table test, Prepare and Pack.
+// What is told of a refusal: its number, and how many values come with it: none, an index (`value`), or row, constraint and
+// tests (`value`).
+pub struct Particulars {
+    pub number: usize,
+    pub values: usize,
+    pub row: usize,
+    pub constraint: usize,
+    pub value: usize,
+}
+
+// A number alone, and a number with an index.
+fn alone(number: usize) -> Particulars
+    ensures { λ r. ⌜ r ≡ alone number ⌝ }
+{
+    Particulars {
+        number,
+        values: 0,
+        row: 0,
+        constraint: 0,
+        value: 0,
+    }
+}
+
+fn indexed(number: usize, index: usize) -> Particulars
+    ensures { λ r. ⌜ r ≡ indexed number index ⌝ }
+{
+    Particulars {
+        number,
+        values: 1,
+        row: 0,
+        constraint: 0,
+        value: index,
+    }
+}
+
+// The one list of numbers: what is printed and what is returned to other languages is made from it.
+pub fn told(refusal: Refusal) -> Particulars
+    ensures { λ r. ⌜ r ≡ told refusal ⌝ }
+{
+    match refusal {
+        Refusal::TableLength => alone(1),
+        Refusal::TableWord(i) => indexed(2, i),
+        Refusal::NoInverse => alone(3),
+        Refusal::WrongInverse(i) => indexed(4, i),
+        Refusal::TapLength => alone(5),
+        Refusal::TapWord(i) => indexed(6, i),
+        Refusal::TraceLength => alone(7),
+        Refusal::DestinationLength => alone(8),
+        Refusal::ClaimWord(i) => indexed(9, i),
+        Refusal::TraceWord(i) => indexed(10, i),
+        Refusal::Constraint {
+            row,
+            constraint,
+            tests,
+        } => Particulars {
+            number: 11,
+            values: 3,
+            row: row.0,
+            constraint,
+            value: tests,
+        },
+        Refusal::FileLength => alone(12),
+        Refusal::WrongKind(i) => indexed(13, i),
+        Refusal::WrongValue(i) => indexed(14, i),
+    }
+}
+
+// The answer of the tests that an operation begins with, and of Prepare and Pack.
 pub enum Answer {
     Accepted,
+    Refused(Refusal),
+}
+
+impl Answer {
+    // The refusal of an answer that is one: what `let .. else` has left. The other arm is never taken.
+    pub fn refusal(self) -> Refusal
+        requires { ⌜ Refuses self ⌝ }
+        ensures { λ r. ⌜ self ≡ Answer.Refused r ⌝ }
+    {
+        match self {
+            Answer::Refused(r) => r,
+            Answer::Accepted => Refusal::TableLength,
+        }
+    }
+}
+
+// The answer of Hash, Chain, Build and Unpack: four words.
+pub enum DigestAnswer {
+    Accepted(Digest),
+    Refused(Refusal),
+}
+
+// The answer of Check and Read-off: the number of tests walked.
+pub enum TestsAnswer {
+    Accepted(usize),
     Refused(Refusal),
 }
 

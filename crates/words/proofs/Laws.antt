@@ -1,16 +1,17 @@
 -- The first word that is not canonical: the scan for it, and that there is none exactly where all are canonical. Canonical lists joined are canonical.
 -- Assumes nothing.
-use mathlib.Core.Path.{_≡_, sym}
+use mathlib.Core.Path.{_≡_, sym, _∙_}
+use mathlib.Core.Bool.{true, false}
 use mathlib.Core.List.{List, [], _∷_, _++_}
 use Prim.Native.Nat.{ℕ, zero, suc, _≤_, _<_}
 use native.Mathlib.Omega.{arith}
-use borrow.Author.Tests.{le-leb, lt-leb, leb-false, leb-true}
+use borrow.Author.Tests.{le-leb, lt-leb, leb-false, leb-true, eq-eqb, ne-eqb, eqb-true, eqb-false}
 use lib.Dec.{leb}
 use lib.ListN.{length}
 use Rattle.lists.specs.Lists.{cell}
 use Rattle.lists.proofs.First.{is-first, first-none, found-at}
 use Rattle.field.specs.Field.{P, Canonical}
-use Rattle.words.specs.Words.{AllCanonical, firstBad}
+use Rattle.words.specs.Words.{AllCanonical, firstBad, canonicalWords}
 
 pub within : (s : List ℕ) → firstBad s ≤ length s
 unfolding firstBad
@@ -43,3 +44,21 @@ pub append-canonical : (s t : List ℕ) → AllCanonical s → AllCanonical t �
 append-canonical [] t a b i h = b i h
 append-canonical (x ∷ s) t a b zero h = a 0 (omega arith)
 append-canonical (x ∷ s) t a b (suc i) h = append-canonical s t (λ j l. a (suc j) (omega arith)) b i (omega arith)
+
+-- ---- the test, from what a scan found, and what it says
+pub scanned-good : {b : ℕ} (s : List ℕ) → b ≡ firstBad s → b ≡ length s → canonicalWords s ≡ true
+scanned-good s e h = eq-eqb (firstBad s) (length s) (sym e ∙ h)
+
+pub scanned-bad : {b : ℕ} (s : List ℕ) → b ≡ firstBad s → (b ≡ length s → ⊥) → canonicalWords s ≡ false
+scanned-bad s e h = ne-eqb (firstBad s) (length s) (λ q. h (e ∙ q))
+
+pub test-good : (s : List ℕ) → AllCanonical s → canonicalWords s ≡ true
+test-good s h = eq-eqb (firstBad s) (length s) (all-good s h)
+
+pub good-test : (s : List ℕ) → canonicalWords s ≡ true → AllCanonical s
+good-test s e = good-all s (eqb-true (firstBad s) (length s) e)
+
+pub bad-test : (s : List ℕ) → canonicalWords s ≡ false → firstBad s < length s
+bad-test s e =
+    let n = eqb-false (firstBad s) (length s) e in
+    omega (arith, within s)

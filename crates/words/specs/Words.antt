@@ -1,8 +1,9 @@
 -- Words lent to a call (document 01, "What is turned back": a word that is not canonical, by its lowest index).
 -- Assumes nothing.
+use mathlib.Core.Bool.{Bool}
 use mathlib.Core.List.{List}
 use Prim.Native.Nat.{ℕ, _<_}
-use lib.Dec.{leb}
+use lib.Dec.{leb, eqb}
 use lib.ListN.{length}
 use Rattle.lists.specs.Lists.{cell, first}
 use Rattle.field.specs.Field.{P, Canonical}
@@ -18,3 +19,7 @@ AllCanonical s = CanonicalTo (length s) s
 -- the lowest index of a word that is not canonical, or the length where all are
 unfoldable pub firstBad : List ℕ → ℕ
 firstBad s = first (length s) (λ i. leb P (cell s i))
+
+-- whether all are
+abbrev pub canonicalWords : List ℕ → Bool
+canonicalWords s = eqb (firstBad s) (length s)

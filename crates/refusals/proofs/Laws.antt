@@ -1,0 +1,77 @@
+-- The laws of answers, once for every operation: what an acceptance says of the tests before it, what a refusal leaves, and how answers end.
+-- Assumes nothing.
+use mathlib.Core.Path.{_≡_, refl, sym, ap, _∙_}
+use mathlib.Core.Bool.{Bool, true, false}
+use Prim.Native.Nat.{ℕ}
+use native.Mathlib.Omega.{arith}
+use Rattle.lists.specs.Lists.{choose}
+use Rattle.refusals.specs.declared.Refusal.{Refusal}
+use Rattle.refusals.specs.declared.Answer.{Answer}
+use Rattle.refusals.specs.declared.Answer.the-variants.{Accepted, Refused}
+use Rattle.refusals.specs.declared.Digest.{Digest}
+use Rattle.refusals.specs.declared.DigestAnswer.{DigestAnswer}
+use Rattle.refusals.specs.declared.DigestAnswer.the-variants as digest
+use Rattle.refusals.specs.declared.TestsAnswer.{TestsAnswer}
+use Rattle.refusals.specs.declared.TestsAnswer.the-variants as tests
+use Rattle.refusals.specs.Answers.{unless, after, Refuses, digestAfter, testsAfter, leaves}
+
+pub not-accepted : (r : Refusal) → Refused r ≡ Accepted → ⊥
+not-accepted r e = let z : _≡_ {A = ℕ} 0 1 = cc in omega arith
+
+-- ---- what acceptance says of the tests before it
+pub passed : (b : Bool) (r : Refusal) (rest : Answer) → unless b r rest ≡ Accepted → (b ≡ true) × (rest ≡ Accepted)
+passed true r rest e = (refl, e)
+passed false r rest e = absurd (not-accepted r e)
+
+pub both-accepted : (a rest : Answer) → after a rest ≡ Accepted → (a ≡ Accepted) × (rest ≡ Accepted)
+both-accepted Accepted rest e = (refl, e)
+both-accepted (Refused r) rest e = absurd (not-accepted r e)
+
+pub digest-accepted : (a : Answer) (d e : Digest) → digestAfter a d ≡ digest.Accepted e → (a ≡ Accepted) × (d ≡ e)
+digest-accepted Accepted d e q = (refl, cc)
+digest-accepted (Refused r) d e q = absurd (let z : _≡_ {A = ℕ} 0 1 = cc in omega arith)
+
+pub tests-accepted : (a : Answer) (m n : ℕ) → testsAfter a m ≡ tests.Accepted n → (a ≡ Accepted) × (m ≡ n)
+tests-accepted Accepted m n q = (refl, cc)
+tests-accepted (Refused r) m n q = absurd (let z : _≡_ {A = ℕ} 0 1 = cc in omega arith)
+
+-- ---- a refusal is that of the tests
+pub digest-refused : (a : Answer) (d : Digest) (r : Refusal) → digestAfter a d ≡ digest.Refused r → a ≡ Refused r
+digest-refused Accepted d r q = absurd (let z : _≡_ {A = ℕ} 0 1 = cc in omega arith)
+digest-refused (Refused s) d r q = cc
+
+pub tests-refused : (a : Answer) (n : ℕ) (r : Refusal) → testsAfter a n ≡ tests.Refused r → a ≡ Refused r
+tests-refused Accepted n r q = absurd (let z : _≡_ {A = ℕ} 0 1 = cc in omega arith)
+tests-refused (Refused s) n r q = cc
+
+-- ---- how an answer ends: with a refusal that has the property Q, or a result that has the property R
+
+abbrev pub AnswerEnds : (Refusal → Type 0) → Answer → Type 0
+AnswerEnds Q Accepted = Unit
+AnswerEnds Q (Refused r) = Q r
+
+abbrev pub DigestEnds : (Digest → Type 0) → (Refusal → Type 0) → DigestAnswer → Type 0
+DigestEnds R Q (digest.Accepted d) = R d
+DigestEnds R Q (digest.Refused r) = Q r
+
+abbrev pub TestsEnds : (ℕ → Type 0) → (Refusal → Type 0) → TestsAnswer → Type 0
+TestsEnds R Q (tests.Accepted n) = R n
+TestsEnds R Q (tests.Refused r) = Q r
+
+module _ (Q : Refusal → Type 0) where
+  pub unless-ends : (b : Bool) (r : Refusal) (rest : Answer) → (b ≡ false → Q r) → (b ≡ true → AnswerEnds Q rest)
+      → AnswerEnds Q (unless b r rest)
+  unless-ends true r rest q n = n refl
+  unless-ends false r rest q n = q refl
+
+  pub after-ends : (a rest : Answer) → AnswerEnds Q a → (a ≡ Accepted → AnswerEnds Q rest) → AnswerEnds Q (after a rest)
+  after-ends Accepted rest p n = n refl
+  after-ends (Refused r) rest p n = p
+
+  pub digest-ends : (R : Digest → Type 0) (a : Answer) (d : Digest) → AnswerEnds Q a → (a ≡ Accepted → R d) → DigestEnds R Q (digestAfter a d)
+  digest-ends R Accepted d p n = n refl
+  digest-ends R (Refused r) d p n = p
+
+  pub tests-ends : (R : ℕ → Type 0) (a : Answer) (n : ℕ) → AnswerEnds Q a → (a ≡ Accepted → R n) → TestsEnds R Q (testsAfter a n)
+  tests-ends R Accepted n p f = f refl
+  tests-ends R (Refused r) n p f = p
