@@ -1,6 +1,6 @@
 -- The number of each refusal and the values returned with it (document 01, "What is turned back").
 -- Assumes nothing.
-use mathlib.Core.List.{List}
+use mathlib.Core.List.{List, [], _∷_}
 use Prim.Native.Nat.{ℕ}
 use lib.ListN.{getD}
 use Rattle.refusals.specs.declared.Refusal.{Refusal}
@@ -41,6 +41,10 @@ told (WrongValue i) = indexed 14 i
 -- the first four cells of a list, as an output or a claim is returned
 abbrev pub digest : List ℕ → Digest
 digest s = record { 0 = getD s 0 0; 1 = getD s 1 0; 2 = getD s 2 0; 3 = getD s 3 0 }
+
+-- its four words as a list
+abbrev pub digestWords : Digest → List ℕ
+digestWords d = d .0 ∷ d .1 ∷ d .2 ∷ d .3 ∷ []
 
 -- the answer where the table test refused, or what follows where it accepted
 abbrev pub answerAfter : Answer → Answer → Answer
