@@ -253,11 +253,11 @@ module _ (T t : List ℕ) (c0 c1 c2 c3 : ℕ) where
       let claim : List ℕ = c0 ∷ c1 ∷ c2 ∷ c3 ∷ [] in
       let k = traceWordBatches (length t) in
       tests-says code ns (CheckResult t) Unit (checkTest T t claim) (length (order.tests k)) h
-      (λ e. bits.tests-bits k (check-inputs T t claim e .permitted))
+      (λ e. bits.tests-bits k (check-inputs T t claim e .0 .permitted))
       (bits.check-bits T t claim refl)
       (ends.check-ends (OneOf ns) (table-causes ns refl refl refl) T t claim (one-of 7 ns refl) (λ i l. one-of 9 ns refl)
       (λ k s p i l. one-of 10 ns refl) (λ k p i c n f. one-of 11 ns refl))
-      (λ e. (let i = check-inputs T t claim e in record { k = k; permitted = i .permitted; rows = i .size; all = length-tests k }))
+      (λ e. (let i = check-inputs T t claim e .0 in record { k = k; permitted = i .permitted; rows = i .size; all = length-tests k }))
       (λ r. tt)
 
   read-off-call : (taps taps′ : List ℕ) (code : ℕ) → ReadOffCall T t (c0 ∷ c1 ∷ c2 ∷ c3 ∷ []) code taps taps′
