@@ -18,6 +18,16 @@
 extern "C" {
 #endif
 
+/* The number of this interface, raised where a call takes other parameters or lengths than it did. No linker notices
+ * that, so a caller compares the number with the library's at its start, and makes no other call where they differ:
+ *
+ *     if (lemoncolumn_interface() != LEMONCOLUMN_INTERFACE)
+ *         return 1; */
+#define LEMONCOLUMN_INTERFACE 1
+
+/* The number of the library that is linked. This call stays as it is, whatever the number. */
+uint64_t lemoncolumn_interface(void);
+
 /* The field's prime, 2^61 + 20 * 2^32 + 1. */
 #define LEMONCOLUMN_P UINT64_C(2305843095113039873)
 

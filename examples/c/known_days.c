@@ -113,6 +113,11 @@ static void indices(void)
 
 int main(void)
 {
+    if (lemoncolumn_interface() != LEMONCOLUMN_INTERFACE) {
+        fprintf(stderr, "compiled for interface %d, and the linked library has %" PRIu64 "\n", LEMONCOLUMN_INTERFACE,
+                lemoncolumn_interface());
+        return 1;
+    }
     uint64_t z[LEMONCOLUMN_TABLE_WORDS], a[LEMONCOLUMN_TABLE_WORDS], s[LEMONCOLUMN_TABLE_WORDS];
     uint64_t nothing[LEMONCOLUMN_RAW_WORDS] = {0};
     show("Z", prepare(0, 0, z));

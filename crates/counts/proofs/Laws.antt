@@ -12,6 +12,7 @@ use lib.Dec.{leb, eqb}
 use lib.Pow.{pow-pos, pow-mono}
 use Rattle.lists.proofs.Bools.{and-both, and-intro}
 use Rattle.counts.specs.Counts.{IsPermittedTo, IsPermitted, permitted, tapWordBatches, isTapLength, traceWordBatches, isTraceLength, batchesIf}
+use Rattle.counts.specs.declared.BatchCount.{BatchCount}
 use Rattle.counts.specs.declared.BatchCount.the-variants.{Permitted, Refused}
 
 -- ---- one set bit
@@ -107,3 +108,19 @@ count-permitted false n k e = absurd (let z : _≡_ {A = ℕ} 0 1 = cc in omega 
 pub count-refused : (ok : Bool) (n : ℕ) → batchesIf ok n ≡ Refused → ok ≡ false
 count-refused true n e = absurd (let z : _≡_ {A = ℕ} 0 1 = cc in omega arith)
 count-refused false n e = refl
+
+-- a count b of so many words
+module _ (most words : ℕ) {b : BatchCount} where
+  pub tap-refused : b ≡ batchesIf (isTapLength most words) (tapWordBatches words) → b ≡ Refused → isTapLength most words ≡ false
+  tap-refused e q = count-refused (isTapLength most words) (tapWordBatches words) (sym e ∙ q)
+
+  pub tap-permitted : {k : ℕ} → b ≡ batchesIf (isTapLength most words) (tapWordBatches words) → b ≡ Permitted k
+      → (isTapLength most words ≡ true) × (tapWordBatches words ≡ k)
+  tap-permitted {k} e q = count-permitted (isTapLength most words) (tapWordBatches words) k (sym e ∙ q)
+
+  pub trace-refused : b ≡ batchesIf (isTraceLength most words) (traceWordBatches words) → b ≡ Refused → isTraceLength most words ≡ false
+  trace-refused e q = count-refused (isTraceLength most words) (traceWordBatches words) (sym e ∙ q)
+
+  pub trace-permitted : {k : ℕ} → b ≡ batchesIf (isTraceLength most words) (traceWordBatches words) → b ≡ Permitted k
+      → (isTraceLength most words ≡ true) × (traceWordBatches words ≡ k)
+  trace-permitted {k} e q = count-permitted (isTraceLength most words) (traceWordBatches words) k (sym e ∙ q)

@@ -22,6 +22,11 @@ use Rattle.readoff.specs.Answers.{readOffAnswer, readOffLeaves}
 use Rattle.board.specs.Board.{packAnswer, packLeaves, unpackAnswer, tapsIn}
 use Rattle.export.specs.Code.{answerCode, digestedCode, checkedCode}
 
+-- ---- the number of these calls: raised where a call that there was takes other parameters or lengths
+
+abbrev pub interface : ℕ
+interface = 1
+
 -- ---- a digest, and its destination
 
 -- the answer where the digest's destination has four words, else the one that stops at 8

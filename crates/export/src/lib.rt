@@ -5,7 +5,7 @@ ghost use mathlib.Core.List.{[], _∷_};
 ghost use lib.ListN.{length};
 ghost use Rattle.checker.specs.Answers.{checkAnswer};
 ghost use Rattle.export.specs.Code.{code, codeOf, answerCode, digestedCode, checkedCode};
-ghost use Rattle.export.specs.Calls.{Told, PrepareCall, hashCall, noRoom, chainCall, BuildCall, ReadOffCall, PackCall, UnpackCall};
+ghost use Rattle.export.specs.Calls.{interface, Told, PrepareCall, hashCall, noRoom, chainCall, BuildCall, ReadOffCall, PackCall, UnpackCall};
 use counts::BatchCount;
 use refusals::Answer;
 use refusals::Checked;
@@ -112,6 +112,17 @@ fn hand_over(answer: Digested, output: &mut [u64]) -> u64
         }
         Digested::Refused(r) => code_of(r),
     }
+}
+
+// Raised with LEMONCOLUMN_INTERFACE of include/lemoncolumn.h.
+const INTERFACE: u64 = 1;
+
+// The number of these calls, which a caller compares with the one that it was compiled for before it makes any other.
+#[no_mangle]
+pub extern "C" fn lemoncolumn_interface() -> u64
+    ensures { λ r. ⌜ r ≡ interface ⌝ }
+{
+    INTERFACE
 }
 
 // Prepare: 1, 8, 2, 3.

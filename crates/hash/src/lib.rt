@@ -6,13 +6,14 @@ ghost use lib.ListN.{length, take, replicate};
 ghost use Rattle.words.specs.Words.{AllCanonical, CanonicalTo};
 ghost use Rattle.table.specs.Table.{IsTable, constant};
 ghost use Rattle.hash.specs.Hash.{cubes, plus, mix, firstStep, secondStep, stateAt, finalState, input, tap, outputAt};
-ghost use Rattle.hash.specs.Answers.{hashAnswer, chainAnswer};
+ghost use Rattle.hash.specs.Answers.{hashTest, hashAnswer, chainTest, chainAnswer};
 use counts::BatchCount;
 use counts::HashNumber;
+use counts::MOST_BATCHES;
 use field::Fp;
 use refusals::Answer;
 use refusals::Digest;
-use refusals::Digested;
+use refusals::DigestAnswer;
 use refusals::Refusal;
 
 // Every cell cubed.
@@ -138,37 +139,59 @@ fn last_state(table: &[u64], taps: &[u64], hashes: usize) -> [u64; 12]
     state
 }
 
-// Hash, which is the chain of two taps: 1, 2, 4, 6.
-pub fn hash(table: &[u64], words: [u64; 8]) -> Digested
-    ensures { λ r. ⌜ r ≡ hashAnswer (now (table .entry)) words ⌝ }
+// What Hash tests: 1, 2, 4, 6.
+fn test_hash(table: &[u64], words: &[u64]) -> Answer
+    ensures { λ r. ⌜ r ≡ hashTest (now (table .entry)) (now (words .entry)) ⌝ }
 {
     let tested = table::test(table);
     let Answer::Accepted = tested else {
-        return Digested::after(tested);
+        return tested;
     };
-    let bad = words::first_bad(&words);
-    if bad != 8 {
-        return Digested::Refused(Refusal::TapWord(bad));
+    let bad = words::first_bad(words);
+    if bad != words.len() {
+        return Answer::Refused(Refusal::TapWord(bad));
     }
-    let last = last_state(table, &words, 1);
-    Digested::Accepted(Digest(last[0], last[1], last[2], last[3]))
+    Answer::Accepted
 }
 
-// Chain: 1, 2, 4, 5, 6.
-pub fn chain(table: &[u64], taps: &[u64]) -> Digested
-    ensures { λ r. ⌜ r ≡ chainAnswer (now (table .entry)) (now (taps .entry)) ⌝ }
+// Hash, which is the chain of two taps.
+pub fn hash(table: &[u64], words: [u64; 8]) -> DigestAnswer
+    ensures { λ r. ⌜ r ≡ hashAnswer (now (table .entry)) words ⌝ }
+{
+    let tested = test_hash(table, &words);
+    let Answer::Accepted = tested else {
+        return DigestAnswer::Refused(tested.refusal());
+    };
+    let last = last_state(table, &words, 1);
+    DigestAnswer::Accepted(Digest(last[0], last[1], last[2], last[3]))
+}
+
+// What Chain tests: 1, 2, 4, 5, 6.
+fn test_chain(table: &[u64], taps: &[u64]) -> Answer
+    ensures { λ r. ⌜ r ≡ chainTest (now (table .entry)) (now (taps .entry)) ⌝ }
 {
     let tested = table::test(table);
     let Answer::Accepted = tested else {
-        return Digested::after(tested);
+        return tested;
     };
-    let BatchCount::Permitted(k) = counts::tap_batches(taps.len()) else {
-        return Digested::Refused(Refusal::TapLength);
+    let BatchCount::Permitted(_) = counts::tap_batches(MOST_BATCHES, taps.len()) else {
+        return Answer::Refused(Refusal::TapLength);
     };
     let bad = words::first_bad(taps);
     if bad != taps.len() {
-        return Digested::Refused(Refusal::TapWord(bad));
+        return Answer::Refused(Refusal::TapWord(bad));
     }
+    Answer::Accepted
+}
+
+pub fn chain(table: &[u64], taps: &[u64]) -> DigestAnswer
+    ensures { λ r. ⌜ r ≡ chainAnswer (now (table .entry)) (now (taps .entry)) ⌝ }
+{
+    let tested = test_chain(table, taps);
+    let Answer::Accepted = tested else {
+        return DigestAnswer::Refused(tested.refusal());
+    };
+    let k = taps.len() / 12;
     let last = last_state(table, taps, 3 * k);
-    Digested::Accepted(Digest(last[0], last[1], last[2], last[3]))
+    DigestAnswer::Accepted(Digest(last[0], last[1], last[2], last[3]))
 }

@@ -44,6 +44,41 @@ pub tests-refused : (a : Answer) (n : ℕ) (r : Refusal) → testsAfter a n ≡ 
 tests-refused Accepted n r q = absurd (let z : _≡_ {A = ℕ} 0 1 = cc in omega arith)
 tests-refused (Refused s) n r q = cc
 
+-- ---- what a function answers, from what it found: an answer o is that of the tests, one after the other
+module _ {o : Answer} where
+  pub unless-refused : {b : Bool} {r : Refusal} (rest : Answer) → b ≡ false → o ≡ Refused r → o ≡ unless b r rest
+  unless-refused {b} {r} rest e q = q ∙ sym (ap (λ x. unless x r rest) e)
+
+  pub unless-passed : {b : Bool} {rest : Answer} (r : Refusal) → b ≡ true → o ≡ rest → o ≡ unless b r rest
+  unless-passed {b} {rest} r e q = q ∙ sym (ap (λ x. unless x r rest) e)
+
+  -- a is what the first tests t answered
+  pub after-refused : {t : Answer} {r : Refusal} (rest : Answer) → o ≡ t → o ≡ Refused r → o ≡ after t rest
+  after-refused rest e q = q ∙ sym (ap (λ x. after x rest) (sym e ∙ q))
+
+  pub after-accepted : {a t rest : Answer} → a ≡ t → a ≡ Accepted → o ≡ rest → o ≡ after t rest
+  after-accepted {a} {t} {rest} e q p = p ∙ sym (ap (λ x. after x rest) (sym e ∙ q))
+
+-- and what follows from a, which is what the tests t answered
+module _ {a t : Answer} (e : a ≡ t) where
+  pub digest-turned-back : {r : Refusal} (d : Digest) → a ≡ Refused r → digest.Refused r ≡ digestAfter t d
+  digest-turned-back d q = sym (ap (λ x. digestAfter x d) (sym e ∙ q))
+
+  pub digest-returned : {c d : Digest} → a ≡ Accepted → c ≡ d → digest.Accepted c ≡ digestAfter t d
+  digest-returned {c} {d} q p = ap digest.Accepted p ∙ sym (ap (λ x. digestAfter x d) (sym e ∙ q))
+
+  pub tests-turned-back : {r : Refusal} (n : ℕ) → a ≡ Refused r → tests.Refused r ≡ testsAfter t n
+  tests-turned-back n q = sym (ap (λ x. testsAfter x n) (sym e ∙ q))
+
+  pub tests-returned : {m n : ℕ} → a ≡ Accepted → m ≡ n → tests.Accepted m ≡ testsAfter t n
+  tests-returned {m} {n} q p = ap tests.Accepted p ∙ sym (ap (λ x. testsAfter x n) (sym e ∙ q))
+
+  pub leaves-old : {A : Type 0} {r : Refusal} {old : A} (new : A) → a ≡ Refused r → old ≡ leaves t new old
+  leaves-old {old = old} new q = sym (ap (λ x. leaves x new old) (sym e ∙ q))
+
+  pub leaves-new : {A : Type 0} {x new : A} (old : A) → a ≡ Accepted → x ≡ new → x ≡ leaves t new old
+  leaves-new {new = new} old q p = p ∙ sym (ap (λ y. leaves y new old) (sym e ∙ q))
+
 -- ---- how an answer ends: with a refusal that has the property Q, or a result that has the property R
 
 abbrev pub AnswerEnds : (Refusal → Type 0) → Answer → Type 0

@@ -1,35 +1,44 @@
--- What Build answers and leaves: a refusal with the destination as it was, or the chain's output with the trace.
+-- What Build's tests say where they accept, and that they accept what passes each of them.
 -- Assumes nothing.
 use mathlib.Core.Path.{_≡_, sym, ap, _∙_}
 use mathlib.Core.List.{List}
-use Prim.Native.Nat.{ℕ, _+_, _*_, _/_}
-use native.Mathlib.Omega.{arith}
-use borrow.Author.Tests.{eq-eqb, ne-eqb}
+use Prim.Native.Nat.{ℕ, _+_, _*_}
+use borrow.Author.Tests.{eqb-true, eq-eqb}
 use lib.ListN.{length}
-use Rattle.refusals.specs.declared.Refusal.{Refusal}
-use Rattle.refusals.specs.declared.Refusal.the-variants.{DestinationLength}
-use Rattle.refusals.specs.declared.Digest.{Digest}
-use Rattle.refusals.specs.declared.Digested.{Digested}
-use Rattle.refusals.specs.declared.Digested.the-variants.{Accepted, Refused}
-use Rattle.refusals.specs.Refusals.{digestedKept}
-use Rattle.trace.specs.Trace.{trace}
-use Rattle.trace.specs.Answers.{forDestination, buildAnswer, buildLeaves}
+use Rattle.words.specs.Words.{AllCanonical}
+use Rattle.words.proofs.Laws.{good-test, test-good}
+use Rattle.counts.specs.Counts.{IsPermitted, mostBatches, tapWordBatches}
+use Rattle.counts.proofs.Laws.{tap-length-sound, tap-length-complete}
+use Rattle.refusals.specs.declared.Answer.the-variants.{Accepted}
+use Rattle.refusals.proofs.Laws.{passed, both-accepted}
+use Rattle.table.specs.Table.{IsTable, tableTest}
+use Rattle.table.proofs.Theorems.{test-sound, test-complete}
+use Rattle.trace.specs.Answers.{buildTest}
 
--- ---- 8: the destination's length
-pub destination-refused : (size k : ℕ) (x : Digested) → (size ≡ 384 * k → ⊥) → Refused DestinationLength ≡ forDestination size k x
-destination-refused size k x n = rw (ne-eqb size (384 * k) n)
+pub record BuildInputs (T w : List ℕ) (size k : ℕ) : Type 0 where
+  pub table : IsTable T
+  pub permitted : IsPermitted k
+  pub taps : length w ≡ 12 * k + 4
+  pub room : size ≡ 384 * k
+  pub canonical : AllCanonical w
 
-pub destination-exact : (size k : ℕ) (o x : Digested) → size ≡ 384 * k → o ≡ x → o ≡ forDestination size k x
-destination-exact size k o x e p = p ∙ rw (eq-eqb size (384 * k) e)
+pub build-inputs : (T w : List ℕ) (size : ℕ) → buildTest T w size ≡ Accepted → BuildInputs T w size (tapWordBatches (length w))
+unfolding buildTest
+build-inputs T w size e =
+    let a = both-accepted (tableTest T) _ e in
+    let b = passed _ _ _ (a .1) in
+    let c = passed _ _ _ (b .1) in
+    let s = tap-length-sound mostBatches (length w) (b .0) in
+    record {
+      table = test-sound T (a .0);
+      permitted = s .1;
+      taps = s .0;
+      room = eqb-true _ _ (c .0);
+      canonical = good-test w (passed _ _ _ (c .1) .0);
+    }
 
--- ---- the answer with what is left in the destination
-module _ (T w old : List ℕ) where
-  pub turned-back : (o : Digested) (r : Refusal) → o ≡ Refused r → o ≡ buildAnswer T w (length old) → (o ≡ buildAnswer T w (length old)) × (old ≡ buildLeaves T w old)
-  unfolding buildLeaves
-  turned-back o r e q = (q, ap (λ a. digestedKept a (trace T w (length w / 12)) old) (sym e ∙ q))
-
-  pub built : (d : Digest) (k : ℕ) (new : List ℕ) → length w ≡ 12 * k + 4 → new ≡ trace T w k → Accepted d ≡ buildAnswer T w (length old) → (Accepted d ≡ buildAnswer T w (length old)) × (new ≡ buildLeaves T w old)
-  unfolding buildLeaves
-  built d k new l e q =
-      let n : k ≡ length w / 12 = omega arith in
-      (q, e ∙ ap (trace T w) n ∙ ap (λ a. digestedKept a (trace T w (length w / 12)) old) q)
+pub build-passes : (T w : List ℕ) (size k : ℕ) → BuildInputs T w size k → buildTest T w size ≡ Accepted
+unfolding buildTest
+build-passes T w size k h =
+    let l = tap-length-complete mostBatches (length w) k (h .taps) (h .permitted) in
+    rw (test-complete T (h .table), l .0, eq-eqb _ _ (h .room ∙ ap (λ n. 384 * n) (sym (l .1))), test-good w (h .canonical))

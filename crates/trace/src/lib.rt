@@ -7,13 +7,14 @@ ghost use Rattle.table.specs.Table.{IsTable};
 ghost use Rattle.hash.specs.Hash.{middleState, finalState, outputAt, chain};
 ghost use Rattle.trace.specs.Trace.{hashInput, traceRow, trace};
 ghost use Rattle.trace.specs.Rows.{withRows, Writable};
-ghost use Rattle.trace.specs.Answers.{buildAnswer, buildLeaves};
+ghost use Rattle.trace.specs.Answers.{buildTest, buildAnswer, buildLeaves};
 use counts::BatchCount;
 use counts::BatchNumber;
+use counts::MOST_BATCHES;
 use counts::RowNumber;
 use refusals::Answer;
 use refusals::Digest;
-use refusals::Digested;
+use refusals::DigestAnswer;
 use refusals::Refusal;
 
 // The twelve cells into a part of twelve words.
@@ -115,24 +116,35 @@ fn write_batches(table: &[u64], taps: &[u64], k: usize, destination: &mut [u64])
     state
 }
 
-// Build: 1, 2, 4, 5, 8, 6.
-pub fn build(table: &[u64], taps: &[u64], destination: &mut [u64]) -> Digested
-    ensures { λ r. ⌜ (r ≡ buildAnswer (now (table .entry)) (now (taps .entry)) (length (now (destination .entry)))) × (now (destination .exit) ≡ buildLeaves (now (table .entry)) (now (taps .entry)) (now (destination .entry))) ⌝ }
+// What Build tests: 1, 2, 4, 5, 8, 6.
+fn test_build(table: &[u64], taps: &[u64], size: usize) -> Answer
+    ensures { λ r. ⌜ r ≡ buildTest (now (table .entry)) (now (taps .entry)) size ⌝ }
 {
     let tested = table::test(table);
     let Answer::Accepted = tested else {
-        return Digested::after(tested);
+        return tested;
     };
-    let BatchCount::Permitted(k) = counts::tap_batches(taps.len()) else {
-        return Digested::Refused(Refusal::TapLength);
+    let BatchCount::Permitted(k) = counts::tap_batches(MOST_BATCHES, taps.len()) else {
+        return Answer::Refused(Refusal::TapLength);
     };
-    if destination.len() != 384 * k {
-        return Digested::Refused(Refusal::DestinationLength);
+    if size != 384 * k {
+        return Answer::Refused(Refusal::DestinationLength);
     }
     let bad = words::first_bad(taps);
     if bad != taps.len() {
-        return Digested::Refused(Refusal::TapWord(bad));
+        return Answer::Refused(Refusal::TapWord(bad));
     }
-    let last = write_batches(table, taps, k, destination);
-    Digested::Accepted(Digest(last[0], last[1], last[2], last[3]))
+    Answer::Accepted
+}
+
+// Build writes when all its tests have passed.
+pub fn build(table: &[u64], taps: &[u64], destination: &mut [u64]) -> DigestAnswer
+    ensures { λ r. ⌜ (r ≡ buildAnswer (now (table .entry)) (now (taps .entry)) (length (now (destination .entry)))) × (now (destination .exit) ≡ buildLeaves (now (table .entry)) (now (taps .entry)) (now (destination .entry))) ⌝ }
+{
+    let tested = test_build(table, taps, destination.len());
+    let Answer::Accepted = tested else {
+        return DigestAnswer::Refused(tested.refusal());
+    };
+    let last = write_batches(table, taps, taps.len() / 12, destination);
+    DigestAnswer::Accepted(Digest(last[0], last[1], last[2], last[3]))
 }

@@ -4,6 +4,9 @@
 //!     rt staticlib export && rt staticlib probes
 //!     cargo run --release --offline -p bench
 //!
+//! prints the table of README.md, "Speed". A further operation gets its row, with
+//! its goal, in the list of `operations` or in `field`.
+//!
 //! The implementations take turns, many times over, and the shortest time of
 //! each counts, in the thread's own time: what else the machine does lengthens
 //! some turns of each.
@@ -19,8 +22,10 @@ fn main() {
     field::measure(&mut table);
     let growth = operations::measure(&mut table);
     table.print();
-    println!("\ntime of a batch at k = 1024, of that at k = 64");
-    for (operation, growth) in growth {
-        println!("{operation:<34} {growth:>12.3}");
-    }
+    let growth: Vec<String> = growth
+        .iter()
+        .map(|(operation, growth)| format!("{growth:.2} ({operation})"))
+        .collect();
+    let growth = growth.join(", ");
+    println!("\nA batch at k = 1024 takes {growth} times what it takes at k = 64.");
 }

@@ -57,57 +57,56 @@ impl Day {
             assert_eq!(check, Ok(tests));
         }
     }
-
-    fn name(&self, operation: &str) -> String {
-        format!("{operation}, k = {}", self.k)
-    }
 }
 
 /// Measures all operations; answers how the time of a batch grows from k = 64
 /// to k = 1024.
 pub fn measure(table: &mut Table) -> Vec<(&'static str, f64)> {
     let days = [1, 64, 1024].map(Day::new);
-    prepare(table, &days[0]);
-    hash(table, &days[0]);
     let mut grown = vec![];
-    for (name, goal, operation) in [
-        ("build", Some(1.0), build as fn(&Day) -> Vec<Way>),
-        ("check", Some(1.0), check),
-        ("read-off", None, read_off),
-        ("pack", None, pack),
-        ("unpack", None, unpack),
+    for (name, goal, days, operation) in [
+        ("prepare", None, &days[..1], prepare as fn(&Day) -> Vec<Way>),
+        ("hash", Some(1.0), &days[..1], hash),
+        ("build", Some(1.0), &days, build),
+        ("check", Some(1.0), &days, check),
+        ("read-off", None, &days, read_off),
+        ("pack", None, &days, pack),
+        ("unpack", None, &days, unpack),
     ] {
-        let times: Vec<f64> = days
-            .iter()
-            .map(|day| table.line(&day.name(name), goal, operation(day)) / day.k as f64)
-            .collect();
-        grown.push((name, times[2] / times[1]));
+        let ways = days.iter().map(operation);
+        if let [_] = days {
+            table.row(name, goal, ways);
+        } else {
+            let row = format!("{name}, k = 1 / 64 / 1024, a batch");
+            let times = table.row(&row, goal, ways);
+            grown.push((name, times[2] / times[1]));
+        }
     }
     grown
 }
 
-fn prepare(table: &mut Table, day: &Day) {
-    let raw = [&day.table[..144], &day.table[288..]].concat();
-    let mut one = vec![0; 540];
-    let mut other = vec![0; 540];
-    let ways = vec![
-        Way::new(1, || {
-            black_box(lemoncolumn::prepare(black_box(&raw), &mut one)).expect("prepared");
+fn prepare(day: &Day) -> Vec<Way<'_>> {
+    let raw = || [&day.table[..144], &day.table[288..]].concat();
+    let (one, two) = (raw(), raw());
+    let mut first = vec![0; 540];
+    let mut second = vec![0; 540];
+    vec![
+        Way::new(1, move || {
+            black_box(lemoncolumn::prepare(black_box(&one), &mut first)).expect("prepared");
         }),
-        Way::new(1, || {
-            black_box(second::prepare(black_box(&raw), &mut other)).expect("prepared");
+        Way::new(1, move || {
+            black_box(second::prepare(black_box(&two), &mut second)).expect("prepared");
         }),
-    ];
-    table.line("prepare", None, ways);
+    ]
 }
 
-fn hash(table: &mut Table, day: &Day) {
+fn hash(day: &Day) -> Vec<Way<'_>> {
     let words = std::array::from_fn(|i| day.taps[i]);
     let mut ways = vec![
-        Way::new(1, || {
+        Way::new(1, move || {
             black_box(lemoncolumn::hash(black_box(&day.table), words)).expect("hashed");
         }),
-        Way::new(1, || {
+        Way::new(1, move || {
             black_box(second::hash(black_box(&day.table), words)).expect("hashed");
         }),
     ];
@@ -116,23 +115,23 @@ fn hash(table: &mut Table, day: &Day) {
             black_box(hash(black_box(&day.table), words)).expect("hashed");
         }));
     }
-    table.line("hash", Some(1.0), ways);
+    ways
 }
 
 fn build(day: &Day) -> Vec<Way<'_>> {
     let room = || vec![0; day.trace.len()];
     let (mut one, mut two) = (room(), room());
     let mut ways = vec![
-        Way::new(1, move || {
+        Way::new(day.k, move || {
             black_box(lemoncolumn::build(&day.table, &day.taps, &mut one)).expect("built");
         }),
-        Way::new(1, move || {
+        Way::new(day.k, move || {
             black_box(second::build(&day.table, &day.taps, &mut two)).expect("built");
         }),
     ];
     for Yardstick { build, .. } in BOTH {
         let mut three = room();
-        ways.push(Way::new(1, move || {
+        ways.push(Way::new(day.k, move || {
             black_box(build(&day.table, &day.taps, &mut three)).expect("built");
         }));
     }
@@ -141,15 +140,15 @@ fn build(day: &Day) -> Vec<Way<'_>> {
 
 fn check(day: &Day) -> Vec<Way<'_>> {
     let mut ways = vec![
-        Way::new(1, || {
+        Way::new(day.k, || {
             black_box(lemoncolumn::check(&day.table, &day.trace, day.output)).expect("accepted");
         }),
-        Way::new(1, || {
+        Way::new(day.k, || {
             black_box(second::check(&day.table, &day.trace, day.output)).expect("accepted");
         }),
     ];
     for Yardstick { check, .. } in BOTH {
-        ways.push(Way::new(1, move || {
+        ways.push(Way::new(day.k, move || {
             black_box(check(&day.table, &day.trace, day.output)).expect("accepted");
         }));
     }
@@ -160,18 +159,18 @@ fn read_off(day: &Day) -> Vec<Way<'_>> {
     let room = || vec![0; day.taps.len()];
     let (mut one, mut two) = (room(), room());
     let mut ways = vec![
-        Way::new(1, move || {
+        Way::new(day.k, move || {
             let read = lemoncolumn::read_off(&day.table, &day.trace, day.output, &mut one);
             black_box(read).expect("read");
         }),
-        Way::new(1, move || {
+        Way::new(day.k, move || {
             let read = second::read_off(&day.table, &day.trace, day.output, &mut two);
             black_box(read).expect("read");
         }),
     ];
     for Yardstick { read_off, .. } in BOTH {
         let mut three = room();
-        ways.push(Way::new(1, move || {
+        ways.push(Way::new(day.k, move || {
             let read = read_off(&day.table, &day.trace, day.output, &mut three);
             black_box(read).expect("read");
         }));
@@ -182,10 +181,10 @@ fn read_off(day: &Day) -> Vec<Way<'_>> {
 fn pack(day: &Day) -> Vec<Way<'_>> {
     let (mut one, mut two) = (day.file.clone(), day.file.clone());
     vec![
-        Way::new(1, move || {
+        Way::new(day.k, move || {
             black_box(lemoncolumn::pack(&day.taps, day.output, &mut one)).expect("packed");
         }),
-        Way::new(1, move || {
+        Way::new(day.k, move || {
             black_box(second::pack(&day.taps, day.output, &mut two)).expect("packed");
         }),
     ]
@@ -194,10 +193,10 @@ fn pack(day: &Day) -> Vec<Way<'_>> {
 fn unpack(day: &Day) -> Vec<Way<'_>> {
     let (mut one, mut two) = (day.taps.clone(), day.taps.clone());
     vec![
-        Way::new(1, move || {
+        Way::new(day.k, move || {
             black_box(lemoncolumn::unpack(&day.file, &mut one)).expect("unpacked");
         }),
-        Way::new(1, move || {
+        Way::new(day.k, move || {
             black_box(second::unpack(&day.file, &mut two)).expect("unpacked");
         }),
     ]

@@ -88,20 +88,72 @@ pub fn times(ways: &mut [Way]) -> Vec<f64> {
     best
 }
 
-/// A measured line: the proved library, the second implementation, and the
-/// yardsticks where they have the operation, with the goal for the ratio to the
-/// first of them.
-struct Line {
+/// The shortest times of an operation: of the proved library, of the second
+/// implementation (a), and of the yardsticks (b) and (c) where they have it.
+struct Times(Vec<f64>);
+
+impl Times {
+    /// The proved library's time, of that of another.
+    fn of(&self, other: usize) -> Option<f64> {
+        self.0.get(other).map(|time| self.0[0] / time)
+    }
+}
+
+/// A row: the times of one input, or of each of several, and the goal for the
+/// ratio to (b).
+struct Row {
     name: String,
-    proved: f64,
-    second: f64,
-    each: Option<f64>,
-    late: Option<f64>,
+    times: Vec<Times>,
     goal: Option<f64>,
 }
 
-/// The measured lines.
-pub struct Table(Vec<Line>);
+impl Row {
+    /// A cell, with one number for each input, or with one where all are alike.
+    fn cell(&self, number: impl Fn(&Times) -> String) -> String {
+        let mut all: Vec<String> = self.times.iter().map(number).collect();
+        if all.iter().all(|one| *one == all[0]) {
+            all.truncate(1);
+        }
+        all.join(" / ")
+    }
+
+    fn ratio(&self, other: usize) -> String {
+        self.cell(|times| {
+            let ratio = times.of(other);
+            ratio.map_or(String::new(), |ratio| format!("{ratio:.2}"))
+        })
+    }
+
+    fn goal(&self) -> String {
+        let Some(goal) = self.goal else {
+            return String::new();
+        };
+        let missed = |times: &Times| times.of(2).is_some_and(|ratio| ratio > goal);
+        match self.times.iter().any(missed) {
+            true => format!("{goal:.1}, missed"),
+            false => format!("{goal:.1}"),
+        }
+    }
+}
+
+/// Nanoseconds, with a space before each three digits.
+fn nanoseconds(time: f64) -> String {
+    if time < 10.0 {
+        return format!("{time:.1}");
+    }
+    let digits = format!("{time:.0}");
+    let mut spaced = String::new();
+    for (place, digit) in digits.chars().enumerate() {
+        if place > 0 && (digits.len() - place) % 3 == 0 {
+            spaced.push(' ');
+        }
+        spaced.push(digit);
+    }
+    spaced
+}
+
+/// The table of README.md, "Speed".
+pub struct Table(Vec<Row>);
 
 impl Table {
     pub fn new() -> Table {
@@ -109,42 +161,38 @@ impl Table {
     }
 
     /// Measures the proved library, the second implementation and then the
-    /// yardsticks; answers the proved library's time.
-    pub fn line(&mut self, name: &str, goal: Option<f64>, mut ways: Vec<Way>) -> f64 {
-        let best = times(&mut ways);
-        self.0.push(Line {
+    /// yardsticks, on each input; answers the proved library's times.
+    pub fn row<'a>(
+        &mut self,
+        name: &str,
+        goal: Option<f64>,
+        inputs: impl IntoIterator<Item = Vec<Way<'a>>>,
+    ) -> Vec<f64> {
+        let measured = inputs.into_iter().map(|mut ways| Times(times(&mut ways)));
+        let row = Row {
             name: name.to_string(),
-            proved: best[0],
-            second: best[1],
-            each: best.get(2).copied(),
-            late: best.get(3).copied(),
+            times: measured.collect(),
             goal,
-        });
-        best[0]
+        };
+        let proved = row.times.iter().map(|times| times.0[0]).collect();
+        self.0.push(row);
+        proved
     }
 
     pub fn print(&self) {
-        println!(
-            "{:<34} {:>12} {:>8} {:>8} {:>6} {:>8}",
-            "", "proved, ns", "of (a)", "of (b)", "goal", "of (c)"
-        );
-        for line in &self.0 {
-            let of = |time: Option<f64>| {
-                time.map_or(String::new(), |time| format!("{:.2}", line.proved / time))
-            };
-            let goal = line.goal.map_or(String::new(), |goal| format!("{goal:.1}"));
-            let missed = matches!((line.goal, line.each), (Some(goal), Some(time))
-                if line.proved > goal * time);
-            println!(
-                "{:<34} {:>12.1} {:>8} {:>8} {:>6} {:>8}{}",
-                line.name,
-                line.proved,
-                of(Some(line.second)),
-                of(line.each),
-                goal,
-                of(line.late),
-                if missed { "  missed" } else { "" }
-            );
+        println!("| What | proved, ns | of (a) | of (b) | goal for (b) | of (c) |");
+        println!("|---|---|---|---|---|---|");
+        for row in &self.0 {
+            let cells = [
+                row.name.clone(),
+                row.cell(|times| nanoseconds(times.0[0])),
+                row.ratio(1),
+                row.ratio(2),
+                row.goal(),
+                row.ratio(3),
+            ];
+            let line = format!("| {} |", cells.join(" | "));
+            println!("{}", line.replace("  ", " "));
         }
     }
 }

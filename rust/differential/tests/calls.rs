@@ -1,10 +1,18 @@
 //! The calls as C sees them: a digest's destination that has not four words is
 //! refused with 8, in 8's place of document 01's order, and nothing is written.
 
-use differential::{named, seeds, words, Lent};
+use differential::{named, words, Lent};
 use inputs::*;
-use lemoncolumn::calls;
+use lemoncolumn::{calls, INTERFACE};
 use second::Refusal;
+
+/// The seeds of a test, once it is known that the library takes these calls as
+/// they are declared: nothing else compares the numbers here.
+fn seeds(test: &str) -> impl Iterator<Item = u64> {
+    // SAFETY: it takes nothing.
+    assert_eq!(unsafe { calls::lemoncolumn_interface() }, INTERFACE);
+    differential::seeds(test)
+}
 
 /// The refusals that come before 8 (document 01, "What is turned back").
 fn before_8(refusal: Option<Refusal>) -> bool {

@@ -137,6 +137,34 @@ pub fn other_length(random: &mut Random, exact: usize) -> usize {
     random.pick(&[0, 1, exact - 1, exact + 1, exact / 2, 2 * exact])
 }
 
+/// A destination as lent: its length, and the refusal.
+pub fn lent_destination(
+    random: &mut Random,
+    exact: usize,
+    damaged: bool,
+) -> (usize, Option<Refusal>) {
+    if damaged {
+        let other = other_length(random, exact);
+        (other, Some(Refusal::DestinationLength))
+    } else {
+        (exact, None)
+    }
+}
+
+/// A claim as lent: its words, and the refusal.
+pub fn lent_claim(
+    random: &mut Random,
+    claim: [u64; 4],
+    damaged: bool,
+) -> ([u64; 4], Option<Refusal>) {
+    let mut lent = claim;
+    if !damaged {
+        return (lent, None);
+    }
+    let index = random.spoil(&mut lent);
+    (lent, Some(claim_word(index)))
+}
+
 /// Joins the names of the parts of a case, leaving out the empty ones.
 pub fn join(parts: &[&str]) -> String {
     let named: Vec<&str> = parts

@@ -1,19 +1,20 @@
-//! Board files and the program's input (document 01, "The board file").
+//! Board files (document 01, "The board file"), and the cases of Pack and
+//! Unpack.
 
-use crate::cases::{damage, first_of, join, table_word, ClearCase, UnpackCase};
-use crate::corners;
+use crate::cases::{
+    claim_word, damage, first_of, join, lent_claim, lent_destination, tap_word, PackCase,
+    UnpackCase,
+};
 use crate::random::Random;
-use crate::tables::{good, singular, Good};
-use crate::taps::{lent_destination, list};
-use crate::traces::with_faults;
-use second::field::{add, P};
+use crate::taps::{self, lent_list, list};
+use second::field::P;
 use second::Refusal;
 
 /// One in the two bits of a word's kind.
-pub const KIND: u32 = 1 << 30;
+const KIND: u32 = 1 << 30;
 
 /// The 32-bit words of a file, by division.
-fn words_of(k: usize, claim: &[u64], taps: &[u64]) -> Vec<u32> {
+pub fn words_of(k: usize, claim: &[u64], taps: &[u64]) -> Vec<u32> {
     let mut words = vec![k as u32];
     for &element in claim.iter().chain(taps) {
         words.extend(element_words(element as u128));
@@ -22,7 +23,7 @@ fn words_of(k: usize, claim: &[u64], taps: &[u64]) -> Vec<u32> {
 }
 
 /// The three words of an element below 2^90.
-pub fn element_words(element: u128) -> [u32; 3] {
+fn element_words(element: u128) -> [u32; 3] {
     let unit = KIND as u128;
     [
         KIND + (element / (unit * unit)) as u32,
@@ -34,13 +35,6 @@ pub fn element_words(element: u128) -> [u32; 3] {
 /// The bytes of a file.
 pub fn bytes_of(k: usize, claim: &[u64], taps: &[u64]) -> Vec<u8> {
     bytes(&words_of(k, claim, taps))
-}
-
-/// The program's input: a raw table, then a file.
-pub fn input_of(raw: &[u64], file: &[u8]) -> Vec<u8> {
-    let mut input: Vec<u8> = raw.iter().flat_map(|word| word.to_le_bytes()).collect();
-    input.extend(file);
-    input
 }
 
 fn bytes(words: &[u32]) -> Vec<u8> {
@@ -73,30 +67,30 @@ fn not_an_element(random: &mut Random) -> u128 {
 
 /// What of a file is damaged, in the order of Unpack's refusals.
 #[derive(Clone, Copy, Default)]
-struct Damaged {
+pub struct Damaged {
     /// Cut below 4 bytes.
-    cut: bool,
+    pub cut: bool,
     /// Word 0's kind.
-    kind: bool,
+    pub kind: bool,
     /// Word 0's spare bits or k.
-    head: bool,
+    pub head: bool,
     /// Another length than k's, or a k that is not the length's.
-    length: bool,
+    pub length: bool,
     /// Kinds of elements' words.
-    kinds: bool,
+    pub kinds: bool,
     /// Values of elements.
-    values: bool,
+    pub values: bool,
 }
 
 /// A file as lent, with the refusals before and after the destination's.
-struct LentFile {
-    name: String,
-    bytes: Vec<u8>,
-    before: Option<Refusal>,
-    after: Option<Refusal>,
+pub struct LentFile {
+    pub name: String,
+    pub bytes: Vec<u8>,
+    pub before: Option<Refusal>,
+    pub after: Option<Refusal>,
 }
 
-fn lent_file(random: &mut Random, honest: &[u32], damaged: Damaged) -> LentFile {
+pub fn lent_file(random: &mut Random, honest: &[u32], damaged: Damaged) -> LentFile {
     let mut words = honest.to_vec();
     let mut names = vec![];
     let after = damage_elements(random, &mut words, damaged, &mut names);
@@ -194,6 +188,199 @@ fn damage_elements(
     first.map(|(_, _, refusal)| *refusal)
 }
 
+fn pack_corners(seed: u64) -> Vec<PackCase> {
+    let mut random = Random::new(seed);
+    let mut cases = vec![];
+    for k in (0..=10).map(|exponent| 1 << exponent) {
+        let taps = random.canonicals(12 * k + 4);
+        let claim = std::array::from_fn(|_| random.canonical());
+        let file = bytes_of(k, &claim, &taps);
+        cases.push(PackCase {
+            name: format!("k = {k}"),
+            taps,
+            claim,
+            destination: 144 * k + 100,
+            refusal: None,
+            file,
+        });
+    }
+    cases.extend(refused_lists());
+    cases
+}
+
+fn refused_lists() -> Vec<PackCase> {
+    let mut cases = vec![];
+    let mut push = |name: String, taps: Vec<u64>, claim, destination, refusal| {
+        cases.push(PackCase {
+            name,
+            taps,
+            claim,
+            destination,
+            refusal: Some(refusal),
+            file: vec![],
+        });
+    };
+    for length in taps::LENGTHS {
+        let name = format!("{length} tap words");
+        push(name, vec![P; length], [P; 4], 243, Refusal::TapLength);
+    }
+    for length in [0, 1, 100, 243, 245, 388] {
+        let refusal = Refusal::DestinationLength;
+        push(
+            format!("into {length}"),
+            vec![P; 16],
+            [P; 4],
+            length,
+            refusal,
+        );
+    }
+    for index in 0..4 {
+        let mut claim = [P - 1; 4];
+        claim[index] = P;
+        let name = format!("p at claim word {index}");
+        push(name, vec![P; 16], claim, 244, claim_word(index));
+    }
+    for index in 0..16 {
+        let mut taps = vec![P - 1; 16];
+        taps[index] = P;
+        let name = format!("p at tap word {index}");
+        push(name, taps, [P - 1; 4], 244, tap_word(index));
+    }
+    cases
+}
+
+/// Pack: 5, 8, 9, 6. The corner cases and `n` others.
+pub fn pack_cases(seed: u64, n: usize) -> Vec<PackCase> {
+    let mut random = Random::new(seed);
+    let make = |number| {
+        let [length, destination, claim, word] = damage(&mut random, number);
+        let list = lent_list(&mut random, length, word);
+        let exact = 144 * list.k + 100;
+        let (destination, refusal) = lent_destination(&mut random, exact, destination);
+        let honest: [u64; 4] = std::array::from_fn(|_| random.canonical());
+        let (claim, claim_refusal) = lent_claim(&mut random, honest, claim);
+        let order = [list.length, refusal, claim_refusal, list.word];
+        let spoilt = claim_refusal.map_or("", |_| "claim not canonical");
+        let file = match first_of(&order) {
+            None => bytes_of(list.k, &claim, &list.words),
+            Some(_) => vec![],
+        };
+        PackCase {
+            name: join(&[&list.name, spoilt, &format!("into {destination}")]),
+            taps: list.words,
+            claim,
+            destination,
+            refusal: first_of(&order),
+            file,
+        }
+    };
+    let mut cases = pack_corners(seed);
+    cases.extend((0..n).map(make));
+    cases
+}
+
+/// A file of k = 1 that unpacks, and what is in it.
+struct SmallFile {
+    words: Vec<u32>,
+    claim: [u64; 4],
+    taps: Vec<u64>,
+}
+
+impl SmallFile {
+    fn new(random: &mut Random) -> SmallFile {
+        let claim = std::array::from_fn(|_| random.canonical());
+        let taps = random.canonicals(16);
+        SmallFile {
+            words: words_of(1, &claim, &taps),
+            claim,
+            taps,
+        }
+    }
+
+    fn case(&self, name: String, words: &[u32], refusal: Option<Refusal>) -> UnpackCase {
+        UnpackCase {
+            name,
+            file: bytes(words),
+            destination: 16,
+            refusal,
+            claim: self.claim,
+            taps: self.taps.clone(),
+        }
+    }
+
+    /// The file with word 0 as given.
+    fn with_head(&self, head: u32, refusal: Refusal) -> UnpackCase {
+        let mut words = self.words.clone();
+        words[0] = head;
+        self.case(format!("word 0 is {head:x}"), &words, Some(refusal))
+    }
+}
+
+/// Every bit and word of a small file that can be wrong.
+fn unpack_corners(seed: u64) -> Vec<UnpackCase> {
+    let file = SmallFile::new(&mut Random::new(seed));
+    let mut cases = vec![file.case(String::from("honest"), &file.words, None)];
+    for word in 0..file.words.len() {
+        for turn in 1..4 {
+            let mut words = file.words.clone();
+            words[word] = words[word].wrapping_add(turn * KIND);
+            let refusal = Some(Refusal::Kind { word: word as u64 });
+            let name = format!("word {word} kind off by {turn}");
+            cases.push(file.case(name, &words, refusal));
+        }
+    }
+    cases.extend(heads(&file));
+    for length in [0, 1, 2, 3, 4, 5, 100, 240, 243, 245, 248, 388] {
+        let refusal = Some(Refusal::FileLength);
+        let mut cut = file.case(format!("{length} bytes"), &file.words, refusal);
+        cut.file.resize(length, 0);
+        cases.push(cut);
+    }
+    for length in [0, 1, 4, 15, 17, 20, 28] {
+        let refusal = Some(Refusal::DestinationLength);
+        let mut other = file.case(format!("into {length}"), &file.words, refusal);
+        other.destination = length;
+        cases.push(other);
+    }
+    cases.extend(elements(&file));
+    cases
+}
+
+/// Each spare bit, k not permitted, and k permitted but not in 244 bytes.
+fn heads(file: &SmallFile) -> Vec<UnpackCase> {
+    let mut cases = vec![];
+    for bit in 16..30 {
+        cases.push(file.with_head(1 | 1 << bit, Refusal::Value { word: 0 }));
+    }
+    for k in [
+        0, 3, 5, 6, 7, 1023, 1025, 2048, 4096, 8192, 16384, 32768, 65535,
+    ] {
+        cases.push(file.with_head(k, Refusal::Value { word: 0 }));
+    }
+    for k in [2, 4, 8, 512, 1024] {
+        cases.push(file.with_head(k, Refusal::FileLength));
+    }
+    cases
+}
+
+/// Each element in turn p, 2^62, .., and 2^64 and above.
+fn elements(file: &SmallFile) -> Vec<UnpackCase> {
+    let p = P as u128;
+    let values = [p, 1 << 62, (1 << 64) - 1, 1 << 64, (1 << 64) + 1, 1 << 89];
+    let mut cases = vec![];
+    for element in 0..20 {
+        for value in values {
+            let first = 1 + 3 * element;
+            let mut words = file.words.clone();
+            words[first..first + 3].copy_from_slice(&element_words(value));
+            let refusal = Some(Refusal::Value { word: first as u64 });
+            let name = format!("element {element} is {value}");
+            cases.push(file.case(name, &words, refusal));
+        }
+    }
+    cases
+}
+
 /// Unpack: 12 (below 4), word 0's 13 then 14, 12, 8, then each element. The
 /// corner cases and `n` others.
 pub fn unpack_cases(seed: u64, n: usize) -> Vec<UnpackCase> {
@@ -227,115 +414,7 @@ pub fn unpack_cases(seed: u64, n: usize) -> Vec<UnpackCase> {
             taps,
         }
     };
-    let mut cases = corners::unpack(seed);
+    let mut cases = unpack_corners(seed);
     cases.extend((0..n).map(make));
     cases
-}
-
-/// A raw table as lent to the program.
-struct LentRaw {
-    name: String,
-    words: Vec<u64>,
-    refusal: Option<Refusal>,
-}
-
-fn lent_raw(random: &mut Random, good: &Good, damaged: bool) -> LentRaw {
-    let mut lent = LentRaw {
-        name: good.name.clone(),
-        words: good.raw.clone(),
-        refusal: None,
-    };
-    if damaged {
-        if random.one_in(2) {
-            (lent.name, lent.words) = singular(random);
-            lent.refusal = Some(Refusal::NoInverse);
-        }
-        if lent.refusal.is_none() || random.one_in(4) {
-            let index = random.spoil(&mut lent.words);
-            lent.refusal = Some(table_word(index));
-        }
-    }
-    lent
-}
-
-/// The claim with one column altered, and the refusal that this brings about:
-/// its place is among the last four.
-fn wrong_claim(random: &mut Random, k: usize, claim: &mut [u64; 4]) -> Refusal {
-    let column = random.below(4);
-    claim[column] = add(claim[column], random.unit());
-    Refusal::Constraint {
-        row: 32 * k as u64 - 1,
-        constraint: 49 + column as u64,
-        tests: 372 * k as u64 - 3 + column as u64,
-    }
-}
-
-/// The program's input and line: both lengths come first, then the table, the
-/// file, and the claim. The corner cases and `n` others.
-pub fn clear_cases(seed: u64, n: usize) -> Vec<ClearCase> {
-    let mut random = Random::new(seed);
-    let make = |number| {
-        let flags: [bool; 8] = damage(&mut random, number);
-        let damaged = Damaged {
-            cut: flags[3],
-            kind: flags[3] && random.one_in(2),
-            head: flags[4],
-            length: flags[5],
-            kinds: flags[6],
-            values: flags[7],
-        };
-        let k = random.pick(&[1, 1, 1, 1, 2, 2, 4, 8, 16]);
-        let good = good(&mut random);
-        let table = lent_raw(&mut random, &good, flags[0]);
-        let taps = list(&mut random, k);
-        let (_, mut claim) = with_faults(&good, &taps, &[]);
-        let wrong = flags[1] || flags[2];
-        let fails = wrong.then(|| wrong_claim(&mut random, k, &mut claim));
-        let file = lent_file(&mut random, &words_of(k, &claim, &taps), damaged);
-        let refusal = first_of(&[table.refusal, file.before, file.after, fails]);
-        let mut input = input_of(&table.words, &file.bytes);
-        if number % 16 == 15 {
-            let length = outer_length(&mut random);
-            input.resize(length, random.word() as u8);
-        }
-        let line = line_of(input.len(), k, refusal);
-        ClearCase {
-            name: join(&[&table.name, &format!("k = {k}"), &file.name]),
-            input,
-            line,
-        }
-    };
-    let mut cases = corners::clear(seed);
-    cases.extend((0..n).map(make));
-    cases
-}
-
-/// A length that the program answers without reading further.
-fn outer_length(random: &mut Random) -> usize {
-    let below = random.below(3168);
-    let above = 5573 + random.below(5000);
-    random.pick(&[0, 1, 3167, below, 5573, 7876, above])
-}
-
-/// The line, in document 01's words. Numbers 1 and `too long` go by the length
-/// alone.
-fn line_of(length: usize, k: usize, refusal: Option<Refusal>) -> String {
-    if length < 3168 {
-        return String::from("refused 1\n");
-    }
-    if length > 5572 {
-        return String::from("too long\n");
-    }
-    match refusal {
-        None => format!("accepted {k} {}\n", 372 * k),
-        Some(Refusal::TableWord { index }) => format!("refused 2 {index}\n"),
-        Some(Refusal::NoInverse) => String::from("refused 3\n"),
-        Some(Refusal::Constraint {
-            row, constraint, ..
-        }) => format!("refused 11 {row} {constraint}\n"),
-        Some(Refusal::FileLength) => String::from("refused 12\n"),
-        Some(Refusal::Kind { word }) => format!("refused 13 {word}\n"),
-        Some(Refusal::Value { word }) => format!("refused 14 {word}\n"),
-        Some(other) => unreachable!("the program never answers {other:?}"),
-    }
 }

@@ -1,5 +1,14 @@
 //! Inputs for comparing one implementation with another, damaged input above
-//! all.
+//! all. The modules follow document 01, and each imports only those before it:
+//!
+//! 1. `random`: words from a seed ("The field")
+//! 2. `cases`: a kind of case for each operation ("What is turned back")
+//! 3. `tables`: Prepare ("The table")
+//! 4. `taps`: Hash, Chain and Build ("Hash and chain")
+//! 5. `traces`: days, honest or failing where one wishes ("The trace")
+//! 6. `checks`: Check and Read-off ("The 52 constraints")
+//! 7. `files`: Pack and Unpack ("The board file")
+//! 8. `program`: the line that the program prints (there, "The program reads")
 //!
 //! For each operation there is a kind of case and a function that makes its
 //! corner cases and `n` random ones from a seed; the same seed makes the same
@@ -7,18 +16,25 @@
 //! what must be answered: the refusal, or none. Nothing here asks an
 //! implementation for that; of `second` only the field and the names of the
 //! refusals are used.
+//!
+//! The corner cases come first, all of them every time: each special table,
+//! rank, length and place. Where one thing is wrong in them, what comes later in
+//! the order of refusals is wrong too, so that a call that tests in another order
+//! gives itself away.
 
 pub mod cases;
-pub mod corners;
+pub mod checks;
 pub mod files;
+pub mod program;
 pub mod random;
 pub mod tables;
 pub mod taps;
 pub mod traces;
 
 pub use cases::*;
-pub use files::{clear_cases, unpack_cases};
+pub use checks::{check_cases, fault_cases, read_off_cases};
+pub use files::{pack_cases, unpack_cases};
+pub use program::clear_cases;
 pub use random::Random;
 pub use tables::prepare_cases;
-pub use taps::{build_cases, chain_cases, hash_cases, pack_cases};
-pub use traces::{check_cases, fault_cases, read_off_cases};
+pub use taps::{build_cases, chain_cases, hash_cases};

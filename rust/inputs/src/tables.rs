@@ -1,12 +1,11 @@
 //! Tables (document 01, "The table"): accepted ones of many shapes, matrices of
-//! every rank, and damaged tables.
+//! every rank, damaged tables, and the cases of Prepare.
 //!
 //! Invertible matrices are made by steps on whole rows, and their inverse is
 //! kept by the opposite steps on columns. So no elimination is needed here, and
 //! what Prepare must write is known.
 
 use crate::cases::{damage, first_of, join, other_length, table_word, PrepareCase};
-use crate::corners;
 use crate::random::Random;
 use second::field::{add, mul, reciprocal, sub, P};
 use second::Refusal;
@@ -411,6 +410,92 @@ pub fn first_unlike_identity(words: &[u64]) -> Option<usize> {
     None
 }
 
+/// Z, A, S, and one table of each shape.
+pub fn special_tables(random: &mut Random) -> Vec<Good> {
+    let mut all = vec![z(), a(), s()];
+    for shape in SHAPES {
+        all.push(of_shape(random, shape));
+    }
+    all
+}
+
+/// Prepared tables with one thing wrong: lengths, places of p, wrong inverses.
+pub fn damaged_tables(good: &Good) -> Vec<LentTable> {
+    let mut all = vec![];
+    let mut push = |name: String, words: Vec<u64>, refusal| {
+        let refusal = Some(refusal);
+        all.push(LentTable {
+            name,
+            words,
+            refusal,
+        });
+    };
+    for length in [0, 1, 395, 396, 397, 539, 541] {
+        let name = format!("table of {length} words");
+        push(name, vec![P; length], Refusal::TableLength);
+    }
+    for index in [0, 143, 144, 287, 288, 539] {
+        let mut words = vec![0; 540];
+        words[index] = P;
+        push(format!("p at table word {index}"), words, table_word(index));
+    }
+    for index in [0, 11, 132, 143, 144, 155, 276, 287] {
+        let mut words = good.prepared.clone();
+        words[index] = add(words[index], 1);
+        let cell = first_unlike_identity(&words).expect("altered") as u64;
+        let name = format!("table word {index} altered");
+        push(name, words, Refusal::InverseCell { cell });
+    }
+    all
+}
+
+fn prepare_corners(seed: u64) -> Vec<PrepareCase> {
+    let mut random = Random::new(seed);
+    let mut cases = vec![];
+    for good in special_tables(&mut random) {
+        cases.push(PrepareCase {
+            name: good.name,
+            raw: good.raw,
+            destination: 540,
+            refusal: None,
+            prepared: good.prepared,
+        });
+    }
+    cases.extend(refused_raw_tables(&mut random));
+    cases
+}
+
+fn refused_raw_tables(random: &mut Random) -> Vec<PrepareCase> {
+    let mut cases = vec![];
+    let mut push = |name: String, raw: Vec<u64>, destination, refusal| {
+        cases.push(PrepareCase {
+            name,
+            raw,
+            destination,
+            refusal: Some(refusal),
+            prepared: vec![],
+        });
+    };
+    for rank in 0..12 {
+        let raw = [of_rank(random, rank), random.canonicals(252)].concat();
+        push(format!("rank {rank}"), raw, 540, Refusal::NoInverse);
+    }
+    for length in [0, 1, 144, 395, 397, 539, 540, 541] {
+        let name = format!("{length} raw words");
+        push(name, vec![P; length], 539, Refusal::TableLength);
+    }
+    for length in [0, 1, 396, 539, 541] {
+        let name = format!("into {length}");
+        push(name, vec![P; 396], length, Refusal::DestinationLength);
+    }
+    for index in [0, 143, 144, 155, 156, 395] {
+        let mut raw = vec![0; 396];
+        raw[index] = P;
+        push(format!("p at word {index}"), raw, 540, table_word(index));
+    }
+    cases
+}
+
 /// Prepare: 1, 8, 2, 3. The corner cases and `n` others.
 pub fn prepare_cases(seed: u64, n: usize) -> Vec<PrepareCase> {
     let mut random = Random::new(seed);
@@ -450,7 +535,7 @@ pub fn prepare_cases(seed: u64, n: usize) -> Vec<PrepareCase> {
             prepared: good.prepared,
         }
     };
-    let mut cases = corners::prepare(seed);
+    let mut cases = prepare_corners(seed);
     cases.extend((0..n).map(make));
     cases
 }

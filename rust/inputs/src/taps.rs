@@ -1,14 +1,11 @@
-//! Tap lists (document 01, "Hash and chain"), and the cases of the operations
-//! that take them.
+//! Tap lists (document 01, "Hash and chain"), and the cases of Hash, Chain and
+//! Build.
 
 use crate::cases::{
-    claim_word, damage, first_of, join, other_length, tap_word, BuildCase, ChainCase, HashCase,
-    PackCase,
+    damage, first_of, join, lent_destination, tap_word, BuildCase, ChainCase, HashCase,
 };
-use crate::corners;
-use crate::files::bytes_of;
 use crate::random::Random;
-use crate::tables::{good, lent, LentTable};
+use crate::tables::{damaged_tables, dense, good, lent, special_tables, LentTable};
 use second::field::P;
 use second::Refusal;
 
@@ -34,15 +31,15 @@ pub fn list(random: &mut Random, k: usize) -> Vec<u64> {
 }
 
 /// A list as lent.
-struct LentList {
-    name: String,
-    words: Vec<u64>,
-    k: usize,
-    length: Option<Refusal>,
-    word: Option<Refusal>,
+pub struct LentList {
+    pub name: String,
+    pub words: Vec<u64>,
+    pub k: usize,
+    pub length: Option<Refusal>,
+    pub word: Option<Refusal>,
 }
 
-fn lent_list(random: &mut Random, length: bool, word: bool) -> LentList {
+pub fn lent_list(random: &mut Random, length: bool, word: bool) -> LentList {
     let k = some_k(random);
     let mut lent = LentList {
         name: format!("k = {k}"),
@@ -65,37 +62,38 @@ fn lent_list(random: &mut Random, length: bool, word: bool) -> LentList {
     lent
 }
 
-/// A destination as lent: its length, and the refusal.
-pub fn lent_destination(
-    random: &mut Random,
-    exact: usize,
-    damaged: bool,
-) -> (usize, Option<Refusal>) {
-    if damaged {
-        let other = other_length(random, exact);
-        (other, Some(Refusal::DestinationLength))
-    } else {
-        (exact, None)
-    }
-}
-
-/// A claim as lent: its words, and the refusal.
-pub fn lent_claim(
-    random: &mut Random,
-    claim: [u64; 4],
-    damaged: bool,
-) -> ([u64; 4], Option<Refusal>) {
-    let mut lent = claim;
-    if !damaged {
-        return (lent, None);
-    }
-    let index = random.spoil(&mut lent);
-    (lent, Some(claim_word(index)))
-}
-
 fn lent_table(random: &mut Random, damaged: bool) -> LentTable {
     let good = good(random);
     lent(random, &good, damaged)
+}
+
+fn hash_corners(seed: u64) -> Vec<HashCase> {
+    let mut random = Random::new(seed);
+    let good = dense(&mut random);
+    let mut cases = vec![];
+    let mut push = |name: String, table: &[u64], words, refusal| {
+        cases.push(HashCase {
+            name,
+            table: table.to_vec(),
+            words,
+            refusal,
+        });
+    };
+    for table in damaged_tables(&good) {
+        push(table.name, &table.words, [P; 8], table.refusal);
+    }
+    for table in special_tables(&mut random) {
+        for words in [[0; 8], [1; 8], [P - 1; 8]] {
+            push(table.name.clone(), &table.prepared, words, None);
+        }
+    }
+    for index in 0..8 {
+        let mut words = [P - 1; 8];
+        words[index] = P;
+        let refusal = Some(tap_word(index));
+        push(format!("p at {index}"), &good.prepared, words, refusal);
+    }
+    cases
 }
 
 /// Hash: 1, 2, 4, 6. The corner cases and `n` others.
@@ -117,9 +115,22 @@ pub fn hash_cases(seed: u64, n: usize) -> Vec<HashCase> {
             refusal: first_of(&[table.refusal, refusal]),
         }
     };
-    let mut cases = corners::hash(seed);
+    let mut cases = hash_corners(seed);
     cases.extend((0..n).map(make));
     cases
+}
+
+/// Those of Build that do not turn on the destination.
+fn chain_corners(seed: u64) -> Vec<ChainCase> {
+    let mut cases = build_corners(seed);
+    cases.retain(|case| case.refusal != Some(Refusal::DestinationLength));
+    let chain = |case: BuildCase| ChainCase {
+        name: case.name,
+        table: case.table,
+        taps: case.taps,
+        refusal: case.refusal,
+    };
+    cases.into_iter().map(chain).collect()
 }
 
 /// Chain: 1, 2, 4, 5, 6. The corner cases and `n` others.
@@ -136,8 +147,53 @@ pub fn chain_cases(seed: u64, n: usize) -> Vec<ChainCase> {
             refusal: first_of(&[table.refusal, list.length, list.word]),
         }
     };
-    let mut cases = corners::chain(seed);
+    let mut cases = chain_corners(seed);
     cases.extend((0..n).map(make));
+    cases
+}
+
+fn build_corners(seed: u64) -> Vec<BuildCase> {
+    let mut random = Random::new(seed);
+    let good = dense(&mut random);
+    let mut cases = vec![];
+    let mut push = |name: String, table: &[u64], taps: Vec<u64>, destination, refusal| {
+        cases.push(BuildCase {
+            name,
+            table: table.to_vec(),
+            taps,
+            destination,
+            refusal,
+        });
+    };
+    for table in damaged_tables(&good) {
+        push(table.name, &table.words, vec![P; 15], 383, table.refusal);
+    }
+    let table = &good.prepared;
+    for k in [1, 2, 4, 8, 16, 32] {
+        let taps = random.canonicals(12 * k + 4);
+        push(format!("k = {k}"), table, taps, 384 * k, None);
+    }
+    for length in LENGTHS {
+        let name = format!("{length} tap words");
+        let refusal = Some(Refusal::TapLength);
+        push(name, table, vec![P; length], 383, refusal);
+    }
+    for length in [0, 1, 383, 384, 385, 767, 769] {
+        let refusal = Some(Refusal::DestinationLength);
+        push(
+            format!("into {length}"),
+            table,
+            vec![P; 28],
+            length,
+            refusal,
+        );
+    }
+    for index in [0, 3, 4, 15, 16, 27] {
+        let mut taps = vec![P - 1; 28];
+        taps[index] = P;
+        let refusal = Some(tap_word(index));
+        push(format!("p at {index}"), table, taps, 768, refusal);
+    }
     cases
 }
 
@@ -158,37 +214,7 @@ pub fn build_cases(seed: u64, n: usize) -> Vec<BuildCase> {
             refusal: first_of(&[table.refusal, list.length, refusal, list.word]),
         }
     };
-    let mut cases = corners::build(seed);
-    cases.extend((0..n).map(make));
-    cases
-}
-
-/// Pack: 5, 8, 9, 6. The corner cases and `n` others.
-pub fn pack_cases(seed: u64, n: usize) -> Vec<PackCase> {
-    let mut random = Random::new(seed);
-    let make = |number| {
-        let [length, destination, claim, word] = damage(&mut random, number);
-        let list = lent_list(&mut random, length, word);
-        let exact = 144 * list.k + 100;
-        let (destination, refusal) = lent_destination(&mut random, exact, destination);
-        let honest: [u64; 4] = std::array::from_fn(|_| random.canonical());
-        let (claim, claim_refusal) = lent_claim(&mut random, honest, claim);
-        let order = [list.length, refusal, claim_refusal, list.word];
-        let spoilt = claim_refusal.map_or("", |_| "claim not canonical");
-        let file = match first_of(&order) {
-            None => bytes_of(list.k, &claim, &list.words),
-            Some(_) => vec![],
-        };
-        PackCase {
-            name: join(&[&list.name, spoilt, &format!("into {destination}")]),
-            taps: list.words,
-            claim,
-            destination,
-            refusal: first_of(&order),
-            file,
-        }
-    };
-    let mut cases = corners::pack(seed);
+    let mut cases = build_corners(seed);
     cases.extend((0..n).map(make));
     cases
 }

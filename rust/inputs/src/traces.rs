@@ -1,6 +1,5 @@
 //! Traces (document 01, "The trace" and "The 52 constraints"): honest ones,
-//! ones that fail just the tests one wishes, altered cells, and the cases of
-//! Check and Read-off.
+//! ones that fail just the tests one wishes, and altered cells.
 //!
 //! A trace is written here from its first row to its last, and each row is
 //! chosen so that the next tests come out as wished. That is possible for every
@@ -19,11 +18,9 @@
 //! - 45 to 48: the next row 0 takes the output plus something.
 //! - 49 to 52: the claim is the last output plus something.
 
-use crate::cases::{damage, first_of, join, trace_word, CheckCase, ReadOffCase};
-use crate::corners;
 use crate::random::Random;
-use crate::tables::{dense, good, lent, Good};
-use crate::taps::{lent_claim, lent_destination, list, some_k};
+use crate::tables::{dense, good, Good};
+use crate::taps::list;
 use second::field::{add, cube, mul, root, P};
 use second::Refusal;
 
@@ -408,157 +405,4 @@ fn rows_moved(random: &mut Random, k: usize) -> Day {
     // Row 1 or the last row stands in row 0: no zeros in columns 8 to 11.
     day.fails = Some((0, 1));
     day
-}
-
-/// Every one of the 52 constraints failing alone: with one batch at every row
-/// where it applies, with two and with four once in every batch.
-pub fn fault_cases(seed: u64) -> Vec<CheckCase> {
-    let mut random = Random::new(seed);
-    let mut cases = vec![];
-    for k in [1, 2, 4] {
-        for constraint in 1..=52 {
-            for row in sample_rows(&mut random, constraint, k) {
-                let by = random.unit();
-                let table = good(&mut random);
-                let taps = list(&mut random, k);
-                let fault = Fault {
-                    row,
-                    constraint,
-                    by,
-                };
-                let day = faulty_day(table, taps, &[fault]);
-                cases.push(CheckCase {
-                    name: day.name,
-                    table: day.table.prepared,
-                    trace: day.trace,
-                    claim: day.claim,
-                    refusal: day.fails.map(failed),
-                });
-            }
-        }
-    }
-    cases
-}
-
-/// For k = 1 all rows of a constraint, else one row of each batch.
-fn sample_rows(random: &mut Random, constraint: usize, k: usize) -> Vec<usize> {
-    let rows = rows_of(constraint, k);
-    if k == 1 {
-        return rows;
-    }
-    let mut sample = vec![];
-    for batch in 0..k {
-        let within: Vec<usize> = rows.iter().copied().filter(|r| r / 32 == batch).collect();
-        if !within.is_empty() {
-            sample.push(random.pick(&within));
-        }
-    }
-    sample
-}
-
-/// Lengths of traces that are not 384k with k permitted; 1152, 1920 and 786432
-/// are 384k with k = 3, 5 and 2048.
-pub const LENGTHS: [usize; 12] = [0, 1, 12, 32, 372, 383, 385, 767, 769, 1152, 1920, 786432];
-
-/// What of a call is damaged.
-struct Damaged {
-    table: bool,
-    length: bool,
-    destination: bool,
-    claim: bool,
-    word: bool,
-    constraint: bool,
-}
-
-/// A case of Read-off; without its destination one of Check.
-fn lent_case(random: &mut Random, number: usize, damaged: Damaged) -> ReadOffCase {
-    let k = some_k(random);
-    let day = if damaged.constraint {
-        broken(random, k, number / 8)
-    } else {
-        honest(random, k)
-    };
-    let k = day.trace.len() / 384;
-    let table = lent(random, &day.table, damaged.table);
-    let (destination, not_exact) = lent_destination(random, 12 * k + 4, damaged.destination);
-    let (claim, claim_word) = lent_claim(random, day.claim, damaged.claim);
-    let mut trace = day.trace;
-    let mut length = None;
-    let mut word = None;
-    let mut name = day.name;
-    if damaged.word {
-        let index = random.spoil(&mut trace);
-        word = Some(trace_word(index));
-        name += &format!(", trace word {index} not canonical");
-    }
-    if damaged.length {
-        let words = random.pick(&LENGTHS);
-        trace.resize(words, random.word());
-        length = Some(Refusal::TraceLength);
-        name += &format!(", {words} trace words");
-    }
-    let not_canonical = claim_word.map_or("", |_| "claim not canonical");
-    let fails = day.fails.map(failed);
-    ReadOffCase {
-        name: join(&[
-            &name,
-            &table.name,
-            not_canonical,
-            &format!("into {destination}"),
-        ]),
-        table: table.words,
-        trace,
-        claim,
-        destination,
-        refusal: first_of(&[table.refusal, length, not_exact, claim_word, word, fails]),
-        taps: day.taps,
-    }
-}
-
-/// Check: 1, 2, 4, 7, 9, 10, 11. The corner cases and `n` others; of the single
-/// damages every second is a constraint that fails.
-pub fn check_cases(seed: u64, n: usize) -> Vec<CheckCase> {
-    let mut random = Random::new(seed);
-    let make = |number| {
-        let flags: [bool; 8] = damage(&mut random, number);
-        let damaged = Damaged {
-            table: flags[0],
-            length: flags[2],
-            destination: false,
-            claim: flags[4],
-            word: flags[6],
-            constraint: flags[1] || flags[3] || flags[5] || flags[7],
-        };
-        let case = lent_case(&mut random, number, damaged);
-        CheckCase {
-            name: case.name,
-            table: case.table,
-            trace: case.trace,
-            claim: case.claim,
-            refusal: case.refusal,
-        }
-    };
-    let mut cases = corners::check(seed);
-    cases.extend((0..n).map(make));
-    cases
-}
-
-/// Read-off: 1, 2, 4, 7, 8, 9, 10, 11. The corner cases and `n` others.
-pub fn read_off_cases(seed: u64, n: usize) -> Vec<ReadOffCase> {
-    let mut random = Random::new(seed);
-    let make = |number| {
-        let flags: [bool; 8] = damage(&mut random, number);
-        let damaged = Damaged {
-            table: flags[0],
-            length: flags[2],
-            destination: flags[3],
-            claim: flags[4],
-            word: flags[6],
-            constraint: flags[1] || flags[5] || flags[7],
-        };
-        lent_case(&mut random, number, damaged)
-    };
-    let mut cases = corners::read_off(seed);
-    cases.extend((0..n).map(make));
-    cases
 }

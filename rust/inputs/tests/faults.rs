@@ -3,9 +3,9 @@
 
 use inputs::tables::{self, Good};
 use inputs::traces::{
-    day, failed, fault_cases, faulty_day, first_failure_of_cell, place, rows_of, with_faults, Fault,
+    day, failed, faulty_day, first_failure_of_cell, place, rows_of, with_faults, Fault,
 };
-use inputs::Random;
+use inputs::{fault_cases, Random};
 use second::constraints::{tests, Lent, Test};
 use second::field::{add, mul, reciprocal, sub};
 use second::{Refusal, Table};

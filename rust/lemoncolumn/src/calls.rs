@@ -2,10 +2,14 @@
 //! for memory that is lent as pointers and not as slices. Each pointer must be
 //! valid and aligned for the length after it, not null even where that is 0,
 //! what a call writes must overlap nothing else lent to it, and lent memory must
-//! not change during the call; nothing more is asked. [`crate::decode`] reads
-//! what they return.
+//! not change during the call; nothing more is asked, where the linked library
+//! has this interface: whoever makes these calls first compares what
+//! `lemoncolumn_interface` returns with [`crate::INTERFACE`].
+//! [`crate::decode`] reads what the others return.
 
 extern "C" {
+    pub fn lemoncolumn_interface() -> u64;
+
     pub fn lemoncolumn_prepare(
         raw: *const u64,
         raw_words: usize,

@@ -4,15 +4,25 @@
 //! every lent buffer as it was. Lengths are tested by the library, so any slice
 //! may be lent. Words are unsigned 64-bit numbers; the library tests that they
 //! are canonical, that is, below [`P`].
+//!
+//! # Panics
+//!
+//! Where a call takes other parameters than it did, the number of the interface
+//! is raised, since a linker would not notice. So each call first asks the linked
+//! library for its number, which takes about a nanosecond. Where that is not
+//! [`INTERFACE`], the call panics and lends nothing.
 
 pub mod calls;
 mod files;
+mod interface;
 mod refusal;
 
 pub use files::{batches, raw_table, MOST_BATCHES, RAW_BYTES};
+pub use interface::INTERFACE;
 pub use refusal::{decode, Refusal};
 
 use calls::*;
+use interface::call;
 use refusal::accepted;
 
 /// The prime of the field.
@@ -41,8 +51,9 @@ pub const fn file_bytes(k: usize) -> usize {
 pub fn prepare(raw: &[u64], table: &mut [u64]) -> Result<(), Refusal> {
     // SAFETY: a slice's pointer and length are valid, and `table` is lent to
     // this call alone. The same holds below.
-    let code =
-        unsafe { lemoncolumn_prepare(raw.as_ptr(), raw.len(), table.as_mut_ptr(), table.len()) };
+    let code = call(|| unsafe {
+        lemoncolumn_prepare(raw.as_ptr(), raw.len(), table.as_mut_ptr(), table.len())
+    });
     accepted(code)
 }
 
@@ -50,7 +61,7 @@ pub fn prepare(raw: &[u64], table: &mut [u64]) -> Result<(), Refusal> {
 pub fn hash(table: &[u64], words: [u64; 8]) -> Result<[u64; 4], Refusal> {
     let [a, b, c, d, e, f, g, h] = words;
     let mut output = [0; 4];
-    let code = unsafe {
+    let code = call(|| unsafe {
         lemoncolumn_hash(
             table.as_ptr(),
             table.len(),
@@ -65,14 +76,14 @@ pub fn hash(table: &[u64], words: [u64; 8]) -> Result<[u64; 4], Refusal> {
             output.as_mut_ptr(),
             output.len(),
         )
-    };
+    });
     accepted(code).map(|()| output)
 }
 
 /// The output of the chain of a list of taps.
 pub fn chain(table: &[u64], taps: &[u64]) -> Result<[u64; 4], Refusal> {
     let mut output = [0; 4];
-    let code = unsafe {
+    let code = call(|| unsafe {
         lemoncolumn_chain(
             table.as_ptr(),
             table.len(),
@@ -81,14 +92,14 @@ pub fn chain(table: &[u64], taps: &[u64]) -> Result<[u64; 4], Refusal> {
             output.as_mut_ptr(),
             output.len(),
         )
-    };
+    });
     accepted(code).map(|()| output)
 }
 
 /// Writes the trace of a list of taps; answers the output of its chain.
 pub fn build(table: &[u64], taps: &[u64], trace: &mut [u64]) -> Result<[u64; 4], Refusal> {
     let mut output = [0; 4];
-    let code = unsafe {
+    let code = call(|| unsafe {
         lemoncolumn_build(
             table.as_ptr(),
             table.len(),
@@ -99,14 +110,14 @@ pub fn build(table: &[u64], taps: &[u64], trace: &mut [u64]) -> Result<[u64; 4],
             output.as_mut_ptr(),
             output.len(),
         )
-    };
+    });
     accepted(code).map(|()| output)
 }
 
 /// Tests a trace against a claim; answers the number of tests walked.
 pub fn check(table: &[u64], trace: &[u64], claim: [u64; 4]) -> Result<u64, Refusal> {
     let [a, b, c, d] = claim;
-    let code = unsafe {
+    let code = call(|| unsafe {
         lemoncolumn_check(
             table.as_ptr(),
             table.len(),
@@ -117,7 +128,7 @@ pub fn check(table: &[u64], trace: &[u64], claim: [u64; 4]) -> Result<u64, Refus
             c,
             d,
         )
-    };
+    });
     decode(code)
 }
 
@@ -129,7 +140,7 @@ pub fn read_off(
     taps: &mut [u64],
 ) -> Result<u64, Refusal> {
     let [a, b, c, d] = claim;
-    let code = unsafe {
+    let code = call(|| unsafe {
         lemoncolumn_read_off(
             table.as_ptr(),
             table.len(),
@@ -142,14 +153,14 @@ pub fn read_off(
             taps.as_mut_ptr(),
             taps.len(),
         )
-    };
+    });
     decode(code)
 }
 
 /// Writes the board file of a list of taps and a claim.
 pub fn pack(taps: &[u64], claim: [u64; 4], file: &mut [u8]) -> Result<(), Refusal> {
     let [a, b, c, d] = claim;
-    let code = unsafe {
+    let code = call(|| unsafe {
         lemoncolumn_pack(
             taps.as_ptr(),
             taps.len(),
@@ -160,14 +171,14 @@ pub fn pack(taps: &[u64], claim: [u64; 4], file: &mut [u8]) -> Result<(), Refusa
             file.as_mut_ptr(),
             file.len(),
         )
-    };
+    });
     accepted(code)
 }
 
 /// Writes the taps of a board file; answers its claim.
 pub fn unpack(file: &[u8], taps: &mut [u64]) -> Result<[u64; 4], Refusal> {
     let mut claim = [0; 4];
-    let code = unsafe {
+    let code = call(|| unsafe {
         lemoncolumn_unpack(
             file.as_ptr(),
             file.len(),
@@ -176,6 +187,6 @@ pub fn unpack(file: &[u8], taps: &mut [u64]) -> Result<[u64; 4], Refusal> {
             claim.as_mut_ptr(),
             claim.len(),
         )
-    };
+    });
     accepted(code).map(|()| claim)
 }
