@@ -1,101 +1,94 @@
 -- What Pack and Unpack answer, case by case in the order of their tests, and what acceptance says.
 -- Assumes nothing.
-use mathlib.Core.Path.{_≡_, refl, sym, ap, _∙_}
+use mathlib.Core.Path.{_≡_, sym, ap, _∙_}
 use mathlib.Core.Bool.{true, false}
 use mathlib.Core.List.{List}
-use Prim.Native.Nat.{ℕ, _+_, _*_, _/_, _<_, _≤_}
+use Prim.Native.Nat.{ℕ, _+_, _*_, _<_, _≤_}
 use native.Mathlib.Omega.{arith}
 use borrow.Author.Tests.{eq-eqb, ne-eqb, eqb-true, le-leb, lt-leb}
 use lib.Dec.{eqb, leb}
 use lib.ListN.{length}
-use Rattle.words.specs.Words.{AllCanonical, firstBad}
-use Rattle.words.proofs.Laws.{all-good, good-all}
-use Rattle.counts.specs.Counts.{IsPermitted, permitted, tapBatches}
-use Rattle.counts.specs.declared.BatchCount.{BatchCount}
-use Rattle.counts.specs.declared.BatchCount.the-variants as count
-use Rattle.counts.proofs.Laws.{permitted-sound, permitted-complete, tap-sound, tap-complete}
-use Rattle.fileword.specs.Words.{kindOf, wordAt}
-use Rattle.elements.specs.Elements.{unless, elementsTest}
-use Rattle.elements.proofs.Tests.{passed, after, each-accepted, all-accepted}
-use Rattle.refusals.specs.Refusals.{digestedAfter, digest}
+use Rattle.words.specs.Words.{AllCanonical, firstBad, canonicalWords}
+use Rattle.words.proofs.Laws.{test-good, good-test}
+use Rattle.counts.specs.Counts.{IsPermittedTo, permitted, tapWordBatches, isTapLength}
+use Rattle.counts.proofs.Laws.{permitted-sound, permitted-complete, tap-length-sound, tap-length-complete}
+use Rattle.refusals.specs.Refusals.{digest}
 use Rattle.refusals.specs.declared.Refusal.{Refusal}
 use Rattle.refusals.specs.declared.Refusal.the-variants.{TapLength, TapWord, DestinationLength, ClaimWord, FileLength, WrongKind, WrongValue}
-use Rattle.refusals.specs.declared.Answer.{Answer}
 use Rattle.refusals.specs.declared.Answer.the-variants.{Accepted, Refused}
 use Rattle.refusals.specs.declared.Digest.{Digest}
-use Rattle.refusals.specs.declared.Digested.the-variants as digested
-use Rattle.board.specs.Board.{countWord, fileSize, counted, packAnswer, packed, packLeaves, countIn, spareIn, batchesIn, claimIn, tapsIn, countTest, unpackTest, unpackAnswer, unpackLeaves, IsBoard}
+use Rattle.refusals.specs.declared.DigestAnswer.the-variants as digest-answer
+use Rattle.refusals.proofs.Laws.{passed, both-accepted, digest-accepted}
+use Rattle.elements.specs.Words.{kindOf, wordAt}
+use Rattle.elements.specs.Elements.{elementsTest}
+use Rattle.elements.proofs.Tests.{each-accepted, all-accepted}
+use Rattle.board.specs.Board.{mostFileBatches, countWord, fileSize, packTest, packed, packLeaves, countIn, spareIn, batchesIn, claimIn, tapsIn, countTest, unpackTest, unpackAnswer, unpackLeaves, IsBoard}
 
 -- ---- Pack
-pub pack-length : (taps claim : List ℕ) (size : ℕ) → tapBatches (length taps) ≡ count.Refused → packAnswer taps claim size ≡ Refused TapLength
-unfolding packAnswer
-pack-length taps claim size e = rw e
+module _ (taps claim : List ℕ) (size : ℕ) where
+  pub pack-length : isTapLength mostFileBatches (length taps) ≡ false → packTest taps claim size ≡ Refused TapLength
+  unfolding packTest
+  pack-length e = rw e
 
-module _ (taps claim : List ℕ) (size k : ℕ) (e : tapBatches (length taps) ≡ count.Permitted k) where
-  pub pack-destination : (size ≡ fileSize k → ⊥) → packAnswer taps claim size ≡ Refused DestinationLength
-  unfolding packAnswer
-  pack-destination s = rw (e, ne-eqb _ _ s)
+  module _ (e : isTapLength mostFileBatches (length taps) ≡ true) where
+    pub pack-destination : (size ≡ fileSize (tapWordBatches (length taps)) → ⊥) → packTest taps claim size ≡ Refused DestinationLength
+    unfolding packTest
+    pack-destination s = rw (e, ne-eqb _ _ s)
 
-  pub pack-claim : size ≡ fileSize k → (firstBad claim ≡ length claim → ⊥) → packAnswer taps claim size ≡ Refused (ClaimWord (firstBad claim))
-  unfolding packAnswer
-  pack-claim s c = rw (e, eq-eqb _ _ s, ne-eqb _ _ c)
+    module _ (s : size ≡ fileSize (tapWordBatches (length taps))) where
+      pub pack-claim : canonicalWords claim ≡ false → packTest taps claim size ≡ Refused (ClaimWord (firstBad claim))
+      unfolding packTest
+      pack-claim c = rw (e, eq-eqb _ _ s, c)
 
-  pub pack-tap : size ≡ fileSize k → firstBad claim ≡ length claim → (firstBad taps ≡ length taps → ⊥) → packAnswer taps claim size ≡ Refused (TapWord (firstBad taps))
-  unfolding packAnswer
-  pack-tap s c t = rw (e, eq-eqb _ _ s, eq-eqb _ _ c, ne-eqb _ _ t)
+      module _ (c : canonicalWords claim ≡ true) where
+        pub pack-tap : canonicalWords taps ≡ false → packTest taps claim size ≡ Refused (TapWord (firstBad taps))
+        unfolding packTest
+        pack-tap t = rw (e, eq-eqb _ _ s, c, t)
 
-  pub pack-accepts : size ≡ fileSize k → firstBad claim ≡ length claim → firstBad taps ≡ length taps → packAnswer taps claim size ≡ Accepted
-  unfolding packAnswer
-  pack-accepts s c t = rw (e, eq-eqb _ _ s, eq-eqb _ _ c, eq-eqb _ _ t)
+        pub pack-accepts : canonicalWords taps ≡ true → packTest taps claim size ≡ Accepted
+        unfolding packTest
+        pack-accepts t = rw (e, eq-eqb _ _ s, c, t)
 
 -- what Pack's acceptance says of taps, claim and the destination's length
 pub record IsPacked (taps claim : List ℕ) (size k : ℕ) : Type 0 where
-  pub permitted : IsPermitted k
+  pub permitted : IsPermittedTo mostFileBatches k
   pub taps-size : length taps ≡ 12 * k + 4
   pub size-is : size ≡ fileSize k
   pub claim-canonical : AllCanonical claim
   pub taps-canonical : AllCanonical taps
 
-pub pack-accepted : (taps claim : List ℕ) (size : ℕ) → packAnswer taps claim size ≡ Accepted → IsPacked taps claim size (length taps / 12)
-unfolding packAnswer
-pack-accepted taps claim size = go (tapBatches (length taps)) refl
-  where
-    rest : ℕ → Answer
-    rest k =
-        unless (eqb size (fileSize k)) DestinationLength
-        (unless (eqb (firstBad claim) (length claim)) (ClaimWord (firstBad claim))
-        (unless (eqb (firstBad taps) (length taps)) (TapWord (firstBad taps))
-        Accepted))
+pub pack-accepted : (taps claim : List ℕ) (size : ℕ) → packTest taps claim size ≡ Accepted
+    → IsPacked taps claim size (tapWordBatches (length taps))
+unfolding packTest
+pack-accepted taps claim size e =
+    let a = passed (isTapLength mostFileBatches (length taps)) TapLength _ e in
+    let b = passed (eqb size (fileSize (tapWordBatches (length taps)))) DestinationLength _ (a .1) in
+    let c = passed (canonicalWords claim) (ClaimWord (firstBad claim)) _ (b .1) in
+    let d = passed (canonicalWords taps) (TapWord (firstBad taps)) _ (c .1) in
+    let t = tap-length-sound mostFileBatches (length taps) (a .0) in
+    record {
+      permitted = t .1;
+      taps-size = t .0;
+      size-is = eqb-true _ _ (b .0);
+      claim-canonical = good-test claim (c .0);
+      taps-canonical = good-test taps (d .0);
+    }
 
-    go : (n : BatchCount) → tapBatches (length taps) ≡ n → counted n TapLength rest ≡ Accepted → IsPacked taps claim size (length taps / 12)
-    go count.Refused e q = absurd (let z : _≡_ {A = ℕ} 0 1 = cc in omega arith)
-    go (count.Permitted k) e q =
-        let t = tap-sound (length taps) k e in
-        let k-is : length taps / 12 ≡ k = omega (arith, t .0) in
-        let a = passed _ _ _ q in
-        let b = passed _ _ _ (a .1) in
-        let c = passed _ _ _ (b .1) in
-        rw k-is (record {
-          permitted = t .1;
-          taps-size = t .0;
-          size-is = eqb-true _ _ (a .0);
-          claim-canonical = good-all claim (eqb-true _ _ (b .0));
-          taps-canonical = good-all taps (eqb-true _ _ (c .0));
-        })
-
-pub pack-complete : (taps claim : List ℕ) (size k : ℕ) → IsPacked taps claim size k → packAnswer taps claim size ≡ Accepted
+pub pack-complete : (taps claim : List ℕ) (size k : ℕ) → IsPacked taps claim size k → packTest taps claim size ≡ Accepted
 pack-complete taps claim size k h =
-    pack-accepts taps claim size k (ap tapBatches (h .taps-size) ∙ tap-complete k (h .permitted)) (h .size-is) (all-good claim (h .claim-canonical)) (all-good taps (h .taps-canonical))
+    let t = tap-length-complete mostFileBatches (length taps) k (h .taps-size) (h .permitted) in
+    let s = h .size-is ∙ sym (ap fileSize (t .1)) in
+    pack-accepts taps claim size (t .0) s (test-good claim (h .claim-canonical)) (test-good taps (h .taps-canonical))
 
 -- Pack's answer, with what is left in the destination
 module _ (taps claim old : List ℕ) where
-  pub pack-turned-back : {r : Refusal} → packAnswer taps claim (length old) ≡ Refused r
-      → (Refused r ≡ packAnswer taps claim (length old)) × (old ≡ packLeaves taps claim old)
+  pub pack-turned-back : {r : Refusal} → packTest taps claim (length old) ≡ Refused r
+      → (Refused r ≡ packTest taps claim (length old)) × (old ≡ packLeaves taps claim old)
   unfolding packLeaves
   pack-turned-back e = (sym e, rw e)
 
-  pub pack-written : {new : List ℕ} → packAnswer taps claim (length old) ≡ Accepted → new ≡ packed taps claim
-      → (Accepted ≡ packAnswer taps claim (length old)) × (new ≡ packLeaves taps claim old)
+  pub pack-written : {new : List ℕ} → packTest taps claim (length old) ≡ Accepted → new ≡ packed taps claim
+      → (Accepted ≡ packTest taps claim (length old)) × (new ≡ packLeaves taps claim old)
   unfolding packLeaves
   pack-written e q = (sym e, q ∙ rw e)
 
@@ -108,27 +101,27 @@ pub count-spare : (w : ℕ) → kindOf w ≡ 0 → (spareIn w ≡ 0 → ⊥) →
 unfolding countTest
 count-spare w a b = rw (eq-eqb _ _ a, ne-eqb _ _ b)
 
-pub count-value : (w : ℕ) → kindOf w ≡ 0 → spareIn w ≡ 0 → permitted (countIn w) ≡ false → countTest w ≡ Refused (WrongValue 0)
+pub count-value : (w : ℕ) → kindOf w ≡ 0 → spareIn w ≡ 0 → permitted mostFileBatches (countIn w) ≡ false → countTest w ≡ Refused (WrongValue 0)
 unfolding countTest
 count-value w a b p = rw (eq-eqb _ _ a, eq-eqb _ _ b, p)
 
-pub count-accepts : (w : ℕ) → kindOf w ≡ 0 → spareIn w ≡ 0 → permitted (countIn w) ≡ true → countTest w ≡ Accepted
+pub count-accepts : (w : ℕ) → kindOf w ≡ 0 → spareIn w ≡ 0 → permitted mostFileBatches (countIn w) ≡ true → countTest w ≡ Accepted
 unfolding countTest
 count-accepts w a b p = rw (eq-eqb _ _ a, eq-eqb _ _ b, p)
 
 -- word 0 is accepted exactly where it is the count word of a permitted k
-pub count-accepted : (w : ℕ) → countTest w ≡ Accepted → (w ≡ countWord (countIn w)) × IsPermitted (countIn w)
+pub count-accepted : (w : ℕ) → countTest w ≡ Accepted → (w ≡ countWord (countIn w)) × IsPermittedTo mostFileBatches (countIn w)
 unfolding countTest
 count-accepted w e =
     let a = passed (eqb (kindOf w) 0) (WrongKind 0) _ e in
     let b = passed (eqb (spareIn w) 0) (WrongValue 0) _ (a .1) in
-    let c = passed (permitted (countIn w)) (WrongValue 0) _ (b .1) in
-    (omega (arith, eqb-true (kindOf w) 0 (a .0), eqb-true (spareIn w) 0 (b .0)), permitted-sound (countIn w) (c .0))
+    let c = passed (permitted mostFileBatches (countIn w)) (WrongValue 0) _ (b .1) in
+    (omega (arith, eqb-true (kindOf w) 0 (a .0), eqb-true (spareIn w) 0 (b .0)), permitted-sound mostFileBatches (countIn w) (c .0))
 
-pub count-complete : (k : ℕ) → IsPermitted k → (countIn (countWord k) ≡ k) × (countTest (countWord k) ≡ Accepted)
+pub count-complete : (k : ℕ) → IsPermittedTo mostFileBatches k → (countIn (countWord k) ≡ k) × (countTest (countWord k) ≡ Accepted)
 count-complete k p =
     let k-is : countIn (countWord k) ≡ k = omega (arith, p .high) in
-    (k-is, count-accepts (countWord k) (omega (arith, p .high)) (omega (arith, p .high)) (ap permitted k-is ∙ permitted-complete k p))
+    (k-is, count-accepts (countWord k) (omega (arith, p .high)) (omega (arith, p .high)) (ap (permitted mostFileBatches) k-is ∙ permitted-complete mostFileBatches k p))
 
 -- ---- Unpack
 module _ (file : List ℕ) (size : ℕ) where
@@ -159,7 +152,7 @@ pub unpack-accepted : (file : List ℕ) (size : ℕ) → unpackTest file size �
 unfolding unpackTest batchesIn
 unpack-accepted file size e =
     let a = passed (leb 4 (length file)) FileLength _ e in
-    let b = after (countTest (wordAt file 0)) _ (a .1) in
+    let b = both-accepted (countTest (wordAt file 0)) _ (a .1) in
     let c = passed (eqb (length file) (fileSize (batchesIn file))) FileLength _ (b .1) in
     let d = passed (eqb size (12 * batchesIn file + 4)) DestinationLength _ (c .1) in
     let w = count-accepted (wordAt file 0) (b .0) in (
@@ -184,31 +177,28 @@ unpack-complete file k h =
     ∙ rw b (all-accepted file 1 (12 * k + 8) (h .elements))
 
 -- what is returned: the claim, or the refusal
-pub unpack-returns : (file : List ℕ) (size : ℕ) → unpackTest file size ≡ Accepted → unpackAnswer file size ≡ digested.Accepted (digest (claimIn file))
+pub unpack-returns : (file : List ℕ) (size : ℕ) → unpackTest file size ≡ Accepted → unpackAnswer file size ≡ digest-answer.Accepted (digest (claimIn file))
 unfolding unpackAnswer
 unpack-returns file size e = rw e
 
-pub unpack-refuses : (file : List ℕ) (size : ℕ) (r : Refusal) → unpackTest file size ≡ Refused r → unpackAnswer file size ≡ digested.Refused r
+pub unpack-refuses : (file : List ℕ) (size : ℕ) (r : Refusal) → unpackTest file size ≡ Refused r → unpackAnswer file size ≡ digest-answer.Refused r
 unfolding unpackAnswer
 unpack-refuses file size r e = rw e
 
 -- with what is left in the destination
 module _ (file old : List ℕ) where
   pub unpack-turned-back : {r : Refusal} → unpackTest file (length old) ≡ Refused r
-      → (digested.Refused r ≡ unpackAnswer file (length old)) × (old ≡ unpackLeaves file old)
+      → (digest-answer.Refused r ≡ unpackAnswer file (length old)) × (old ≡ unpackLeaves file old)
   unfolding unpackAnswer unpackLeaves
   unpack-turned-back e = (rw e, rw e)
 
   pub unpack-written : {new : List ℕ} → unpackTest file (length old) ≡ Accepted → new ≡ tapsIn file
-      → (digested.Accepted (digest (claimIn file)) ≡ unpackAnswer file (length old)) × (new ≡ unpackLeaves file old)
+      → (digest-answer.Accepted (digest (claimIn file)) ≡ unpackAnswer file (length old)) × (new ≡ unpackLeaves file old)
   unfolding unpackAnswer unpackLeaves
   unpack-written e q = (rw e, q ∙ rw e)
 
 -- and conversely
-pub returned : (file : List ℕ) (size : ℕ) (d : Digest) → unpackAnswer file size ≡ digested.Accepted d → (unpackTest file size ≡ Accepted) × (digest (claimIn file) ≡ d)
+pub returned : (file : List ℕ) (size : ℕ) (d : Digest) → unpackAnswer file size ≡ digest-answer.Accepted d
+    → (unpackTest file size ≡ Accepted) × (digest (claimIn file) ≡ d)
 unfolding unpackAnswer
-returned file size d = go (unpackTest file size) refl
-  where
-    go : (t : Answer) → unpackTest file size ≡ t → digestedAfter t (digested.Accepted (digest (claimIn file))) ≡ digested.Accepted d → (unpackTest file size ≡ Accepted) × (digest (claimIn file) ≡ d)
-    go Accepted e q = (e, cc)
-    go (Refused r) e q = absurd (let z : _≡_ {A = ℕ} 0 1 = cc in omega arith)
+returned file size d e = digest-accepted (unpackTest file size) (digest (claimIn file)) d e

@@ -7,16 +7,16 @@ use native.Mathlib.Numerals.{one-add}
 use native.Mathlib.Omega.{arith}
 use lib.ListN.{length, length-append}
 use lib.Seq.{sets}
-use Rattle.lists.specs.Lists.{cell}
+use Rattle.lists.specs.Lists.{cell, each}
+use Rattle.lists.proofs.Each.{each-append}
+use Rattle.lists.proofs.Stores.{sets-append, sets-all}
 use Rattle.words.specs.Words.{AllCanonical}
-use Rattle.fileword.specs.Words.{wordBytes, wordAt, each, bytesOf}
-use Rattle.fileword.proofs.Each.{each-append}
-use Rattle.fileword.proofs.Stores.{sets-append, sets-all}
-use Rattle.fileword.proofs.Laws.{length-bytes, word-bytes}
+use Rattle.elements.specs.Words.{wordBytes, wordAt, bytesOf}
 use Rattle.elements.specs.Elements.{elementWords, wordsOf}
+use Rattle.elements.proofs.Words.{length-bytes, word-bytes}
 use Rattle.elements.proofs.Laws.{length-words}
 use Rattle.elements.proofs.Round.{words-below}
-use Rattle.board.specs.Board.{countWord, fileOf, fileSize}
+use Rattle.board.specs.Board.{mostFileBatches, countWord, fileOf, fileSize}
 
 pub file-length : (taps claim : List ℕ) (k : ℕ) → length claim ≡ 4 → length taps ≡ 12 * k + 4 → length (fileOf taps claim k) ≡ fileSize k
 unfolding fileOf
@@ -45,7 +45,7 @@ file-written l l₁ l₂ l₃ taps claim k w c t size e p q r =
     ∙ sym parts
 
 -- ---- the words of the file of canonical taps and a canonical claim
-module _ (taps claim : List ℕ) (k : ℕ) (small : k ≤ 1024) (all : AllCanonical (claim ++ taps)) where
+module _ (taps claim : List ℕ) (k : ℕ) (small : k ≤ mostFileBatches) (all : AllCanonical (claim ++ taps)) where
   words : List ℕ
   words = countWord k ∷ wordsOf (claim ++ taps)
 

@@ -10,20 +10,20 @@ use lib.Seq.{take-at, drop-at}
 use Rattle.lists.specs.Lists.{cell, tab}
 use Rattle.words.specs.Words.{AllCanonical}
 use Rattle.words.proofs.Laws.{append-canonical}
-use Rattle.counts.specs.Counts.{IsPermitted}
-use Rattle.fileword.specs.Words.{wordAt, AllBytes, bytesOf}
-use Rattle.fileword.proofs.Laws.{bytes-unique}
+use Rattle.counts.specs.Counts.{IsPermittedTo}
+use Rattle.refusals.specs.Refusals.{digest, digestWords}
+use Rattle.refusals.specs.declared.Digest.{Digest}
+use Rattle.elements.specs.Words.{wordAt, AllBytes, bytesOf}
 use Rattle.elements.specs.Elements.{wordsOf, elementsAt}
+use Rattle.elements.proofs.Words.{bytes-unique}
 use Rattle.elements.proofs.Laws.{length-words}
 use Rattle.elements.proofs.Round.{read-accepted, read-back, words-back, length-elements, elements-append, elements-canonical}
-use Rattle.refusals.specs.Refusals.{digest}
-use Rattle.refusals.specs.declared.Digest.{Digest}
-use Rattle.board.specs.Board.{countWord, fileOf, batchesIn, claimIn, tapsIn, claimOf, IsBoard}
+use Rattle.board.specs.Board.{mostFileBatches, countWord, fileOf, batchesIn, claimIn, tapsIn, IsBoard}
 use Rattle.board.proofs.Cases.{batches-is}
 use Rattle.board.proofs.Files as files
 
 -- ---- the file of canonical taps and a canonical claim is a board file, and is read as those
-module _ (taps claim : List ℕ) (k : ℕ) (permitted : IsPermitted k) (t : length taps ≡ 12 * k + 4) (t-canonical : AllCanonical taps) (c : length claim ≡ 4) (c-canonical : AllCanonical claim) where
+module _ (taps claim : List ℕ) (k : ℕ) (permitted : IsPermittedTo mostFileBatches k) (t : length taps ≡ 12 * k + 4) (t-canonical : AllCanonical taps) (c : length claim ≡ 4) (c-canonical : AllCanonical claim) where
   all : AllCanonical (claim ++ taps)
   all = append-canonical claim taps c-canonical t-canonical
 
@@ -99,9 +99,9 @@ board-canonical file h = (
   elements-canonical file 13 (12 * batchesIn file + 4) (λ i l. rw (after-claim i) at (h .elements (4 + i) (omega arith))),
 )
 
-pub claim-is : (file : List ℕ) (d : Digest) → digest (claimIn file) ≡ d → claimIn file ≡ claimOf d
+pub claim-is : (file : List ℕ) (d : Digest) → digest (claimIn file) ≡ d → claimIn file ≡ digestWords d
 unfolding claimIn elementsAt tab
-claim-is file d e = ap claimOf e
+claim-is file d e = ap digestWords e
 
 pub taps-length : (file : List ℕ) → length (tapsIn file) ≡ 12 * batchesIn file + 4
 unfolding tapsIn

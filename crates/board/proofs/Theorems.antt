@@ -3,22 +3,23 @@
 -- Assumes nothing.
 use mathlib.Core.Path.{_≡_, refl, sym, ap, _∙_}
 use mathlib.Core.List.{List, [], _∷_, _++_}
-use Prim.Native.Nat.{ℕ, zero, suc, _+_, _*_, _/_, _^_, _<_, _≤_}
+use Prim.Native.Nat.{ℕ, zero, suc, _+_, _*_, _^_, _<_, _≤_}
 use native.Mathlib.Omega.{arith}
 use lib.ListN.{length, replicate}
+use Rattle.lists.specs.Lists.{each}
 use Rattle.field.specs.Field.{P, Canonical}
 use Rattle.words.specs.Words.{AllCanonical}
-use Rattle.counts.specs.Counts.{IsPermitted}
-use Rattle.fileword.specs.Words.{payloadOf, wordAt, AllBytes, each, bytesOf}
-use Rattle.elements.specs.Elements.{elementAt}
-use Rattle.elements.proofs.Laws.{no-word}
-use Rattle.elements.proofs.Tests.{too-large, first-refused}
-use Rattle.refusals.specs.Refusals.{digest}
+use Rattle.counts.specs.Counts.{IsPermittedTo, tapWordBatches}
+use Rattle.refusals.specs.Refusals.{digest, digestWords}
 use Rattle.refusals.specs.declared.Digest.{Digest}
 use Rattle.refusals.specs.declared.Refusal.the-variants.{WrongValue}
 use Rattle.refusals.specs.declared.Answer.the-variants as answer
-use Rattle.refusals.specs.declared.Digested.the-variants.{Accepted, Refused}
-use Rattle.board.specs.Board.{fileOf, packAnswer, packed, batchesIn, claimIn, tapsIn, unpackAnswer, claimOf, IsBoard, ReadTo}
+use Rattle.refusals.specs.declared.DigestAnswer.the-variants.{Accepted, Refused}
+use Rattle.elements.specs.Words.{payloadOf, wordAt, AllBytes, bytesOf}
+use Rattle.elements.specs.Elements.{elementAt}
+use Rattle.elements.proofs.Laws.{no-word}
+use Rattle.elements.proofs.Tests.{too-large, first-refused}
+use Rattle.board.specs.Board.{mostFileBatches, fileOf, packTest, packed, batchesIn, claimIn, tapsIn, unpackAnswer, IsBoard, ReadTo}
 use Rattle.board.proofs.Cases.{pack-accepted, pack-complete, unpack-accepted, unpack-complete, unpack-elements, unpack-returns, unpack-refuses, returned}
 use Rattle.board.proofs.Files as files
 use Rattle.board.proofs.Round.{packed-board, packed-claim, packed-taps, board-packs, board-canonical, claim-is, taps-length}
@@ -28,7 +29,7 @@ pub file-length : (taps claim : List ℕ) (k : ℕ) → length claim ≡ 4 → l
 file-length taps claim k c t = files.file-length taps claim k c t
 
 -- a packed board file unpacks to its taps and claim
-pub unpack-pack : (taps claim : List ℕ) (k : ℕ) → IsPermitted k → length taps ≡ 12 * k + 4 → AllCanonical taps → length claim ≡ 4 → AllCanonical claim
+pub unpack-pack : (taps claim : List ℕ) (k : ℕ) → IsPermittedTo mostFileBatches k → length taps ≡ 12 * k + 4 → AllCanonical taps → length claim ≡ 4 → AllCanonical claim
     → (unpackAnswer (fileOf taps claim k) (length taps) ≡ Accepted (digest claim)) × (tapsIn (fileOf taps claim k) ≡ taps)
 unpack-pack taps claim k p t ts c cs =
     let file : List ℕ = fileOf taps claim k in
@@ -38,24 +39,24 @@ unpack-pack taps claim k p t ts c cs =
     )
 
 -- the same of whatever Pack accepts
-pub unpack-packed : (taps claim : List ℕ) (size : ℕ) → length claim ≡ 4 → packAnswer taps claim size ≡ answer.Accepted
+pub unpack-packed : (taps claim : List ℕ) (size : ℕ) → length claim ≡ 4 → packTest taps claim size ≡ answer.Accepted
     → (unpackAnswer (packed taps claim) (length taps) ≡ Accepted (digest claim)) × (tapsIn (packed taps claim) ≡ taps)
 unfolding packed
 unpack-packed taps claim size c e =
     let h = pack-accepted taps claim size e in
-    unpack-pack taps claim (length taps / 12) (h .permitted) (h .taps-size) (h .taps-canonical) c (h .claim-canonical)
+    unpack-pack taps claim (tapWordBatches (length taps)) (h .permitted) (h .taps-size) (h .taps-canonical) c (h .claim-canonical)
 
 -- an accepted file packs to the same bytes
 pub pack-unpack : (file : List ℕ) (size : ℕ) (d : Digest) → AllBytes file → unpackAnswer file size ≡ Accepted d
-    → (packAnswer (tapsIn file) (claimOf d) (length file) ≡ answer.Accepted) × (packed (tapsIn file) (claimOf d) ≡ file)
+    → (packTest (tapsIn file) (digestWords d) (length file) ≡ answer.Accepted) × (packed (tapsIn file) (digestWords d) ≡ file)
 unfolding packed
 pack-unpack file size d bytes e =
     let r = returned file size d e in
     let h = unpack-accepted file size (r .0) .0 in
     let c = claim-is file d (r .1) in
     let canonical = board-canonical file h in
-    let k-is : length (tapsIn file) / 12 ≡ batchesIn file = omega (arith, taps-length file) in (
-      pack-complete (tapsIn file) (claimOf d) (length file) (batchesIn file) (record {
+    let k-is : tapWordBatches (length (tapsIn file)) ≡ batchesIn file = omega (arith, taps-length file) in (
+      pack-complete (tapsIn file) (digestWords d) (length file) (batchesIn file) (record {
         permitted = h .permitted;
         taps-size = taps-length file;
         size-is = h .size;
@@ -68,10 +69,10 @@ pack-unpack file size d bytes e =
 -- so two accepted files that hold the same claim and taps are equal
 pub one-meaning : (f g : List ℕ) (m n : ℕ) (d : Digest) → AllBytes f → AllBytes g → unpackAnswer f m ≡ Accepted d → unpackAnswer g n ≡ Accepted d → tapsIn f ≡ tapsIn g → f ≡ g
 one-meaning f g m n d bf bg ef eg t =
-    sym (pack-unpack f m d bf ef .1) ∙ ap (λ s. packed s (claimOf d)) t ∙ pack-unpack g n d bg eg .1
+    sym (pack-unpack f m d bf ef .1) ∙ ap (λ s. packed s (digestWords d)) t ∙ pack-unpack g n d bg eg .1
 
 -- what is accepted are the board files, into a destination of their 12k + 4 words
-pub accepted-board : (file : List ℕ) (size : ℕ) (d : Digest) → unpackAnswer file size ≡ Accepted d → IsBoard file (batchesIn file) × (size ≡ 12 * batchesIn file + 4) × (claimIn file ≡ claimOf d)
+pub accepted-board : (file : List ℕ) (size : ℕ) (d : Digest) → unpackAnswer file size ≡ Accepted d → IsBoard file (batchesIn file) × (size ≡ 12 * batchesIn file + 4) × (claimIn file ≡ digestWords d)
 accepted-board file size d e =
     let r = returned file size d e in
     let h = unpack-accepted file size (r .0) in

@@ -1,26 +1,27 @@
 -- The board file: what Pack writes, and what Unpack finds (document 01, "The board file", "What is turned back").
 -- Assumes nothing.
 use mathlib.Core.Path.{_≡_}
-use mathlib.Core.List.{List, [], _∷_, _++_}
+use mathlib.Core.List.{List, _∷_, _++_}
 use Prim.Native.Nat.{ℕ, _+_, _*_, _/_, _%_, _^_, _≤_, _<_}
 use lib.Dec.{eqb, leb}
 use lib.ListN.{length}
-use Rattle.words.specs.Words.{firstBad}
-use Rattle.counts.specs.Counts.{IsPermitted, permitted, tapBatches}
-use Rattle.counts.specs.declared.BatchCount.{BatchCount}
-use Rattle.counts.specs.declared.BatchCount.the-variants as count
-use Rattle.fileword.specs.Words.{joined, kindOf, payloadOf, wordAt, bytesOf}
-use Rattle.elements.specs.Elements.{wordsOf, elementsAt, unless, elementsTest, IsElement}
-use Rattle.refusals.specs.Refusals.{answerAfter, digestedAfter, digest, answerKept, digestedKept}
-use Rattle.refusals.specs.declared.Refusal.{Refusal}
-use Rattle.refusals.specs.declared.Refusal.the-variants.{TapLength, TapWord, DestinationLength, ClaimWord, FileLength, WrongKind, WrongValue}
+use Rattle.words.specs.Words.{firstBad, canonicalWords}
+use Rattle.counts.specs.Counts.{IsPermittedTo, permitted, tapWordBatches, isTapLength}
+use Rattle.refusals.specs.Refusals.{digest}
+use Rattle.refusals.specs.Answers.{unless, after, digestAfter, leaves}
+use Rattle.refusals.specs.declared.Refusal.the-variants.{TapLength, TapWord, DestinationLength, ClaimWord}
+use Rattle.refusals.specs.declared.Refusal.the-variants.{FileLength, WrongKind, WrongValue}
 use Rattle.refusals.specs.declared.Answer.{Answer}
-use Rattle.refusals.specs.declared.Answer.the-variants.{Accepted, Refused}
-use Rattle.refusals.specs.declared.Digest.{Digest}
-use Rattle.refusals.specs.declared.Digested.{Digested}
-use Rattle.refusals.specs.declared.Digested.the-variants as digested
+use Rattle.refusals.specs.declared.Answer.the-variants.{Accepted}
+use Rattle.refusals.specs.declared.DigestAnswer.{DigestAnswer}
+use Rattle.elements.specs.Words.{joined, kindOf, payloadOf, wordAt, bytesOf}
+use Rattle.elements.specs.Elements.{wordsOf, elementsAt, elementsTest, IsElement}
 
 -- ---- the file of k batches
+
+-- the most batches of a file
+abbrev pub mostFileBatches : ℕ
+mostFileBatches = 1024
 
 -- word 0 has kind 0, bits 16 to 29 zero, k in bits 0 to 15
 abbrev pub countWord : ℕ → ℕ
@@ -36,42 +37,42 @@ fileSize k = 144 * k + 100
 
 -- ---- Pack: 5, 8, 9, 6
 
--- the refusal unless the count is permitted, and then what follows
-abbrev pub counted : BatchCount → Refusal → (ℕ → Answer) → Answer
-counted (count.Permitted k) r rest = rest k
-counted count.Refused r rest = Refused r
-
--- size is the destination's length
-unfoldable pub packAnswer : List ℕ → List ℕ → ℕ → Answer
-packAnswer taps claim size =
-    counted (tapBatches (length taps)) TapLength (λ k.
-    unless (eqb size (fileSize k)) DestinationLength
-    (unless (eqb (firstBad claim) (length claim)) (ClaimWord (firstBad claim))
-    (unless (eqb (firstBad taps) (length taps)) (TapWord (firstBad taps))
+-- what its tests find, which it answers; size is the destination's length
+unfoldable pub packTest : List ℕ → List ℕ → ℕ → Answer
+packTest taps claim size =
+    unless (isTapLength mostFileBatches (length taps)) TapLength
+    (unless (eqb size (fileSize (tapWordBatches (length taps)))) DestinationLength
+    (unless (canonicalWords claim) (ClaimWord (firstBad claim))
+    (unless (canonicalWords taps) (TapWord (firstBad taps))
     Accepted)))
 
--- what an accepting Pack writes: a list of 12k + 4 words stands for k batches
+-- what an accepting Pack writes
 unfoldable pub packed : List ℕ → List ℕ → List ℕ
-packed taps claim = fileOf taps claim (length taps / 12)
+packed taps claim = fileOf taps claim (tapWordBatches (length taps))
 
 -- what Pack leaves in the destination: that file, or what was there
 unfoldable pub packLeaves : List ℕ → List ℕ → List ℕ → List ℕ
-packLeaves taps claim old = answerKept (packAnswer taps claim (length old)) (packed taps claim) old
+packLeaves taps claim old = leaves (packTest taps claim (length old)) (packed taps claim) old
 
 -- ---- what any bytes hold
 
+-- k, as word 0 has it
 abbrev pub countIn : ℕ → ℕ
 countIn w = w % 2 ^ 16
 
+-- the spare bits of word 0
 abbrev pub spareIn : ℕ → ℕ
 spareIn w = payloadOf w / 2 ^ 16
 
+-- the file's k
 unfoldable pub batchesIn : List ℕ → ℕ
 batchesIn file = countIn (wordAt file 0)
 
+-- its claim: four elements after word 0
 unfoldable pub claimIn : List ℕ → List ℕ
 claimIn file = elementsAt file 1 4
 
+-- its taps: the elements after the claim
 unfoldable pub tapsIn : List ℕ → List ℕ
 tapsIn file = elementsAt file 13 (12 * batchesIn file + 4)
 
@@ -82,32 +83,29 @@ unfoldable pub countTest : ℕ → Answer
 countTest w =
     unless (eqb (kindOf w) 0) (WrongKind 0)
     (unless (eqb (spareIn w) 0) (WrongValue 0)
-    (unless (permitted (countIn w)) (WrongValue 0)
+    (unless (permitted mostFileBatches (countIn w)) (WrongValue 0)
     Accepted))
 
+-- what reading the file finds; size is the destination's length
 unfoldable pub unpackTest : List ℕ → ℕ → Answer
 unpackTest file size =
     unless (leb 4 (length file)) FileLength
-    (answerAfter (countTest (wordAt file 0))
+    (after (countTest (wordAt file 0))
     (unless (eqb (length file) (fileSize (batchesIn file))) FileLength
     (unless (eqb size (12 * batchesIn file + 4)) DestinationLength
     (elementsTest file 1 (12 * batchesIn file + 8)))))
 
 -- the claim is returned
-unfoldable pub unpackAnswer : List ℕ → ℕ → Digested
-unpackAnswer file size = digestedAfter (unpackTest file size) (digested.Accepted (digest (claimIn file)))
+unfoldable pub unpackAnswer : List ℕ → ℕ → DigestAnswer
+unpackAnswer file size = digestAfter (unpackTest file size) (digest (claimIn file))
 
 -- what Unpack leaves in the destination: the 12k + 4 tap words, or what was there
 unfoldable pub unpackLeaves : List ℕ → List ℕ → List ℕ
-unpackLeaves file old = digestedKept (unpackAnswer file (length old)) (tapsIn file) old
-
--- the four words of a claim that is returned
-abbrev pub claimOf : Digest → List ℕ
-claimOf d = d .0 ∷ d .1 ∷ d .2 ∷ d .3 ∷ []
+unpackLeaves file old = leaves (unpackTest file (length old)) (tapsIn file) old
 
 -- ---- what acceptance says: the bytes are a board file of k batches
 pub record IsBoard (file : List ℕ) (k : ℕ) : Type 0 where
-  pub permitted : IsPermitted k
+  pub permitted : IsPermittedTo mostFileBatches k
   pub word : wordAt file 0 ≡ countWord k
   pub size : length file ≡ fileSize k
   pub elements : (i : ℕ) → i < 12 * k + 8 → IsElement file (1 + 3 * i)

@@ -3,19 +3,24 @@
 ghost use mathlib.Core.Path.{_≡_};
 ghost use Prim.Native.Nat.{_+_, _*_, _≤_};
 ghost use lib.ListN.{length};
-ghost use Rattle.board.specs.Board.{fileOf, fileSize, packAnswer, packLeaves, countIn, countTest, unpackTest, unpackAnswer, unpackLeaves};
+ghost use Rattle.board.specs.Board.{mostFileBatches, fileOf, fileSize, packTest, packLeaves};
+ghost use Rattle.board.specs.Board.{countIn, countTest, unpackTest, unpackAnswer, unpackLeaves};
 use counts::BatchCount;
-use fileword::Word;
+use elements::Word;
 use refusals::Answer;
 use refusals::Digest;
-use refusals::Digested;
+use refusals::DigestAnswer;
 use refusals::Refusal;
+
+// The most batches of a file.
+pub const MOST_BATCHES: usize = 1024;
 
 // Writes the board file of the taps and the claim: 5, 8, 9, 6.
 pub fn pack(taps: &[u64], claim: [u64; 4], destination: &mut [u8]) -> Answer
-    ensures { λ r. ⌜ (r ≡ packAnswer (now (taps .entry)) claim (length (now (destination .entry)))) × (now (destination .exit) ≡ packLeaves (now (taps .entry)) claim (now (destination .entry))) ⌝ }
+    ensures { λ r. ⌜ r ≡ packTest (now (taps .entry)) claim (length (now (destination .entry))) ⌝ }
+    ensures { λ _. ⌜ now (destination .exit) ≡ packLeaves (now (taps .entry)) claim (now (destination .entry)) ⌝ }
 {
-    let count = counts::tap_batches(taps.len());
+    let count = counts::tap_batches(MOST_BATCHES, taps.len());
     let BatchCount::Permitted(k) = count else {
         return Answer::Refused(Refusal::TapLength);
     };
@@ -36,7 +41,7 @@ pub fn pack(taps: &[u64], claim: [u64; 4], destination: &mut [u8]) -> Answer
 
 // Word 0, then claim and taps.
 fn write_file(taps: &[u64], claim: [u64; 4], k: usize, destination: &mut [u8])
-    requires { ⌜ (k ≤ 1024) × (length (now taps) ≡ 12 * k + 4) × (length (now destination) ≡ fileSize k) ⌝ }
+    requires { ⌜ (k ≤ mostFileBatches) × (length (now taps) ≡ 12 * k + 4) × (length (now destination) ≡ fileSize k) ⌝ }
     ensures { λ _. ⌜ now (destination .exit) ≡ fileOf (now (taps .entry)) claim k ⌝ }
 {
     Word::join(0, k as u32).write(0, destination);
@@ -61,14 +66,15 @@ fn test_count(word: Word) -> Answer
     if word.payload() >> 16 != 0 {
         return Answer::Refused(Refusal::WrongValue(0));
     }
-    if counts::is_permitted(count_in(word)) {
+    if counts::is_permitted(MOST_BATCHES, count_in(word)) {
         Answer::Accepted
     } else {
         Answer::Refused(Refusal::WrongValue(0))
     }
 }
 
-// What reading the whole file finds: 12 (below 4), word 0's 13 then 14, 12, 8, then each element's three kinds and its value.
+// What reading the whole file finds: 12 (below 4), word 0's 13 then 14, 12, 8, then each element's three kinds and its
+// value.
 fn test_file(file: &[u8], size: usize) -> Answer
     ensures { λ r. ⌜ r ≡ unpackTest (now (file .entry)) size ⌝ }
 {
@@ -90,13 +96,15 @@ fn test_file(file: &[u8], size: usize) -> Answer
     elements::test_all(file, 1, 12 * k + 8)
 }
 
-// Writes the taps of a board file and returns its claim. The whole file is tested before the first word is written, since a refusal alters nothing.
-pub fn unpack(file: &[u8], destination: &mut [u64]) -> Digested
-    ensures { λ r. ⌜ (r ≡ unpackAnswer (now (file .entry)) (length (now (destination .entry)))) × (now (destination .exit) ≡ unpackLeaves (now (file .entry)) (now (destination .entry))) ⌝ }
+// Writes the taps of a board file and returns its claim. The whole file is tested before the first word is written, since
+// a refusal alters nothing.
+pub fn unpack(file: &[u8], destination: &mut [u64]) -> DigestAnswer
+    ensures { λ r. ⌜ r ≡ unpackAnswer (now (file .entry)) (length (now (destination .entry))) ⌝ }
+    ensures { λ _. ⌜ now (destination .exit) ≡ unpackLeaves (now (file .entry)) (now (destination .entry)) ⌝ }
 {
     let tested = test_file(file, destination.len());
     let Answer::Accepted = tested else {
-        return Digested::after(tested);
+        return DigestAnswer::Refused(tested.refusal());
     };
     let claim = Digest(
         elements::read(file, 1),
@@ -105,5 +113,5 @@ pub fn unpack(file: &[u8], destination: &mut [u64]) -> Digested
         elements::read(file, 10),
     );
     elements::read_all(file, 13, destination);
-    Digested::Accepted(claim)
+    DigestAnswer::Accepted(claim)
 }

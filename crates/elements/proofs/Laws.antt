@@ -10,13 +10,13 @@ use lib.Bits.{bitOr, or-shifted}
 use lib.ListN.{length, take}
 use lib.Pow.{shr-shr}
 use lib.Seq.{sets, take-suc, length-take-le}
-use Rattle.lists.specs.Lists.{cell}
-use Rattle.fileword.specs.Words.{joined, kindOf, payloadOf, wordBytes, wordAt, each, bytesOf}
-use Rattle.fileword.proofs.Shifts.{above}
-use Rattle.fileword.proofs.Each.{each-append, length-each, cell-each}
-use Rattle.fileword.proofs.Stores.{sets-append}
-use Rattle.fileword.proofs.Laws.{length-bytes}
+use Rattle.lists.specs.Lists.{cell, each}
+use Rattle.lists.proofs.Each.{each-append, length-each, cell-each}
+use Rattle.lists.proofs.Stores.{sets-append}
+use Rattle.elements.specs.Words.{joined, kindOf, payloadOf, wordBytes, wordAt, bytesOf}
 use Rattle.elements.specs.Elements.{elementWords, wordsOf, elementOf, elementAt}
+use Rattle.elements.proofs.Shifts.{above}
+use Rattle.elements.proofs.Words.{length-bytes}
 
 -- three payloads joined by shifts, where the first is below 16
 pub spelled : (a b c : ℕ) → a < 2 ^ 4 → b < 2 ^ 30 → c < 2 ^ 30 → bitOr (bitOr (a * 2 ^ 60 % 2 ^ 64) (b * 2 ^ 30 % 2 ^ 64)) c ≡ a * 2 ^ 60 + b * 2 ^ 30 + c

@@ -10,7 +10,7 @@ use Rattle.lists.specs.Lists.{cell}
 use Rattle.lists.proofs.Tab.{length-tab, cell-tab, tab-ext, tab-unique, tab-add}
 use Rattle.field.specs.Field.{P}
 use Rattle.words.specs.Words.{AllCanonical}
-use Rattle.fileword.specs.Words.{joined, wordAt}
+use Rattle.elements.specs.Words.{joined, wordAt}
 use Rattle.elements.specs.Elements.{elementWords, wordsOf, elementAt, elementsAt, IsElement}
 use Rattle.elements.proofs.Laws.{words-spell, spell-words, cell-words}
 

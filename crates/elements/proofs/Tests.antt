@@ -1,29 +1,21 @@
 -- What the tests of elements come to: acceptance says kinds and values, and a walk element by element ends at the first that is refused.
 -- Assumes nothing.
 use mathlib.Core.Path.{_≡_, refl, sym, ap, _∙_}
-use mathlib.Core.Bool.{Bool, true, false}
 use mathlib.Core.List.{List}
 use Prim.Native.Nat.{ℕ, zero, suc, _+_, _*_, _-_, _<_, _≤_}
 use native.Mathlib.Omega.{arith}
 use borrow.Author.Tests.{eq-eqb, ne-eqb, eqb-true, lt-ltb, le-ltb, ltb-true}
 use Rattle.field.specs.Field.{P}
-use Rattle.fileword.specs.Words.{kindOf, wordAt}
-use Rattle.refusals.specs.Refusals.{answerAfter}
+use Rattle.refusals.specs.Answers.{after}
 use Rattle.refusals.specs.declared.Refusal.{Refusal}
 use Rattle.refusals.specs.declared.Refusal.the-variants.{WrongKind, WrongValue}
 use Rattle.refusals.specs.declared.Answer.{Answer}
 use Rattle.refusals.specs.declared.Answer.the-variants.{Accepted, Refused}
-use Rattle.elements.specs.Elements.{elementAt, unless, elementTest, elementsTest, IsElement}
+use Rattle.refusals.proofs.Laws.{passed, both-accepted}
+use Rattle.elements.specs.Words.{kindOf, wordAt}
+use Rattle.elements.specs.Elements.{elementAt, elementTest, elementsTest, IsElement}
 
--- a test that was passed, and what follows it
-pub passed : (b : Bool) (r : Refusal) (rest : Answer) → unless b r rest ≡ Accepted → (b ≡ true) × (rest ≡ Accepted)
-passed true r rest e = (refl, e)
-passed false r rest e = absurd (let z : _≡_ {A = ℕ} 0 1 = cc in omega arith)
-
-pub after : (a rest : Answer) → answerAfter a rest ≡ Accepted → (a ≡ Accepted) × (rest ≡ Accepted)
-after Accepted rest e = (refl, e)
-after (Refused r) rest e = absurd (let z : _≡_ {A = ℕ} 0 1 = cc in omega arith)
-
+-- ---- one element
 pub accepted : (file : List ℕ) (j : ℕ) → elementTest file j ≡ Accepted → IsElement file j
 unfolding elementTest
 accepted file j e =
@@ -62,12 +54,12 @@ tests-none file j = refl
 
 -- what is left after i of n elements, the next of them tested
 tests-next : (file : List ℕ) (j n i : ℕ) → i < n
-    → elementsTest file (j + 3 * i) (n - i) ≡ answerAfter (elementTest file (j + 3 * i)) (elementsTest file (j + 3 * (i + 1)) (n - (i + 1)))
+    → elementsTest file (j + 3 * i) (n - i) ≡ after (elementTest file (j + 3 * i)) (elementsTest file (j + 3 * (i + 1)) (n - (i + 1)))
 unfolding elementsTest
 tests-next file j n i h =
     let e : n - i ≡ suc (n - (i + 1)) = omega arith in
     let f : j + 3 * i + 3 ≡ j + 3 * (i + 1) = omega arith in
-    ap (elementsTest file (j + 3 * i)) e ∙ ap (λ k. answerAfter (elementTest file (j + 3 * i)) (elementsTest file k (n - (i + 1)))) f
+    ap (elementsTest file (j + 3 * i)) e ∙ ap (λ k. after (elementTest file (j + 3 * i)) (elementsTest file k (n - (i + 1)))) f
 
 -- a walk goes on where the next is accepted, and stops where it is refused
 pub tests-on : (file : List ℕ) (j n i : ℕ) (t : Answer) → i < n → t ≡ elementTest file (j + 3 * i) → t ≡ Accepted
@@ -87,9 +79,9 @@ unfolding elementsTest
 each-accepted file j zero e i h = absurd (omega arith)
 each-accepted file j (suc n) e zero h =
     let s : j ≡ j + 3 * 0 = omega arith in
-    rw s at (accepted file j (after (elementTest file j) (elementsTest file (j + 3) n) e .0))
+    rw s at (accepted file j (both-accepted (elementTest file j) (elementsTest file (j + 3) n) e .0))
 each-accepted file j (suc n) e (suc i) h =
-    rw (next j i) at (each-accepted file (j + 3) n (after (elementTest file j) (elementsTest file (j + 3) n) e .1) i (omega arith))
+    rw (next j i) at (each-accepted file (j + 3) n (both-accepted (elementTest file j) (elementsTest file (j + 3) n) e .1) i (omega arith))
 
 pub all-accepted : (file : List ℕ) (j n : ℕ) → ((i : ℕ) → i < n → IsElement file (j + 3 * i)) → elementsTest file j n ≡ Accepted
 unfolding elementsTest

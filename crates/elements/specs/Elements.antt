@@ -1,18 +1,16 @@
 -- An element of the board file, and what reading one finds (document 01, "The board file", "What is turned back").
 -- Assumes nothing.
 use mathlib.Core.Path.{_≡_}
-use mathlib.Core.Bool.{Bool}
 use mathlib.Core.List.{List, [], _∷_}
 use Prim.Native.Nat.{ℕ, zero, suc, _+_, _*_, _/_, _%_, _^_}
 use lib.Dec.{eqb, ltb}
-use Rattle.lists.specs.Lists.{choose, tab}
+use Rattle.lists.specs.Lists.{each, tab}
 use Rattle.field.specs.Field.{P, Canonical}
-use Rattle.fileword.specs.Words.{joined, kindOf, payloadOf, wordAt, each}
-use Rattle.refusals.specs.Refusals.{answerAfter}
-use Rattle.refusals.specs.declared.Refusal.{Refusal}
+use Rattle.refusals.specs.Answers.{unless, after}
 use Rattle.refusals.specs.declared.Refusal.the-variants.{WrongKind, WrongValue}
 use Rattle.refusals.specs.declared.Answer.{Answer}
-use Rattle.refusals.specs.declared.Answer.the-variants.{Accepted, Refused}
+use Rattle.refusals.specs.declared.Answer.the-variants.{Accepted}
+use Rattle.elements.specs.Words.{joined, kindOf, payloadOf, wordAt}
 
 -- ---- writing
 
@@ -38,10 +36,6 @@ elementAt file j = elementOf (wordAt file j) (wordAt file (j + 1)) (wordAt file 
 unfoldable pub elementsAt : List ℕ → ℕ → ℕ → List ℕ
 elementsAt file j n = tab n (λ i. elementAt file (j + 3 * i))
 
--- the refusal unless the test says yes, and then what follows
-abbrev pub unless : Bool → Refusal → Answer → Answer
-unless ok r rest = choose ok rest (Refused r)
-
 -- what reading the element finds: its three kinds, then its value
 unfoldable pub elementTest : List ℕ → ℕ → Answer
 elementTest file j =
@@ -54,7 +48,7 @@ elementTest file j =
 -- what reading n elements finds, element by element, the first of them from word j on
 unfoldable pub elementsTest : List ℕ → ℕ → ℕ → Answer
 elementsTest file j zero = Accepted
-elementsTest file j (suc n) = answerAfter (elementTest file j) (elementsTest file (j + 3) n)
+elementsTest file j (suc n) = after (elementTest file j) (elementsTest file (j + 3) n)
 
 -- what acceptance says: the words from j on are those of a canonical element
 pub record IsElement (file : List ℕ) (j : ℕ) : Type 0 where

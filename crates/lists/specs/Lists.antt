@@ -1,7 +1,8 @@
--- What the definitions of every layer are written with: a choice, a list by its cells, a sum, the first place where a test says yes.
+-- What the definitions of every layer are written with: a choice, a list by its cells or
+-- joined from parts, a sum, the first place where a test says yes.
 -- Assumes nothing.
 use mathlib.Core.Bool.{Bool, true, false}
-use mathlib.Core.List.{List, [], _∷_}
+use mathlib.Core.List.{List, [], _∷_, _++_}
 use Prim.Native.Nat.{ℕ, zero, suc, _+_}
 use lib.ListN.{getD}
 
@@ -18,6 +19,11 @@ cell s i = getD s i 0
 unfoldable pub tab : ℕ → (ℕ → ℕ) → List ℕ
 tab zero f = []
 tab (suc n) f = f 0 ∷ tab n (λ i. f (suc i))
+
+-- what f makes of each number of a list, one after the other
+unfoldable pub each : (ℕ → List ℕ) → List ℕ → List ℕ
+each f [] = []
+each f (x ∷ s) = f x ++ each f s
 
 -- f 0 + f 1 + .. + f (n - 1)
 unfoldable pub sum : ℕ → (ℕ → ℕ) → ℕ

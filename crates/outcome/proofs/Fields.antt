@@ -1,20 +1,22 @@
 -- The line that tells an answer: numbers after a space each, a word before them, and how much room it takes.
 -- Assumes nothing.
 use mathlib.Core.Path.{_≡_, refl, sym, ap, _∙_}
+use mathlib.Core.Bool.{Bool, true, false}
 use mathlib.Core.List.{List, [], _∷_, _++_, append-nil}
 use Prim.Native.Nat.{ℕ, _+_, _*_, _<_, _≤_}
 use native.Mathlib.Numerals.{add-one}
 use native.Mathlib.Omega.{arith}
-use lib.ListN.{length, take, drop, getD, set, length-append, length-take}
+use lib.Dec.{eqb}
+use lib.ListN.{length, take, drop, getD, set, length-append}
 use lib.Seq.{sets, sets-eq, length-sets, take-suc, take-all, length-take-le}
-use Rattle.fileword.specs.Words.{each}
-use Rattle.fileword.proofs.Each.{each-append}
-use Rattle.fileword.proofs.Stores.{sets-append}
+use Rattle.lists.specs.Lists.{choose, each}
+use Rattle.lists.proofs.Each.{each-append}
+use Rattle.lists.proofs.Stores.{sets-append}
 use Rattle.refusals.specs.Refusals.{told}
-use Rattle.refusals.specs.declared.Refusal.{Refusal}
+use Rattle.refusals.specs.declared.Particulars.{Particulars}
 use Rattle.outcome.specs.declared.Outcome.{Outcome}
 use Rattle.outcome.specs.declared.Outcome.the-variants.{Accepted, Refused, TooLong}
-use Rattle.outcome.specs.Line.{ascii, decimal, fields, line, textOf}
+use Rattle.outcome.specs.Line.{ascii, decimal, fields, line, numbersOf, textOf}
 use Rattle.outcome.proofs.Decimal.{length-decimal}
 
 fields-one : (s : List ℕ) (n : ℕ) → fields (s ++ (n ∷ [])) ≡ fields s ++ 32 ∷ decimal n
@@ -90,11 +92,20 @@ over-start s out new r h e q = q ∙ sets-eq s out 0 (omega arith) ∙ ap (λ k.
     at : 0 + length s ≡ r
     at = omega arith
 
-place-size : (r : Refusal) → length (take 3 (told r)) ≤ 3
-place-size r = omega (arith, length-take 3 (told r))
+-- at most three numbers are told of a refusal
+numbers-size : (p : Particulars) → length (numbersOf p) ≤ 3
+numbers-size p = go (eqb (p .values) 0) (eqb (p .values) 1)
+  where
+    go : (a b : Bool) → length (choose a (p .number ∷ []) (choose b (p .number ∷ p .value ∷ []) (p .number ∷ p .row ∷ p .constraint ∷ []))) ≤ 3
+    go true b = omega arith
+    go false true = omega arith
+    go false false = omega arith
+
+length-refused : (p : Particulars) → length (line (ascii "refused") (numbersOf p)) ≤ 72
+length-refused p = omega (arith, length-line (ascii "refused") (numbersOf p), length-fields (numbersOf p), numbers-size p)
 
 pub length-text : (o : Outcome) → length (textOf o) ≤ 72
 unfolding textOf
 length-text (Accepted k tests) = omega (arith, length-line (ascii "accepted") (k ∷ tests ∷ []), length-fields (k ∷ tests ∷ []))
-length-text (Refused r) = omega (arith, length-line (ascii "refused") (take 3 (told r)), length-fields (take 3 (told r)), place-size r)
+length-text (Refused r) = length-refused (told r)
 length-text TooLong = omega (arith, length-line (ascii "too long") [], length-fields [])

@@ -6,7 +6,7 @@ use Prim.Native.Nat.{ℕ, zero, suc, _+_, _*_, _-_, _/_, _%_, _^_, _<_, _≤_}
 use native.Mathlib.Decide.{decLt}
 use native.Mathlib.Nat.{pow-suc}
 use native.Mathlib.Omega.{arith}
-use Rattle.fileword.specs.Words.{each}
+use Rattle.lists.specs.Lists.{each}
 use Rattle.refusals.specs.declared.Refusal.the-variants.{Constraint}
 use Rattle.outcome.specs.declared.Outcome.the-variants.{Accepted, Refused, TooLong}
 use Rattle.outcome.specs.Line.{ascii, digit, decimalIn, decimal, fields, line, textOf}

@@ -1,18 +1,14 @@
 -- The one line that the program prints (document 01, "The board file").
 -- Assumes nothing.
-use mathlib.Core.Path.{_≡_}
 use mathlib.Core.List.{List, [], _∷_, _++_}
-use Prim.Native.Nat.{ℕ, zero, suc, _+_, _/_, _%_, _≤_}
+use Prim.Native.Nat.{ℕ, zero, suc, _+_, _/_, _%_}
 use Prim.Native.Char.{code}
 use Prim.Native.String as text
 use Prim.Native.String.{String}
-use lib.Dec.{ltb}
-use lib.ListN.{length, take}
-use Rattle.lists.specs.Lists.{choose}
-use Rattle.fileword.specs.Words.{each}
+use lib.Dec.{eqb, ltb}
+use Rattle.lists.specs.Lists.{choose, each}
 use Rattle.refusals.specs.Refusals.{told}
-use Rattle.refusals.specs.declared.Refusal.{Refusal}
-use Rattle.outcome.specs.declared.Numbers.{Numbers}
+use Rattle.refusals.specs.declared.Particulars.{Particulars}
 use Rattle.outcome.specs.declared.Outcome.{Outcome}
 use Rattle.outcome.specs.declared.Outcome.the-variants.{Accepted, Refused, TooLong}
 
@@ -23,6 +19,7 @@ ascii (text._∷_ c s) = code c ∷ ascii s
 
 -- ---- numbers, in decimal, the highest digit first
 
+-- a digit's byte
 abbrev pub digit : ℕ → ℕ
 digit d = 48 + d
 
@@ -37,20 +34,23 @@ decimal n = decimalIn 20 n
 
 -- ---- the line: fields are one space apart
 
+-- numbers, a space before each
 unfoldable pub fields : List ℕ → List ℕ
 fields numbers = each (λ n. 32 ∷ decimal n) numbers
 
+-- a word, its numbers and a line feed
 unfoldable pub line : List ℕ → List ℕ → List ℕ
 line word numbers = word ++ fields numbers ++ (10 ∷ [])
 
--- `accepted`, k, tests; or `refused`, number, then the place if there is one, row and constraint for 11
+-- the refusal's number, then the place if there is one: the index, or row and constraint for 11
+abbrev pub numbersOf : Particulars → List ℕ
+numbersOf p =
+    choose (eqb (p .values) 0) (p .number ∷ [])
+    (choose (eqb (p .values) 1) (p .number ∷ p .value ∷ [])
+    (p .number ∷ p .row ∷ p .constraint ∷ []))
+
+-- `accepted`, k, tests; or `refused`, number, then the place
 unfoldable pub textOf : Outcome → List ℕ
 textOf (Accepted k tests) = line (ascii "accepted") (k ∷ tests ∷ [])
-textOf (Refused r) = line (ascii "refused") (take 3 (told r))
+textOf (Refused r) = line (ascii "refused") (numbersOf (told r))
 textOf TooLong = line (ascii "too long") []
-
--- what follows `refused`, as the code hands it on: the first of three numbers
-pub record Tells (n : Numbers) (r : Refusal) : Type 0 where
-  pub size : length (n .list) ≡ 3
-  pub within : n .count ≤ 3
-  pub numbers : take (n .count) (n .list) ≡ take 3 (told r)

@@ -1,10 +1,11 @@
 // The program's answer, and the line that tells it (document 01, "The board file").
 ghost use mathlib.Core.Path.{_≡_};
-ghost use mathlib.Core.List.{[], _∷_, _++_};
+ghost use mathlib.Core.List.{_++_};
 ghost use Prim.Native.Nat.{_+_, _≤_};
 ghost use lib.ListN.{length, drop};
 ghost use lib.Seq.{sets};
-ghost use Rattle.outcome.specs.Line.{decimal, fields, line, textOf, Tells};
+ghost use Rattle.outcome.specs.Line.{ascii, decimal, fields, line, numbersOf, textOf};
+use refusals::Particulars;
 use refusals::Refusal;
 
 pub enum Outcome {
@@ -40,60 +41,6 @@ fn put_word(word: &[u8], out: &mut [u8]) -> usize
     i
 }
 
-// At most three numbers, of which the first `count` are told.
-struct Numbers {
-    count: usize,
-    list: [usize; 3],
-}
-
-// The number of a refusal and its place, if there is one: row and constraint for 11.
-fn told(refusal: Refusal) -> Numbers
-    ensures { λ r. ⌜ Tells r refusal ⌝ }
-{
-    match refusal {
-        Refusal::TableLength => alone(1),
-        Refusal::TableWord(i) => placed(2, i),
-        Refusal::NoInverse => alone(3),
-        Refusal::WrongInverse(i) => placed(4, i),
-        Refusal::TapLength => alone(5),
-        Refusal::TapWord(i) => placed(6, i),
-        Refusal::TraceLength => alone(7),
-        Refusal::DestinationLength => alone(8),
-        Refusal::ClaimWord(i) => placed(9, i),
-        Refusal::TraceWord(i) => placed(10, i),
-        Refusal::Constraint {
-            row,
-            constraint,
-            tests: _,
-        } => Numbers {
-            count: 3,
-            list: [11, row.0, constraint],
-        },
-        Refusal::FileLength => alone(12),
-        Refusal::WrongKind(i) => placed(13, i),
-        Refusal::WrongValue(i) => placed(14, i),
-    }
-}
-
-// A number alone, and a number with its place.
-fn alone(number: usize) -> Numbers
-    ensures { λ r. ⌜ (r .count ≡ 1) × (r .list ≡ number ∷ 0 ∷ 0 ∷ []) ⌝ }
-{
-    Numbers {
-        count: 1,
-        list: [number, 0, 0],
-    }
-}
-
-fn placed(number: usize, place: usize) -> Numbers
-    ensures { λ r. ⌜ (r .count ≡ 2) × (r .list ≡ number ∷ place ∷ 0 ∷ []) ⌝ }
-{
-    Numbers {
-        count: 2,
-        list: [number, place, 0],
-    }
-}
-
 // Each number after a space, from `at` on. The place after them.
 fn put_numbers(numbers: &[usize], out: &mut [u8], at: usize) -> usize
     requires { ⌜ (length (now numbers) ≤ 3) × (at + 63 ≤ length (now out)) ⌝ }
@@ -120,19 +67,30 @@ fn put_line(word: &[u8], numbers: &[usize], out: &mut [u8]) -> usize
     end + 1
 }
 
+// `refused`, the number, then the place if there is one. The line's length.
+fn put_refused(told: Particulars, out: &mut [u8]) -> usize
+    requires { ⌜ 71 ≤ length (now out) ⌝ }
+    ensures { λ r. ⌜ r ≡ length (line (ascii "refused") (numbersOf told)) ⌝ }
+    ensures { λ _. ⌜ now (out .exit) ≡ sets (now (out .entry)) 0 (line (ascii "refused") (numbersOf told)) ⌝ }
+{
+    if told.values == 0 {
+        put_line(b"refused", &[told.number], out)
+    } else if told.values == 1 {
+        put_line(b"refused", &[told.number, told.value], out)
+    } else {
+        put_line(b"refused", &[told.number, told.row, told.constraint], out)
+    }
+}
+
 // The line of an answer, at the start of `out`, which is otherwise as it was. The line's length.
 pub fn text(outcome: Outcome, out: &mut [u8; 80]) -> usize
     requires { ⌜ length (now out) ≡ 80 ⌝ }
-    ensures { λ r. ⌜ (r ≡ length (textOf outcome)) × (now (out .exit) ≡ textOf outcome ++ drop r (now (out .entry))) ⌝ }
+    ensures { λ r. ⌜ r ≡ length (textOf outcome) ⌝ }
+    ensures { λ r. ⌜ now (out .exit) ≡ textOf outcome ++ drop r (now (out .entry)) ⌝ }
 {
     match outcome {
         Outcome::Accepted { batches, tests } => put_line(b"accepted", &[batches, tests], out),
-        Outcome::Refused(refusal) => {
-            let numbers = told(refusal);
-            let list = numbers.list;
-            let count = numbers.count;
-            put_line(b"refused", &list[..count], out)
-        }
+        Outcome::Refused(refusal) => put_refused(refusals::told(refusal), out),
         Outcome::TooLong => put_word(b"too long\n", out),
     }
 }

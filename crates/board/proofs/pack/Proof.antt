@@ -1,17 +1,20 @@
 -- `board::pack` meets its contract: 5, 8, 9, 6, and then the file.
 -- Assumes nothing.
 use mathlib.Core.Path.{_≡_, sym, ap, _∙_}
-use Prim.Native.Nat.{ℕ, _+_, _*_, _/_}
+use mathlib.Core.Bool.{true}
+use Prim.Native.Nat.{ℕ, _+_, _*_}
 use native.Mathlib.Omega.{arith}
 use lib.ListN.{length}
-use Rattle.counts.specs.Counts.{IsPermitted, tapBatches}
-use Rattle.counts.specs.declared.BatchCount.the-variants.{Permitted}
-use Rattle.counts.proofs.Laws.{tap-sound}
+use borrow.Author.Needs.{needs}
+use Rattle.words.specs.Words.{canonicalWords}
+use Rattle.words.proofs.Laws.{scanned-good, scanned-bad}
+use Rattle.counts.specs.Counts.{IsPermittedTo, tapWordBatches, isTapLength}
+use Rattle.counts.proofs.Laws.{tap-length-sound, count-permitted, count-refused}
 use Rattle.refusals.specs.declared.Refusal.the-variants.{ClaimWord, TapWord}
 use Rattle.refusals.specs.declared.Answer.the-variants.{Refused}
-use Rattle.board.specs.Board.{packed}
-use Rattle.board.proofs.Cases.{pack-length, pack-destination, pack-claim, pack-tap, pack-accepts, pack-turned-back, pack-written}
-use borrow.Author.Needs.{needs}
+use Rattle.board.specs.Board.{mostFileBatches, fileSize, fileOf, packed}
+use Rattle.board.proofs.Cases.{pack-length, pack-destination, pack-claim, pack-tap, pack-accepts}
+use Rattle.board.proofs.Cases.{pack-turned-back, pack-written}
 use Rattle.board.proofs.pack.Statement.{statement}
 use Rattle.board.proofs.pack.Tie as tie
 
@@ -22,15 +25,28 @@ k c = c .before .count .given .0 .0
 abbrev start : tie.After-known-told → tie.Start
 start c = c .before .before .before .before .before .before
 
-counted : (c : tie.After-known-told) → tapBatches (length (start c .args .taps .now)) ≡ Permitted (k c)
-counted c = sym (c .before .before .before .tap-batches .ensures) ∙ c .before .count .given .1
+abbrev words : tie.After-known-told → ℕ
+words c = length (start c .args .taps .now)
 
-size : (c : tie.After-known-told) → (length (start c .args .taps .now) ≡ 12 * k c + 4) × IsPermitted (k c)
-size c = tap-sound (length (start c .args .taps .now)) (k c) (counted c)
+counted : (c : tie.After-known-told) →
+    (isTapLength mostFileBatches (words c) ≡ true) × (tapWordBatches (words c) ≡ k c)
+counted c =
+    count-permitted (isTapLength mostFileBatches (words c)) (tapWordBatches (words c)) (k c)
+    (sym (c .before .before .before .tap-batches .ensures) ∙ c .before .count .given .1)
+
+size : (c : tie.After-known-told) → (words c ≡ 12 * k c + 4) × IsPermittedTo mostFileBatches (k c)
+size c = rw (counted c .1) at (tap-length-sound mostFileBatches (words c) (counted c .0))
+
+room : (c : tie.Else1) →
+    length (start (c .before) .args .destination .now) ≡ fileSize (tapWordBatches (words (c .before)))
+room c = c .if1 .left ∙ sym (ap fileSize (counted (c .before) .1))
 
 -- a claim is four words
 four : (c : tie.After-known-told) → length (start c .args .t2) ≡ 4
 four c = omega arith
+
+good-claim : (c : tie.Else2) → canonicalWords (start (c .before .before .before .before) .args .t2) ≡ true
+good-claim c = scanned-good _ (c .before .first-bad .ensures) (c .if2 .left ∙ sym (four (c .before .before .before .before)))
 
 tap-batches-requires : tie.Need-tap-batches-requires
 tap-batches-requires c κs = search needs
@@ -42,7 +58,10 @@ enum-told : tie.Need-enum-told
 enum-told c = search needs
 
 returns : tie.Need-returns
-returns c = pack-turned-back _ _ _ (pack-length _ _ _ (sym (c .before .before .tap-batches .ensures) ∙ c .enum-told .given .1))
+returns c =
+    let n : ℕ = length (c .before .before .before .before .before .args .taps .now) in
+    let told = sym (c .before .before .tap-batches .ensures) ∙ c .enum-told .given .1 in
+    pack-turned-back _ _ _ (pack-length _ _ _ (count-refused (isTapLength mostFileBatches n) (tapWordBatches n) told))
 
 mul-if1 : tie.Need-mul-if1
 mul-if1 c = omega (arith, size c .1 .high)
@@ -51,7 +70,9 @@ add-if1 : tie.Need-add-if1
 add-if1 c = omega (arith, size c .1 .high)
 
 returns-2 : tie.Need-returns-2
-returns-2 c = pack-turned-back _ _ _ (pack-destination _ _ _ _ (counted (c .before)) (c .if1 .taken))
+returns-2 c =
+    let n = counted (c .before) in
+    pack-turned-back _ _ _ (pack-destination _ _ _ (n .0) (λ e. c .if1 .taken (e ∙ ap fileSize (n .1))))
 
 slice-aggregate-first-bad : tie.Need-slice-aggregate-first-bad
 slice-aggregate-first-bad c = search needs
@@ -64,7 +85,7 @@ returns-3 c =
     let one = c .before .before .before in
     let bad = c .before .first-bad .ensures in
     pack-turned-back _ _ _
-    (pack-claim _ _ _ _ (counted (one .before)) (one .if1 .left) (λ e. c .if2 .taken (bad ∙ e ∙ four (one .before)))
+    (pack-claim _ _ _ (counted (one .before) .0) (room one) (scanned-bad _ bad (λ e. c .if2 .taken (e ∙ four (one .before))))
     ∙ sym (ap (λ n. Refused (ClaimWord n)) bad))
 
 first-bad-requires-2 : tie.Need-first-bad-requires-2
@@ -75,9 +96,8 @@ returns-4 c =
     let two = c .before .before in
     let one = two .before .before .before in
     let bad = c .before .first-bad2 .ensures in
-    let good-claim = sym (two .before .first-bad .ensures) ∙ two .if2 .left ∙ sym (four (one .before)) in
     pack-turned-back _ _ _
-    (pack-tap _ _ _ _ (counted (one .before)) (one .if1 .left) good-claim (λ e. c .if3 .taken (bad ∙ e))
+    (pack-tap _ _ _ (counted (one .before) .0) (room one) (good-claim two) (scanned-bad _ bad (c .if3 .taken))
     ∙ sym (ap (λ n. Refused (TapWord n)) bad))
 
 write-file-requires : tie.Need-write-file-requires
@@ -95,13 +115,11 @@ returns-5 c =
     let three = c .before .before .before .before in
     let two = three .before .before in
     let one = two .before .before .before in
-    let t = size (one .before) in
-    let batches : length (start (one .before) .args .taps .now) / 12 ≡ k (one .before) = omega (arith, t .0) in
-    let good-claim = sym (two .before .first-bad .ensures) ∙ two .if2 .left ∙ sym (four (one .before)) in
-    let good-taps = sym (three .before .first-bad2 .ensures) ∙ three .if3 .left in
+    let n = counted (one .before) in
+    let good-taps = scanned-good _ (three .before .first-bad2 .ensures) (three .if3 .left) in
     pack-written _ _ _
-    (pack-accepts _ _ _ _ (counted (one .before)) (one .if1 .left) good-claim good-taps)
-    (c .before .before .write-file .ensures ∙ rw batches)
+    (pack-accepts _ _ _ (n .0) (room one) (good-claim two) good-taps)
+    (c .before .before .write-file .ensures ∙ sym (ap (fileOf _ _) (n .1)))
 
 pub pack-spec : {M : Type 1} → statement M
 pack-spec =

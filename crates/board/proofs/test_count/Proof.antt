@@ -3,6 +3,7 @@
 use mathlib.Core.Path.{sym, ap, _∙_}
 use Prim.Native.Nat.{_/_, _^_}
 use Rattle.counts.specs.Counts.{permitted}
+use Rattle.board.specs.Board.{mostFileBatches}
 use Rattle.board.proofs.Cases.{count-kind, count-spare, count-value, count-accepts}
 use borrow.Author.Needs.{needs}
 use Rattle.board.proofs.test_count.Statement.{statement}
@@ -33,14 +34,14 @@ returns-3 c =
     let asked = c .before in
     let two = asked .before .before in
     let one = two .before .before in
-    sym (count-accepts _ (sym (one .before .kind .ensures) ∙ one .if1 .left) (sym (ap (λ p. p / 2 ^ 16) (two .before .payload .ensures)) ∙ two .if2 .left) (ap permitted (sym (asked .before .count-in .ensures)) ∙ sym (asked .is-permitted .ensures) ∙ c .if3 .taken))
+    sym (count-accepts _ (sym (one .before .kind .ensures) ∙ one .if1 .left) (sym (ap (λ p. p / 2 ^ 16) (two .before .payload .ensures)) ∙ two .if2 .left) (ap (permitted mostFileBatches) (sym (asked .before .count-in .ensures)) ∙ sym (asked .is-permitted .ensures) ∙ c .if3 .taken))
 
 returns-4 : tie.Need-returns-4
 returns-4 c =
     let asked = c .before in
     let two = asked .before .before in
     let one = two .before .before in
-    sym (count-value _ (sym (one .before .kind .ensures) ∙ one .if1 .left) (sym (ap (λ p. p / 2 ^ 16) (two .before .payload .ensures)) ∙ two .if2 .left) (ap permitted (sym (asked .before .count-in .ensures)) ∙ sym (asked .is-permitted .ensures) ∙ c .if3 .left))
+    sym (count-value _ (sym (one .before .kind .ensures) ∙ one .if1 .left) (sym (ap (λ p. p / 2 ^ 16) (two .before .payload .ensures)) ∙ two .if2 .left) (ap (permitted mostFileBatches) (sym (asked .before .count-in .ensures)) ∙ sym (asked .is-permitted .ensures) ∙ c .if3 .left))
 
 pub test-count-spec : {M : Type 1} → statement M
 test-count-spec =

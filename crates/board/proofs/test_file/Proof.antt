@@ -2,9 +2,9 @@
 -- Assumes nothing.
 use mathlib.Core.Path.{_≡_, sym, ap, _∙_}
 use Prim.Native.Nat.{_+_, _*_}
-use Rattle.fileword.specs.Words.{wordAt}
-use Rattle.board.specs.Board.{countIn, batchesIn, countTest, fileSize}
 use Rattle.refusals.specs.declared.Answer.the-variants.{Accepted}
+use Rattle.elements.specs.Words.{wordAt}
+use Rattle.board.specs.Board.{countIn, batchesIn, countTest, fileSize}
 use Rattle.board.proofs.Cases.{unpack-short, unpack-count, unpack-length, unpack-destination, unpack-elements}
 use borrow.Author.Needs.{needs}
 use Rattle.board.proofs.test_file.Statement.{statement}

@@ -8,7 +8,6 @@ use lib.ListN.{length}
 use Rattle.lists.specs.Lists.{tab}
 use Rattle.field.specs.Field.{P}
 use Rattle.elements.specs.Elements.{elementAt, elementsAt}
-use Rattle.refusals.specs.declared.Digested.the-variants.{Refused}
 use Rattle.board.specs.Board.{batchesIn, claimIn, tapsIn, IsBoard}
 use Rattle.board.proofs.Cases.{unpack-accepted, unpack-turned-back, unpack-written}
 use Rattle.board.proofs.Round.{after-claim}
@@ -36,16 +35,11 @@ enum-told c = search needs
 enum-told-2 : tie.Need-enum-told-2
 enum-told-2 c = search needs
 
-after-requires : tie.Need-after-requires
-after-requires c κs = search needs
+refusal-requires : tie.Need-refusal-requires
+refusal-requires c κs = (c .enum-told2 .given .0 .0, c .enum-told2 .given .1)
 
 returns : tie.Need-returns
-returns c =
-    let tested = c .before .before .before .test-file in
-    let refused = c .before .enum-told2 .given .1 in
-    let r : c .after .result ≡ Refused (c .before .enum-told2 .given .0 .0) = c .after .ensures ∙ rw refused in
-    let left = unpack-turned-back _ _ (sym (tested .ensures) ∙ refused) in
-    (r ∙ left .0, left .1)
+returns c = unpack-turned-back _ _ (sym (c .before .before .before .test-file .ensures) ∙ c .refusal .ensures)
 
 read-requires : tie.Need-read-requires
 read-requires c κs = element c 0 (lit< tt)
@@ -90,7 +84,7 @@ unpack-spec =
     test-file-requires
     enum-told
     enum-told-2
-    after-requires
+    refusal-requires
     returns
     read-requires
     read-requires-2

@@ -7,7 +7,7 @@ use native.Mathlib.Omega.{arith}
 use borrow.Author.Needs.{needs}
 use borrow.Author.Tests.{ltb-true, ltb-false, not-true, not-false}
 use Rattle.field.specs.Field.{P}
-use Rattle.fileword.specs.Words.{kindOf, payloadOf, wordAt}
+use Rattle.elements.specs.Words.{kindOf, payloadOf, wordAt}
 use Rattle.elements.specs.Elements.{elementAt}
 use Rattle.elements.proofs.Laws.{read-three, no-word}
 use Rattle.elements.proofs.Tests.{accepts, wrong-high, wrong-middle, wrong-low, too-large}

@@ -6,7 +6,7 @@ use native.Mathlib.Omega.{arith}
 use lib.Bits.{and-mask, mask-lt}
 use lib.Dec.{lit<}
 use borrow.Author.Needs.{needs}
-use Rattle.fileword.specs.Words.{joined}
+use Rattle.elements.specs.Words.{joined}
 use Rattle.elements.proofs.Laws.{write-three}
 use Rattle.elements.proofs.write.Statement.{statement}
 use Rattle.elements.proofs.write.Tie as tie

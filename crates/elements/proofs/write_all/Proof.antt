@@ -5,7 +5,8 @@ use Prim.Native.Nat.{_*_, _-_, _≤_}
 use native.Mathlib.Omega.{arith}
 use lib.ListN.{length, take}
 use lib.Seq.{sets, length-sets, take-length}
-use Rattle.fileword.specs.Words.{each, bytesOf}
+use Rattle.lists.specs.Lists.{each}
+use Rattle.elements.specs.Words.{bytesOf}
 use Rattle.elements.specs.Elements.{wordsOf}
 use Rattle.elements.proofs.Laws.{write-next}
 use Rattle.elements.proofs.write_all.Statement.{statement}

@@ -8,7 +8,7 @@ use lib.ListN.{length, set, length-append, length-set}
 use lib.Seq.{sets}
 use borrow.Fn.Kinds.{In}
 use borrow.Fn.PlainCycle.{Measures, is, falls, and}
-use Rattle.fileword.proofs.Stores.{sets-append}
+use Rattle.lists.proofs.Stores.{sets-append}
 use Rattle.outcome.specs.Line.{digit, decimal}
 use Rattle.outcome.proofs.Decimal.{decimal-one, decimal-more}
 use Rattle.outcome.proofs.put_number.Reads as put-number

@@ -7,7 +7,7 @@ use native.Mathlib.Numerals.{add-one}
 use native.Mathlib.Omega.{arith}
 use lib.ListN.{length, take, getD, set}
 use lib.Seq.{sets, length-sets, take-suc, take-all, length-take-le}
-use Rattle.fileword.proofs.Stores.{sets-append}
+use Rattle.lists.proofs.Stores.{sets-append}
 use Rattle.outcome.proofs.put_word.Statement.{statement}
 use Rattle.outcome.proofs.put_word.Tie as tie
 

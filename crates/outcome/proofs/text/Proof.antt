@@ -5,11 +5,11 @@ use mathlib.Core.List.{List, _++_}
 use Prim.Native.Nat.{ℕ}
 use native.Mathlib.Omega.{arith}
 use lib.ListN.{length, drop}
-use lib.Seq.{sets, length-take-le}
+use lib.Seq.{sets}
 use borrow.Author.Needs.{needs}
-use Rattle.fileword.specs.Words.{each}
+use Rattle.lists.specs.Lists.{each}
 use Rattle.outcome.specs.declared.Outcome.{Outcome}
-use Rattle.outcome.specs.Line.{ascii, fields, line, textOf}
+use Rattle.outcome.specs.Line.{ascii, fields, line, numbersOf, textOf}
 use Rattle.outcome.proofs.Fields.{over-start, length-text}
 use Rattle.outcome.proofs.text.Statement.{statement}
 use Rattle.outcome.proofs.text.Tie as tie
@@ -39,21 +39,8 @@ enum-known-outcome-2 c = search needs
 told-requires : tie.Need-told-requires
 told-requires c κs = search needs
 
-slice-aggregate-put-line-3 : tie.Need-slice-aggregate-put-line-3
-slice-aggregate-put-line-3 c = search needs
-
-array-share-prefix-list : tie.Need-array-share-prefix-list
-array-share-prefix-list c = omega (arith, c .before .before .told .ensures .size, c .before .before .told .ensures .within)
-
-slice-aggregate-put-line-4 : tie.Need-slice-aggregate-put-line-4
-slice-aggregate-put-line-4 c =
-    let numbers = c .before .before .before .told in
-    sym (length-take-le _ _ (omega (arith, numbers .ensures .size, numbers .ensures .within)))
-
-put-line-requires-2 : tie.Need-put-line-requires-2
-put-line-requires-2 c κs =
-    let numbers = c .before .before .before .before .told in
-    (omega (arith, length-take-le (numbers .result .count) (numbers .result .list) (omega (arith, numbers .ensures .size, numbers .ensures .within)), numbers .ensures .within), search needs)
+put-refused-requires : tie.Need-put-refused-requires
+put-refused-requires c κs = search needs
 
 enum-told : tie.Need-enum-told
 enum-told c = search needs
@@ -73,8 +60,11 @@ returns c =
 returns-2 : tie.Need-returns-2
 unfolding textOf
 returns-2 c =
-    let start = c .before .before .before .before .before .before .before .before .before in
-    told-line _ _ _ _ _ _ (start .pre) (c .before .before .before .before .before .before .before .outcome2 .given .1) (sym (ap (line (ascii "refused")) (c .before .before .before .before .before .told .ensures .numbers))) (c .put-line2 .ensures .0) (c .put-line2 .ensures .1)
+    let told = c .before .before in
+    let known = told .before .before in
+    let line-is = ap (λ p. line (ascii "refused") (numbersOf p)) (sym (told .told .ensures)) in
+    let written = c .put-refused .ensures in
+    told-line _ _ _ _ _ _ (known .before .before .pre) (known .outcome2 .given .1) line-is (written .0) (written .1)
 
 returns-3 : tie.Need-returns-3
 unfolding textOf line fields each
@@ -92,10 +82,7 @@ text-spec =
     put-line-requires
     enum-known-outcome-2
     told-requires
-    slice-aggregate-put-line-3
-    array-share-prefix-list
-    slice-aggregate-put-line-4
-    put-line-requires-2
+    put-refused-requires
     enum-told
     slice-aggregate-put-word
     put-word-requires

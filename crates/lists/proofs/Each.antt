@@ -7,8 +7,7 @@ use native.Mathlib.Nat.{le-of-suc-le-suc}
 use native.Mathlib.Omega.{arith}
 use lib.ListN.{length, length-append, List·getD-append}
 use lib.Seq.{getD-append-add}
-use Rattle.lists.specs.Lists.{cell}
-use Rattle.fileword.specs.Words.{each}
+use Rattle.lists.specs.Lists.{cell, each}
 
 pub each-append : (f : ℕ → List ℕ) (s t : List ℕ) → each f (s ++ t) ≡ each f s ++ each f t
 unfolding each

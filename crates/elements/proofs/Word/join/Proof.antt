@@ -1,9 +1,9 @@
--- `fileword::Word::join` meets its contract.
+-- `elements::Word::join` meets its contract.
 -- Assumes nothing.
 use borrow.Author.Needs.{needs}
-use Rattle.fileword.proofs.Shifts.{above}
-use Rattle.fileword.proofs.Word.join.Statement.{statement}
-use Rattle.fileword.proofs.Word.join.Tie as tie
+use Rattle.elements.proofs.Shifts.{above}
+use Rattle.elements.proofs.Word.join.Statement.{statement}
+use Rattle.elements.proofs.Word.join.Tie as tie
 
 returns : tie.Need-returns
 returns c = above 32 (c .args .kind) 30 (c .args .payload) (search needs) (search needs)

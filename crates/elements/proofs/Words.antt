@@ -9,8 +9,8 @@ use lib.ListN.{length}
 use lib.Pow.{shr-shr}
 use lib.Seq.{ext-getD}
 use Rattle.lists.specs.Lists.{cell}
-use Rattle.fileword.specs.Words.{joined, kindOf, payloadOf, wordBytes, wordAt, AllBytes, bytesOf}
-use Rattle.fileword.proofs.Each.{length-each, cell-each}
+use Rattle.lists.proofs.Each.{length-each, cell-each}
+use Rattle.elements.specs.Words.{joined, kindOf, payloadOf, wordBytes, wordAt, AllBytes, bytesOf}
 
 -- ---- kind and payload
 pub kind-joined : (kind payload : ℕ) → payload < 2 ^ 30 → kindOf (joined kind payload) ≡ kind

@@ -1,13 +1,13 @@
--- `fileword::Word::read` meets its contract: four bytes, low byte first.
+-- `elements::Word::read` meets its contract: four bytes, low byte first.
 -- Assumes nothing.
 use Prim.Native.Nat.{ℕ, _+_, _*_, _^_, _<_}
 use native.Mathlib.Omega.{arith}
 use borrow.Author.Needs.{needs}
 use lib.ListN.{getD}
-use Rattle.fileword.specs.Words.{wordAt}
-use Rattle.fileword.proofs.Shifts.{four}
-use Rattle.fileword.proofs.Word.read.Statement.{statement}
-use Rattle.fileword.proofs.Word.read.Tie as tie
+use Rattle.elements.specs.Words.{wordAt}
+use Rattle.elements.proofs.Shifts.{four}
+use Rattle.elements.proofs.Word.read.Statement.{statement}
+use Rattle.elements.proofs.Word.read.Tie as tie
 
 mul-at : tie.Need-mul-at
 mul-at c = search needs

@@ -1,4 +1,4 @@
--- `fileword::Word::write` meets its contract: four stores, low byte first.
+-- `elements::Word::write` meets its contract: four stores, low byte first.
 -- Assumes nothing.
 use mathlib.Core.Path.{_≡_}
 use Prim.Native.Nat.{ℕ, _/_, _%_, _^_}
@@ -7,8 +7,8 @@ use native.Mathlib.Omega.{arith}
 use borrow.Author.Needs.{needs}
 use lib.Bits.{and-mask, mask-lt}
 use lib.ListN.{length-set}
-use Rattle.fileword.proofs.Word.write.Statement.{statement}
-use Rattle.fileword.proofs.Word.write.Tie as tie
+use Rattle.elements.proofs.Word.write.Statement.{statement}
+use Rattle.elements.proofs.Word.write.Tie as tie
 
 mul-at : tie.Need-mul-at
 mul-at c = search needs

@@ -1,8 +1,8 @@
--- `fileword::Word::payload` meets its contract.
+-- `elements::Word::payload` meets its contract.
 -- Assumes nothing.
 use lib.Bits.{and-mask}
-use Rattle.fileword.proofs.Word.payload.Statement.{statement}
-use Rattle.fileword.proofs.Word.payload.Tie as tie
+use Rattle.elements.proofs.Word.payload.Statement.{statement}
+use Rattle.elements.proofs.Word.payload.Tie as tie
 
 returns : tie.Need-returns
 returns c = and-mask (c .before .args .self .0) 30

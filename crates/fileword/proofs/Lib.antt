@@ -1,4 +1,0 @@
-pub mod Shifts
-pub mod Each
-pub mod Stores
-pub mod Laws
