@@ -13,7 +13,7 @@ use lib.ListN.{take}
 use Rattle.lists.specs.Lists.{cell}
 use Rattle.lists.proofs.Bools.{or-cases}
 use Rattle.field.specs.Field.{add}
-use Rattle.table.specs.Table.{IsTable, constant}
+use Rattle.table.specs.Table.{IsTable, initialConstant}
 use Rattle.hash.specs.Hash.{firstStep, secondStep}
 use Rattle.hash.proofs.States.{IsState, cell-plus}
 use Rattle.hash.proofs.Inputs.{cell-take}
@@ -82,12 +82,12 @@ module _ (T t : List ℕ) (h j : ℕ) (l : j < 10) where
 
   -- and columns 0 to 3 where one does
   pub forward-enters : entering (firstRow h + j) ≡ true → (c : ℕ) → c < 4
-      → cell (forward T t (firstRow h + j)) c ≡ add (cell (secondStep T j (row t (firstRow h + j))) c) (cell (constant T 0) c)
+      → cell (forward T t (firstRow h + j)) c ≡ add (cell (secondStep T j (row t (firstRow h + j))) c) (cell (initialConstant T) c)
   unfolding forward
   forward-enters e c q =
       rw (e, round-of h j l)
-      (cell-plus (secondStep T j (row t (firstRow h + j))) (take 4 (constant T 0)) c (omega arith)
-      ∙ ap (add (cell (secondStep T j (row t (firstRow h + j))) c)) (cell-take (constant T 0) c q))
+      (cell-plus (secondStep T j (row t (firstRow h + j))) (take 4 (initialConstant T)) c (omega arith)
+      ∙ ap (add (cell (secondStep T j (row t (firstRow h + j))) c)) (cell-take (initialConstant T) c q))
 
   -- a row is the first step from its back
   pub row-from-back : IsTable T → IsState (row t (firstRow h + j)) → row t (firstRow h + j) ≡ firstStep T j (back T t (firstRow h + j))

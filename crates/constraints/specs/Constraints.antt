@@ -9,7 +9,7 @@ use lib.ListN.{take, drop}
 use Rattle.lists.specs.Lists.{choose, cell, tab}
 use Rattle.field.specs.Field.{add, sub}
 use Rattle.matrix.specs.Matrix.{times}
-use Rattle.table.specs.Table.{inverseOf, constant}
+use Rattle.table.specs.Table.{inverseOf, initialConstant, firstStepConstant}
 use Rattle.hash.specs.Hash.{cubes, plus, secondStep}
 use Rattle.refusals.specs.declared.Refusal.the-variants.{Constraint}
 use Rattle.refusals.specs.declared.Checked.{Checked}
@@ -36,7 +36,7 @@ entering i = eqb (within i) 10 || eqb (within i) 20
 -- forward of row i: its cells cubed, times M, plus that round's second-step constant; at rows 10 and 20 K_0 is added too, in columns 0 to 3 only
 unfoldable pub forward : List ℕ → List ℕ → ℕ → List ℕ
 forward T t i =
-    choose (entering i) (plus (secondStep T (round i) (row t i)) (take 4 (constant T 0)))
+    choose (entering i) (plus (secondStep T (round i) (row t i)) (take 4 (initialConstant T)))
     (secondStep T (round i) (row t i))
 
 -- a state less another, cell by cell
@@ -45,7 +45,7 @@ minus s k = tab 12 (λ j. sub (cell s j) (cell k j))
 
 -- a middle state's cells less the first-step constant of round r, times the inverse of M, then cubed
 unfoldable pub backStep : List ℕ → ℕ → List ℕ → List ℕ
-backStep T r s = cubes (times (inverseOf T) (minus s (constant T (2 * r + 1))))
+backStep T r s = cubes (times (inverseOf T) (minus s (firstStepConstant T r)))
 
 -- back of row i
 unfoldable pub back : List ℕ → List ℕ → ℕ → List ℕ
@@ -72,8 +72,8 @@ applies k i c =
 unfoldable pub holds : List ℕ → List ℕ → List ℕ → ℕ → ℕ → Bool
 holds T t claim i c =
     choose (leb c 4) (eqb (cell (row t i) (c + 7)) 0)
-    (choose (leb c 8) (eqb (cell (back T t (i + 1)) (c + 3)) (cell (constant T 0) (c + 3)))
-    (choose (leb c 20) (eqb (add (cell (row t i) (c - 9)) (cell (constant T 0) (c - 9))) (cell (back T t (i + 1)) (c - 9)))
+    (choose (leb c 8) (eqb (cell (back T t (i + 1)) (c + 3)) (cell (initialConstant T) (c + 3)))
+    (choose (leb c 20) (eqb (add (cell (row t i) (c - 9)) (cell (initialConstant T) (c - 9))) (cell (back T t (i + 1)) (c - 9)))
     (choose (leb c 32) (eqb (cell (forward T t i) (c - 21)) (cell (back T t (i + 1)) (c - 21)))
     (choose (leb c 44) (eqb (cell (forward T t i) (c - 33)) (cell (row t (i + 1)) (c - 33)))
     (choose (leb c 48) (eqb (cell (row t i) (c - 45)) (cell (row t (i + 1)) (c - 45)))

@@ -14,8 +14,7 @@ use Rattle.lists.specs.Lists.{choose, cell}
 use Rattle.lists.proofs.Tab.{filled, filled-before, filled-after, length-filled, cell-tab, tab-ext, tab-unique}
 use Rattle.field.specs.Field.{Canonical, add}
 use Rattle.words.specs.Words.{CanonicalTo}
-use Rattle.table.specs.Table.{constant}
-use Rattle.table.proofs.Parts.{cell-constant}
+use Rattle.table.specs.Table.{initialConstant}
 use Rattle.hash.specs.Hash.{plus, secondStep}
 use Rattle.hash.proofs.States.{state-cell, secondStep-state}
 use Rattle.constraints.specs.Constraints.{row, round, entering, forward, backStep, back}
@@ -35,21 +34,21 @@ module _ (t : List ℕ) (i : ℕ) (h : HasRow t i) where
   )
 
 -- K_0 added in columns 0 to 3 only: the others are as they were
-pub entering-filled : (T s : List ℕ) → length s ≡ 12 → CanonicalTo 12 s → (out : List ℕ) (m : ℕ) → m ≡ 4 → out ≡ filled m (λ j. add (cell s j) (cell T (288 + j))) s → out ≡ plus s (take 4 (constant T 0))
+pub entering-filled : (T s : List ℕ) → length s ≡ 12 → CanonicalTo 12 s → (out : List ℕ) (m : ℕ) → m ≡ 4 → out ≡ filled m (λ j. add (cell s j) (cell (initialConstant T) j)) s → out ≡ plus s (take 4 (initialConstant T))
 unfolding plus
 entering-filled T s size low out m q f =
     f
     ∙ ap (λ x. filled x sum s) q
-    ∙ tab-unique 12 (filled 4 sum s) (λ j. add (cell s j) (cell (take 4 (constant T 0)) j)) (length-filled 4 sum s (omega arith) ∙ size) (λ j l. same j l (decLt j 4))
+    ∙ tab-unique 12 (filled 4 sum s) (λ j. add (cell s j) (cell (take 4 (initialConstant T)) j)) (length-filled 4 sum s (omega arith) ∙ size) (λ j l. same j l (decLt j 4))
   where
     sum : ℕ → ℕ
-    sum j = add (cell s j) (cell T (288 + j))
+    sum j = add (cell s j) (cell (initialConstant T) j)
 
-    same : (j : ℕ) → j < 12 → Dec (j < 4) → cell (filled 4 sum s) j ≡ add (cell s j) (cell (take 4 (constant T 0)) j)
+    same : (j : ℕ) → j < 12 → Dec (j < 4) → cell (filled 4 sum s) j ≡ add (cell s j) (cell (take 4 (initialConstant T)) j)
     same j l (yes h) =
-        filled-before 4 sum s j h ∙ ap (add (cell s j)) (sym (getD-take 4 (constant T 0) j 0 h ∙ cell-constant T 0 j l))
+        filled-before 4 sum s j h ∙ ap (add (cell s j)) (sym (getD-take 4 (initialConstant T) j 0 h))
     same j l (no h) =
-        let z : cell (take 4 (constant T 0)) j ≡ 0 = List·getD-eq-default (take 4 (constant T 0)) 0 {n = j} (omega (arith, length-take 4 (constant T 0))) in
+        let z : cell (take 4 (initialConstant T)) j ≡ 0 = List·getD-eq-default (take 4 (initialConstant T)) 0 {n = j} (omega (arith, length-take 4 (initialConstant T))) in
         filled-after 4 sum s j (omega arith) ∙ omega (arith, z, low j l)
 
 -- K_0 in the first four columns, of a state of which only these are there
@@ -73,9 +72,9 @@ module _ (T t : List ℕ) (i : ℕ) {r : ℕ} (q : r ≡ round i) {s : List ℕ}
   unfolding forward
   forward-plain b e = rw b (second-made 12 e)
 
-  pub forward-entering : entering i ≡ true → {n : List ℕ} → n ≡ columns 4 (secondStep T r s) → {out : List ℕ} → out ≡ plus n (take 4 (constant T 0)) → out ≡ columns (tested i) (forward T t i)
+  pub forward-entering : entering i ≡ true → {n : List ℕ} → n ≡ columns 4 (secondStep T r s) → {out : List ℕ} → out ≡ plus n (take 4 (initialConstant T)) → out ≡ columns (tested i) (forward T t i)
   unfolding forward
-  forward-entering b e f = rw b (f ∙ ap (λ x. plus x (take 4 (constant T 0))) (second-made 4 e) ∙ plus-columns (secondStep T (round i) (row t i)) (constant T 0))
+  forward-entering b e f = rw b (f ∙ ap (λ x. plus x (take 4 (initialConstant T))) (second-made 4 e) ∙ plus-columns (secondStep T (round i) (row t i)) (initialConstant T))
 
   pub back-made : {out : List ℕ} → out ≡ backStep T r s → out ≡ back T t i
   unfolding back
