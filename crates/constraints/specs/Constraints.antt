@@ -4,13 +4,13 @@
 use mathlib.Core.Bool.{Bool, true, false, _&&_, _||_, not}
 use mathlib.Core.List.{List, [], _∷_, _++_}
 use Prim.Native.Nat.{ℕ, zero, suc, _+_, _*_, _-_, _%_}
-use lib.Dec.{leb, eqb}
+use lib.Dec.{leb, ltb, eqb}
 use lib.ListN.{take, drop}
 use Rattle.lists.specs.Lists.{choose, cell, tab}
 use Rattle.field.specs.Field.{add, sub}
 use Rattle.matrix.specs.Matrix.{times}
 use Rattle.table.specs.Table.{inverseOf, initialConstant, firstStepConstant}
-use Rattle.hash.specs.Hash.{cubes, plus, secondStep}
+use Rattle.hash.specs.Hash.{cubes, secondStep}
 use Rattle.refusals.specs.declared.Refusal.the-variants.{Constraint}
 use Rattle.refusals.specs.declared.Checked.{Checked}
 use Rattle.refusals.specs.declared.Checked.the-variants.{Accepted, Refused}
@@ -33,10 +33,14 @@ round i = (within i - 1) % 10
 abbrev pub entering : ℕ → Bool
 entering i = eqb (within i) 10 || eqb (within i) 20
 
+-- the first n columns of a state plus those of another, the others as they are
+unfoldable pub plusFirst : ℕ → List ℕ → List ℕ → List ℕ
+plusFirst n s k = tab 12 (λ j. choose (ltb j n) (add (cell s j) (cell k j)) (cell s j))
+
 -- forward of row i: its cells cubed, times M, plus that round's second-step constant; at rows 10 and 20 K_0 is added too, in columns 0 to 3 only
 unfoldable pub forward : List ℕ → List ℕ → ℕ → List ℕ
 forward T t i =
-    choose (entering i) (plus (secondStep T (round i) (row t i)) (take 4 (initialConstant T)))
+    choose (entering i) (plusFirst 4 (secondStep T (round i) (row t i)) (initialConstant T))
     (secondStep T (round i) (row t i))
 
 -- a state less another, cell by cell

@@ -14,7 +14,7 @@ use Rattle.field.specs.Field.{P, add, cube, root}
 use Rattle.field.proofs.Fermat.{root-lt}
 use Rattle.words.specs.Words.{AllCanonical}
 use Rattle.matrix.specs.Matrix.{timesColumn, times}
-use Rattle.table.specs.Table.{IsTable, matrixOf, initialConstant, firstStepConstant}
+use Rattle.table.specs.Table.{IsTable, initialConstant, firstStepConstant}
 use Rattle.table.proofs.Theorems.{initial-length, initial-canonical, first-step-length, first-step-canonical}
 use Rattle.hash.specs.Hash.{roots, cubes, plus, mix, firstStep, secondStep, stateAt, middleState, finalState}
 
@@ -66,7 +66,7 @@ times-state m s = tab-state _ (λ j h. mod-lt _ (omega arith))
 
 pub mix-state : (T s : List ℕ) → IsState (mix T s)
 unfolding mix
-mix-state T s = times-state (matrixOf T) s
+mix-state T s = times-state _ _
 
 pub firstStep-state : (T : List ℕ) (r : ℕ) (s : List ℕ) → IsState (firstStep T r s)
 unfolding firstStep

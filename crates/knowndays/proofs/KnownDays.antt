@@ -25,7 +25,7 @@ use Rattle.hash.specs.Hash.{roots, cubes, plus, mix, firstStep, secondStep, sta
 use Rattle.hash.specs.Answers.{forBatches, forTaps, hashAnswer, chainAnswer}
 use Rattle.hash.proofs.Answers.{taps-accepted}
 use Rattle.hash.proofs.Inputs.{IsTap}
-use Rattle.constraints.specs.Constraints.{row, forward, minus, backStep, back, applies, holds, rowTests, testsFrom, tests, walk, verdict}
+use Rattle.constraints.specs.Constraints.{row, plusFirst, forward, minus, backStep, back, applies, holds, rowTests, testsFrom, tests, walk, verdict}
 use Rattle.constraints.specs.ReadOff.{readInput, readWord, readTaps}
 use Rattle.checker.specs.Answers.{judged, traceAfter, checkAnswer}
 use Rattle.readoff.specs.Answers.{readOffAnswer, readOffLeaves}
@@ -80,7 +80,7 @@ hash-S a size h =
 
 -- ---- the tapped trace
 tapped-accepted : checkAnswer Z tapped zeros ≡ checked.Accepted 372
-unfolding ones tab sum first firstBad timesColumn times matrixOf inverseOf constant initialConstant firstStepConstant secondStepConstant cubes plus mix secondStep row forward minus backStep back applies holds rowTests testsFrom tests walk verdict judged shifted Z tapped zeros
+unfolding ones tab sum first firstBad timesColumn times matrixOf inverseOf constant initialConstant firstStepConstant secondStepConstant cubes plus mix secondStep row plusFirst forward minus backStep back applies holds rowTests testsFrom tests walk verdict judged shifted Z tapped zeros
 tapped-accepted = judges Z accepted-Z tapped zeros refl
 
 tapped-read-off : readOffAnswer Z tapped zeros 16 ≡ checked.Accepted 372
@@ -99,7 +99,7 @@ tapped-read old e = ap (λ x. tap (checkedKept x (readTaps Z tapped 1) old) 2) a
     answered = ap (readOffAnswer Z tapped zeros) e ∙ tapped-read-off
 
 pub known-days : KnownDays
-unfolding ones tab sum first firstBad halving power root timesColumn times matrixOf inverseOf constant initialConstant firstStepConstant secondStepConstant roots cubes plus mix firstStep secondStep stateAt finalState input hash tap outputAt chain row forward minus backStep back applies holds rowTests testsFrom tests walk verdict judged shifted Z A zeroTrace altered zeros
+unfolding ones tab sum first firstBad halving power root timesColumn times matrixOf inverseOf constant initialConstant firstStepConstant secondStepConstant roots cubes plus mix firstStep secondStep stateAt finalState input hash tap outputAt chain row plusFirst forward minus backStep back applies holds rowTests testsFrom tests walk verdict judged shifted Z A zeroTrace altered zeros
 known-days = record {
   product-of-negatives = refl;
   product-of-powers = refl;

@@ -5,11 +5,9 @@ ghost use Rattle.lists.specs.Lists.{cell};
 ghost use Rattle.field.specs.Field.{Canonical};
 ghost use Rattle.words.specs.Words.{CanonicalTo};
 ghost use Rattle.table.specs.Table.{IsTable, initialConstant};
-ghost use Rattle.constraints.specs.Constraints.{row as cells-of, within, round, entering, forward, back};
+ghost use Rattle.constraints.specs.Constraints.{row as cells-of, within, round, entering, plusFirst, forward, back};
 ghost use Rattle.steps.specs.Steps.{forwardReady, backReady, columns, tested};
 ghost use Rattle.rows.specs.Lent.{HasRow};
-ghost use lib.ListN.{take};
-ghost use Rattle.hash.specs.Hash.{plus};
 use counts::RowNumber;
 use field::Fp;
 
@@ -49,7 +47,7 @@ pub fn is_entering(row: RowNumber) -> bool
 // The state plus K_0 in columns 0 to 3 only, as at rows 10 and 20.
 fn plus_entering(table: &[u64], s: [u64; 12]) -> [u64; 12]
     requires { ⌜ IsTable (now table) × CanonicalTo 12 s ⌝ }
-    ensures { λ r. ⌜ r ≡ plus s (take 4 (initialConstant (now (table .entry)))) ⌝ }
+    ensures { λ r. ⌜ r ≡ plusFirst 4 s (initialConstant (now (table .entry))) ⌝ }
 {
     let mut out = s;
     let mut j: usize = 0;

@@ -8,9 +8,9 @@ use native.Mathlib.Omega.{arith}
 use native.Mathlib.Decide.{decLt}
 use borrow.Author.Tests.{lt-ltb, le-ltb}
 use lib.Dec.{ltb}
-use lib.ListN.{replicate, getD-replicate}
+use lib.ListN.{length, replicate, getD-replicate}
 use Rattle.lists.specs.Lists.{choose, cell, tab, sum}
-use Rattle.lists.proofs.Tab.{cell-tab, tab-ext, tab-unique, filled, filled-before, filled-after, length-filled}
+use Rattle.lists.proofs.Tab.{length-tab, cell-tab, tab-ext, tab-unique, filled, filled-before, filled-after, length-filled}
 use Rattle.field.specs.Field.{P, add, cube}
 use Rattle.field.specs.Montgomery.{element}
 use Rattle.field.proofs.Forms.{element-lt}
@@ -38,12 +38,19 @@ abbrev pub inner : List ℕ → List ℕ → ℕ → ℕ
 inner ready x i = element (sum 12 (λ j. cell ready (12 * i + j) * cell x j))
 
 -- ---- the first columns of a state
+pub length-columns : (n : ℕ) (s : List ℕ) → length (columns n s) ≡ 12
+unfolding columns
+length-columns n s = length-tab 12 _
+
 pub cell-columns : (n : ℕ) (s : List ℕ) (j : ℕ) → j < 12 → cell (columns n s) j ≡ choose (ltb j n) (cell s j) 0
 unfolding columns
 cell-columns n s j h = cell-tab 12 (λ i. choose (ltb i n) (cell s i) 0) j h
 
 pub cell-before : (n : ℕ) (s : List ℕ) (j : ℕ) → j < 12 → j < n → cell (columns n s) j ≡ cell s j
 cell-before n s j h l = cell-columns n s j h ∙ rw (lt-ltb j n l) refl
+
+pub cell-beyond : (n : ℕ) (s : List ℕ) (j : ℕ) → j < 12 → n ≤ j → cell (columns n s) j ≡ 0
+cell-beyond n s j h l = cell-columns n s j h ∙ rw (le-ltb j n l) refl
 
 -- a loop that stores the first n
 columns-filled : (n : ℕ) → n ≤ 12 → (f : ℕ → ℕ) → filled n f (replicate 12 0) ≡ columns n (tab 12 f)

@@ -24,9 +24,7 @@ pub const WORDS: usize = RAW_WORDS + MATRIX_WORDS;
 // Where K_0 stands in a prepared table.
 const CONSTANTS: usize = 2 * MATRIX_WORDS;
 
-// ---- The parts of a prepared table. Its layout is known here only.
-
-// M.
+// M. This and the five functions below read the parts of a prepared table, so that no other crate knows where they stand.
 pub fn matrix(table: &[u64]) -> &[u64]
     requires { ⌜ length (now table) ≡ tableWords ⌝ }
     ensures { λ r. ⌜ now r ≡ matrixOf (now (table .entry)) ⌝ }
@@ -73,8 +71,6 @@ pub fn second_step_constant(table: &[u64], round: usize, column: usize) -> u64
 {
     constant(table, 2 * round + 2, column)
 }
-
-// ---- The table test
 
 // Column k of a 12 × 12 matrix.
 fn column(n: &[u64], k: usize) -> [u64; 12]
@@ -153,8 +149,6 @@ pub fn test(table: &[u64]) -> Answer
     }
     Answer::Accepted
 }
-
-// ---- Prepare
 
 // Word t of the prepared table: M, its inverse n, then K.
 fn prepared_word(raw: &[u64], n: &[u64; MATRIX_WORDS], t: usize) -> u64

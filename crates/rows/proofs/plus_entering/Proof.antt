@@ -60,7 +60,7 @@ returns : tie.Need-returns Inv-loop μ-loop
 returns c =
     let a = c .before .before .before in
     let l = c .before .loop in
-    entering-filled (a .args .table .now) (a .args .t2) (l .inv .1) (a .pre .1) _ (l .j) (omega arith) (l .inv .3)
+    entering-filled (a .args .t2) (initialConstant (a .args .table .now)) (l .inv .1) _ (l .j) (omega arith) (l .inv .3)
 
 pub plus-entering-spec : {M : Type 1} → statement M
 plus-entering-spec =
