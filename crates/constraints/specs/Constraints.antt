@@ -4,13 +4,13 @@
 use mathlib.Core.Bool.{Bool, true, false, _&&_, _||_, not}
 use mathlib.Core.List.{List, [], _∷_, _++_}
 use Prim.Native.Nat.{ℕ, zero, suc, _+_, _*_, _-_, _%_}
-use lib.Dec.{leb, eqb}
+use lib.Dec.{leb, ltb, eqb}
 use lib.ListN.{take, drop}
 use Rattle.lists.specs.Lists.{choose, cell, tab}
 use Rattle.field.specs.Field.{add, sub}
 use Rattle.matrix.specs.Matrix.{times}
-use Rattle.table.specs.Table.{inverseOf, constant}
-use Rattle.hash.specs.Hash.{cubes, plus, secondStep}
+use Rattle.table.specs.Table.{inverseOf, initialConstant, firstStepConstant}
+use Rattle.hash.specs.Hash.{cubes, secondStep}
 use Rattle.refusals.specs.declared.Refusal.the-variants.{Constraint}
 use Rattle.refusals.specs.declared.Checked.{Checked}
 use Rattle.refusals.specs.declared.Checked.the-variants.{Accepted, Refused}
@@ -33,10 +33,14 @@ round i = (within i - 1) % 10
 abbrev pub entering : ℕ → Bool
 entering i = eqb (within i) 10 || eqb (within i) 20
 
+-- the first n columns of a state plus those of another, the others as they are
+unfoldable pub plusFirst : ℕ → List ℕ → List ℕ → List ℕ
+plusFirst n s k = tab 12 (λ j. choose (ltb j n) (add (cell s j) (cell k j)) (cell s j))
+
 -- forward of row i: its cells cubed, times M, plus that round's second-step constant; at rows 10 and 20 K_0 is added too, in columns 0 to 3 only
 unfoldable pub forward : List ℕ → List ℕ → ℕ → List ℕ
 forward T t i =
-    choose (entering i) (plus (secondStep T (round i) (row t i)) (take 4 (constant T 0)))
+    choose (entering i) (plusFirst 4 (secondStep T (round i) (row t i)) (initialConstant T))
     (secondStep T (round i) (row t i))
 
 -- a state less another, cell by cell
@@ -45,7 +49,7 @@ minus s k = tab 12 (λ j. sub (cell s j) (cell k j))
 
 -- a middle state's cells less the first-step constant of round r, times the inverse of M, then cubed
 unfoldable pub backStep : List ℕ → ℕ → List ℕ → List ℕ
-backStep T r s = cubes (times (inverseOf T) (minus s (constant T (2 * r + 1))))
+backStep T r s = cubes (times (inverseOf T) (minus s (firstStepConstant T r)))
 
 -- back of row i
 unfoldable pub back : List ℕ → List ℕ → ℕ → List ℕ
@@ -72,8 +76,8 @@ applies k i c =
 unfoldable pub holds : List ℕ → List ℕ → List ℕ → ℕ → ℕ → Bool
 holds T t claim i c =
     choose (leb c 4) (eqb (cell (row t i) (c + 7)) 0)
-    (choose (leb c 8) (eqb (cell (back T t (i + 1)) (c + 3)) (cell (constant T 0) (c + 3)))
-    (choose (leb c 20) (eqb (add (cell (row t i) (c - 9)) (cell (constant T 0) (c - 9))) (cell (back T t (i + 1)) (c - 9)))
+    (choose (leb c 8) (eqb (cell (back T t (i + 1)) (c + 3)) (cell (initialConstant T) (c + 3)))
+    (choose (leb c 20) (eqb (add (cell (row t i) (c - 9)) (cell (initialConstant T) (c - 9))) (cell (back T t (i + 1)) (c - 9)))
     (choose (leb c 32) (eqb (cell (forward T t i) (c - 21)) (cell (back T t (i + 1)) (c - 21)))
     (choose (leb c 44) (eqb (cell (forward T t i) (c - 33)) (cell (row t (i + 1)) (c - 33)))
     (choose (leb c 48) (eqb (cell (row t i) (c - 45)) (cell (row t (i + 1)) (c - 45)))

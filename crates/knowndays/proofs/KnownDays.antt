@@ -20,12 +20,12 @@ use Rattle.refusals.specs.declared.Digested.{Digested}
 use Rattle.refusals.specs.declared.Digested.the-variants.{Accepted}
 use Rattle.refusals.specs.declared.Checked.{Checked}
 use Rattle.refusals.specs.declared.Checked.the-variants as checked
-use Rattle.table.specs.Table.{matrixOf, inverseOf, constant, tableTest}
+use Rattle.table.specs.Table.{matrixOf, inverseOf, constant, initialConstant, firstStepConstant, secondStepConstant, tableTest}
 use Rattle.hash.specs.Hash.{roots, cubes, plus, mix, firstStep, secondStep, stateAt, finalState, input, hash, tap, outputAt, chain}
 use Rattle.hash.specs.Answers.{forBatches, forTaps, hashAnswer, chainAnswer}
 use Rattle.hash.proofs.Answers.{taps-accepted}
 use Rattle.hash.proofs.Inputs.{IsTap}
-use Rattle.constraints.specs.Constraints.{row, forward, minus, backStep, back, applies, holds, rowTests, testsFrom, tests, walk, verdict}
+use Rattle.constraints.specs.Constraints.{row, plusFirst, forward, minus, backStep, back, applies, holds, rowTests, testsFrom, tests, walk, verdict}
 use Rattle.constraints.specs.ReadOff.{readInput, readWord, readTaps}
 use Rattle.checker.specs.Answers.{judged, traceAfter, checkAnswer}
 use Rattle.readoff.specs.Answers.{readOffAnswer, readOffLeaves}
@@ -80,7 +80,7 @@ hash-S a size h =
 
 -- ---- the tapped trace
 tapped-accepted : checkAnswer Z tapped zeros ≡ checked.Accepted 372
-unfolding ones tab sum first firstBad timesColumn times matrixOf inverseOf constant cubes plus mix secondStep row forward minus backStep back applies holds rowTests testsFrom tests walk verdict judged shifted Z tapped zeros
+unfolding ones tab sum first firstBad timesColumn times matrixOf inverseOf constant initialConstant firstStepConstant secondStepConstant cubes plus mix secondStep row plusFirst forward minus backStep back applies holds rowTests testsFrom tests walk verdict judged shifted Z tapped zeros
 tapped-accepted = judges Z accepted-Z tapped zeros refl
 
 tapped-read-off : readOffAnswer Z tapped zeros 16 ≡ checked.Accepted 372
@@ -88,7 +88,7 @@ unfolding tab tapped
 tapped-read-off = same-for Z tapped zeros 1 refl ∙ tapped-accepted
 
 tapped-tap : tap (readTaps Z tapped 1) 2 ≡ 0 ∷ 1 ∷ 0 ∷ 0 ∷ []
-unfolding tab sum timesColumn times inverseOf constant cubes tap row minus backStep back readInput readWord readTaps shifted Z tapped
+unfolding tab sum timesColumn times inverseOf constant initialConstant firstStepConstant cubes tap row minus backStep back readInput readWord readTaps shifted Z tapped
 tapped-tap = refl
 
 tapped-read : (old : List ℕ) → length old ≡ 16 → tap (readOffLeaves Z tapped zeros old) 2 ≡ 0 ∷ 1 ∷ 0 ∷ 0 ∷ []
@@ -99,7 +99,7 @@ tapped-read old e = ap (λ x. tap (checkedKept x (readTaps Z tapped 1) old) 2) a
     answered = ap (readOffAnswer Z tapped zeros) e ∙ tapped-read-off
 
 pub known-days : KnownDays
-unfolding ones tab sum first firstBad halving power root timesColumn times matrixOf inverseOf constant roots cubes plus mix firstStep secondStep stateAt finalState input hash tap outputAt chain row forward minus backStep back applies holds rowTests testsFrom tests walk verdict judged shifted Z A zeroTrace altered zeros
+unfolding ones tab sum first firstBad halving power root timesColumn times matrixOf inverseOf constant initialConstant firstStepConstant secondStepConstant roots cubes plus mix firstStep secondStep stateAt finalState input hash tap outputAt chain row plusFirst forward minus backStep back applies holds rowTests testsFrom tests walk verdict judged shifted Z A zeroTrace altered zeros
 known-days = record {
   product-of-negatives = refl;
   product-of-powers = refl;

@@ -13,7 +13,7 @@ use Rattle.refusals.specs.declared.Refusal.the-variants.{NoInverse, Constraint}
 use Rattle.refusals.specs.declared.Answer.the-variants as answer
 use Rattle.refusals.specs.declared.Digested.the-variants as digested
 use Rattle.refusals.specs.declared.Checked.the-variants as checked
-use Rattle.table.specs.Table.{tableTest, Prepares}
+use Rattle.table.specs.Table.{rawWords, tableWords, tableTest, Prepares}
 use Rattle.hash.specs.Hash.{tap}
 use Rattle.hash.specs.Answers.{hashAnswer, chainAnswer}
 use Rattle.checker.specs.Answers.{checkAnswer}
@@ -39,7 +39,7 @@ rawS = shifted 11 ++ replicate 252 0
 
 -- zero M, K zero
 unfoldable pub rawZeros : List ℕ
-rawZeros = replicate 396 0
+rawZeros = replicate rawWords 0
 
 -- ---- Z, A and S as Prepare writes them: M, its inverse, K
 
@@ -56,10 +56,10 @@ S = shifted 11 ++ shifted 1 ++ replicate 252 0
 -- what Prepare answers for each raw table and leaves in any destination of 540 words, and no other (`prepares-unique`);
 -- with what it wrote the later operations go on
 pub record KnownTables : Type 0 where
-  pub prepare-Z : (old : List ℕ) → length old ≡ 540 → Prepares rawZ old answer.Accepted Z
-  pub prepare-A : (old : List ℕ) → length old ≡ 540 → Prepares rawA old answer.Accepted A
-  pub prepare-S : (old : List ℕ) → length old ≡ 540 → Prepares rawS old answer.Accepted S
-  pub prepare-zeros : (old : List ℕ) → length old ≡ 540 → Prepares rawZeros old (answer.Refused NoInverse) old
+  pub prepare-Z : (old : List ℕ) → length old ≡ tableWords → Prepares rawZ old answer.Accepted Z
+  pub prepare-A : (old : List ℕ) → length old ≡ tableWords → Prepares rawA old answer.Accepted A
+  pub prepare-S : (old : List ℕ) → length old ≡ tableWords → Prepares rawS old answer.Accepted S
+  pub prepare-zeros : (old : List ℕ) → length old ≡ tableWords → Prepares rawZeros old (answer.Refused NoInverse) old
   pub accepted-Z : tableTest Z ≡ answer.Accepted
   pub accepted-A : tableTest A ≡ answer.Accepted
   pub accepted-S : tableTest S ≡ answer.Accepted

@@ -108,11 +108,11 @@ pub fn holds(
     }
     if constraint <= 8 {
         let j = constraint + 3;
-        return back[j] == rows::opening(table, j);
+        return back[j] == table::initial_constant(table, j);
     }
     if constraint <= 20 {
         let j = constraint - 9;
-        let sum = Fp(rows::cell(trace, row, j)).add(Fp(rows::opening(table, j)));
+        let sum = Fp(rows::cell(trace, row, j)).add(Fp(table::initial_constant(table, j)));
         return sum.0 == back[j];
     }
     if constraint <= 32 {
