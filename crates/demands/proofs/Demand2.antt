@@ -73,18 +73,18 @@ module _ (T w : List ℕ) (k : ℕ) (table : IsTable T) (permitted : IsPermitted
       let output = output-is-tap T w k size canonical in
       let read = reading-off-a-built-trace T k table permitted w size canonical in
       let answered : readOffAnswer T t claim (length room) ≡ counted.Accepted (372 * k) =
-        ap (readOffAnswer T t claim) l
-            ∙ same-for T t claim k long
-            ∙ check-verdict T t claim k table permitted long (trace-canonical T w k size canonical) (output .size) (output .canonical)
-            ∙ ap (λ a. testsAfter a (length (tests k))) (read .0)
-            ∙ ap counted.Accepted (length-tests k) in
+      ap (readOffAnswer T t claim) l
+      ∙ same-for T t claim k long
+      ∙ check-verdict T t claim k table permitted long (trace-canonical T w k size canonical) (output .size) (output .canonical)
+      ∙ ap (λ a. testsAfter a (length (tests k))) (read .0)
+      ∙ ap counted.Accepted (length-tests k) in
       let passes = tests-accepted (readOffTest T t claim (length room)) _ _ answered .0 in
       let batches : traceWordBatches (length t) ≡ k = omega (arith, long) in
       (answered, ap (λ a. leaves a (readTaps T t (traceWordBatches (length t))) room) passes ∙ ap (readTaps T t) batches ∙ read .1)
 
 reads-back : (T w old room : List ℕ) (d : Digest) → buildAnswer T w (length old) ≡ Accepted d → length room ≡ length w
     → (readOffAnswer T (buildLeaves T w old) (digestWords d) (length room) ≡ counted.Accepted (372 * tapWordBatches (length w)))
-        × (readOffLeaves T (buildLeaves T w old) (digestWords d) room ≡ w)
+    × (readOffLeaves T (buildLeaves T w old) (digestWords d) room ≡ w)
 unfolding buildAnswer
 reads-back T w old room d e l =
     let k = tapWordBatches (length w) in

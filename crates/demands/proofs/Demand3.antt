@@ -84,5 +84,5 @@ module _ (T t claim : List ℕ) (k : ℕ) (table : IsTable T) (permitted : IsPer
 pub demand-3 : Demand3
 demand-3 = record {
   exact = λ T t claim k table permitted size canonical four claim-canonical.
-    exactly T t claim k (test-sound T table) permitted size canonical four claim-canonical;
+      exactly T t claim k (test-sound T table) permitted size canonical four claim-canonical;
 }

@@ -195,10 +195,10 @@ module _ (Q : Refusal → Type 0) (file : List ℕ) (q12 : Q FileLength) (q8 : Q
   -- room is what is tested at 8
   read-ends : (room : Bool)
       → AnswerEnds Q (unless (leb 4 (length file)) FileLength
-        (after (countTest (wordAt file 0))
-        (unless (eqb (length file) (fileSize (batchesIn file))) FileLength
-        (unless room DestinationLength
-        (elementsTest file 1 (12 * batchesIn file + 8))))))
+      (after (countTest (wordAt file 0))
+      (unless (eqb (length file) (fileSize (batchesIn file))) FileLength
+      (unless room DestinationLength
+      (elementsTest file 1 (12 * batchesIn file + 8))))))
   read-ends room =
       unless-ends Q (leb 4 (length file)) FileLength _ (λ e. q12)
       (λ e. after-ends Q (countTest (wordAt file 0)) _ (count-ends (wordAt file 0))

@@ -6,7 +6,7 @@ use mathlib.Core.List.{List, _++_}
 use Prim.Native.Nat.{ℕ, _+_, _*_, _/_, _%_}
 use lib.Dec.{eqb}
 use lib.ListN.{length, take, drop}
-use Rattle.lists.specs.Lists.{choose, first}
+use Rattle.lists.specs.Lists.{first}
 use Rattle.words.specs.Words.{AllCanonical, firstBad}
 use Rattle.matrix.specs.Matrix.{entry, product, identity, Inverse, Kernel}
 use Rattle.inverse.specs.Inversion.{IsInverse}
@@ -14,6 +14,7 @@ use Rattle.refusals.specs.declared.Refusal.{Refusal}
 use Rattle.refusals.specs.declared.Refusal.the-variants.{TableLength, TableWord, NoInverse, WrongInverse, DestinationLength}
 use Rattle.refusals.specs.declared.Answer.{Answer}
 use Rattle.refusals.specs.declared.Answer.the-variants.{Accepted, Refused}
+use Rattle.refusals.specs.Answers.{unless}
 
 -- ---- how many words: M, 12 × 12, and so its inverse; the raw table; the prepared one
 abbrev pub matrixWords : ℕ
@@ -59,11 +60,10 @@ firstUnlike t = first matrixWords (unlike t)
 -- the table test of every operation but Prepare: 1, 2, 4
 unfoldable pub tableTest : List ℕ → Answer
 tableTest t =
-    choose (eqb (length t) tableWords)
-    (choose (eqb (firstBad t) tableWords)
-    (choose (eqb (firstUnlike t) matrixWords) Accepted (Refused (WrongInverse (firstUnlike t))))
-    (Refused (TableWord (firstBad t))))
-    (Refused TableLength)
+    unless (eqb (length t) tableWords) TableLength
+    (unless (eqb (firstBad t) tableWords) (TableWord (firstBad t))
+    (unless (eqb (firstUnlike t) matrixWords) (WrongInverse (firstUnlike t))
+    Accepted))
 
 -- an accepted table: all words canonical, and M times the stored inverse the identity
 pub record IsTable (t : List ℕ) : Type 0 where
@@ -86,11 +86,10 @@ prepared raw n = rawMatrix raw ++ (n ++ drop matrixWords raw)
 -- what Prepare refuses before it looks for an inverse
 unfoldable pub rawTest : List ℕ → ℕ → Answer
 rawTest raw size =
-    choose (eqb (length raw) rawWords)
-    (choose (eqb size tableWords)
-    (choose (eqb (firstBad raw) rawWords) Accepted (Refused (TableWord (firstBad raw))))
-    (Refused DestinationLength))
-    (Refused TableLength)
+    unless (eqb (length raw) rawWords) TableLength
+    (unless (eqb size tableWords) DestinationLength
+    (unless (eqb (firstBad raw) rawWords) (TableWord (firstBad raw))
+    Accepted))
 
 -- what Prepare answers and leaves in the destination: the prepared table, 3 where M takes some non-zero column to all zeros, or the refusal of its tests
 pub data Prepares (raw old : List ℕ) : Answer → List ℕ → Type 0 where
