@@ -11,8 +11,8 @@ use Rattle.field.specs.Field.{P, mul, root}
 use Rattle.refusals.specs.Refusals.{digest}
 use Rattle.refusals.specs.declared.Refusal.the-variants.{NoInverse, Constraint}
 use Rattle.refusals.specs.declared.Answer.the-variants as answer
-use Rattle.refusals.specs.declared.Digested.the-variants as digested
-use Rattle.refusals.specs.declared.Checked.the-variants as checked
+use Rattle.refusals.specs.declared.DigestAnswer.the-variants as output
+use Rattle.refusals.specs.declared.TestsAnswer.the-variants as tests
 use Rattle.table.specs.Table.{rawWords, tableWords, tableTest, Prepares}
 use Rattle.hash.specs.Hash.{tap}
 use Rattle.hash.specs.Answers.{hashAnswer, chainAnswer}
@@ -87,17 +87,17 @@ pub record KnownDays : Type 0 where
   pub root-of-0 : root 0 ≡ 0
   pub root-of-8 : root 8 ≡ 2
   pub root-of-negative : root (P - 1) ≡ P - 1
-  pub hash-Z : hashAnswer Z ((8 ∷ 27 ∷ 1 ∷ 0 ∷ []) ++ zeros) ≡ digested.Accepted (digest (8 ∷ 27 ∷ 1 ∷ 0 ∷ []))
-  pub hash-A : hashAnswer A (zeros ++ zeros) ≡ digested.Accepted (digest (1 ∷ 0 ∷ 0 ∷ 0 ∷ []))
+  pub hash-Z : hashAnswer Z ((8 ∷ 27 ∷ 1 ∷ 0 ∷ []) ++ zeros) ≡ output.Accepted (digest (8 ∷ 27 ∷ 1 ∷ 0 ∷ []))
+  pub hash-A : hashAnswer A (zeros ++ zeros) ≡ output.Accepted (digest (1 ∷ 0 ∷ 0 ∷ 0 ∷ []))
   pub hash-S : (a : List ℕ) → length a ≡ 4 → AllCanonical a
-      → hashAnswer S (a ++ (5 ∷ 6 ∷ 7 ∷ 9 ∷ [])) ≡ digested.Accepted (digest (5 ∷ 6 ∷ 7 ∷ 9 ∷ []))
-  pub chain-A : chainAnswer A (replicate 16 0) ≡ digested.Accepted (digest (3 ∷ 0 ∷ 0 ∷ 0 ∷ []))
-  pub zero-accepted : checkAnswer Z zeroTrace zeros ≡ checked.Accepted 372
+      → hashAnswer S (a ++ (5 ∷ 6 ∷ 7 ∷ 9 ∷ [])) ≡ output.Accepted (digest (5 ∷ 6 ∷ 7 ∷ 9 ∷ []))
+  pub chain-A : chainAnswer A (replicate 16 0) ≡ output.Accepted (digest (3 ∷ 0 ∷ 0 ∷ 0 ∷ []))
+  pub zero-accepted : checkAnswer Z zeroTrace zeros ≡ tests.Accepted 372
   pub zero-claim : checkAnswer Z zeroTrace (1 ∷ 0 ∷ 0 ∷ 0 ∷ [])
-      ≡ checked.Refused (Constraint (record { 0 = 31 }) 49 369)
-  pub altered-0-8 : checkAnswer Z (altered 0 8) zeros ≡ checked.Refused (Constraint (record { 0 = 0 }) 1 1)
-  pub altered-31-5 : checkAnswer Z (altered 31 5) zeros ≡ checked.Refused (Constraint (record { 0 = 30 }) 38 362)
-  pub altered-11-5 : checkAnswer Z (altered 11 5) zeros ≡ checked.Refused (Constraint (record { 0 = 11 }) 26 138)
-  pub tapped-accepted : checkAnswer Z tapped zeros ≡ checked.Accepted 372
-  pub tapped-read-off : readOffAnswer Z tapped zeros 16 ≡ checked.Accepted 372
+      ≡ tests.Refused (Constraint (record { 0 = 31 }) 49 369)
+  pub altered-0-8 : checkAnswer Z (altered 0 8) zeros ≡ tests.Refused (Constraint (record { 0 = 0 }) 1 1)
+  pub altered-31-5 : checkAnswer Z (altered 31 5) zeros ≡ tests.Refused (Constraint (record { 0 = 30 }) 38 362)
+  pub altered-11-5 : checkAnswer Z (altered 11 5) zeros ≡ tests.Refused (Constraint (record { 0 = 11 }) 26 138)
+  pub tapped-accepted : checkAnswer Z tapped zeros ≡ tests.Accepted 372
+  pub tapped-read-off : readOffAnswer Z tapped zeros 16 ≡ tests.Accepted 372
   pub tapped-read : (old : List ℕ) → length old ≡ 16 → tap (readOffLeaves Z tapped zeros old) 2 ≡ 0 ∷ 1 ∷ 0 ∷ 0 ∷ []
