@@ -60,6 +60,14 @@ back T t i = backStep T (round i) (row t i)
 abbrev pub between : ℕ → ℕ → ℕ → Bool
 between a b c = leb a c && leb c b
 
+-- the last row of a trace of k batches
+abbrev pub lastRow : ℕ → ℕ → Bool
+lastRow k i = eqb (i + 1) (32 * k)
+
+-- the row that is compared with the claim, which is the last
+abbrev pub claimRow : ℕ → ℕ → Bool
+claimRow k i = lastRow k i
+
 -- whether constraint c applies at row i of a trace of k batches
 unfoldable pub applies : ℕ → ℕ → ℕ → Bool
 applies k i c =
@@ -69,8 +77,8 @@ applies k i c =
     || ((between 21 24 c && between 1 29 (within i))
     || ((between 25 32 c && (between 1 29 (within i) && not (entering i)))
     || ((between 33 44 c && eqb (within i) 30)
-    || ((between 45 48 c && (eqb (within i) 31 && not (eqb (i + 1) (32 * k))))
-    || (between 49 52 c && eqb (i + 1) (32 * k))))))))
+    || ((between 45 48 c && (eqb (within i) 31 && not (lastRow k i)))
+    || (between 49 52 c && claimRow k i)))))))
 
 -- whether constraint c holds at row i, where it applies
 unfoldable pub holds : List ℕ → List ℕ → List ℕ → ℕ → ℕ → Bool
