@@ -12,8 +12,9 @@ use Rattle.matrix.specs.Matrix.{times}
 use Rattle.table.specs.Table.{inverseOf, initialConstant, firstStepConstant}
 use Rattle.hash.specs.Hash.{cubes, secondStep}
 use Rattle.refusals.specs.declared.Refusal.the-variants.{Constraint}
-use Rattle.refusals.specs.declared.Checked.{Checked}
-use Rattle.refusals.specs.declared.Checked.the-variants.{Accepted, Refused}
+use Rattle.refusals.specs.declared.Answer.{Answer}
+use Rattle.refusals.specs.declared.Answer.the-variants.{Accepted}
+use Rattle.refusals.specs.Answers.{unless}
 
 -- ---- rows, forward and back
 
@@ -117,12 +118,12 @@ unfoldable pub tests : ℕ → List Test
 tests k = testsFrom k 0 (32 * k)
 
 -- the walk after n tests: it stops at the first test that fails, whose place is counted from 1
-unfoldable pub walk : List ℕ → List ℕ → List ℕ → List Test → ℕ → Checked
-walk T t claim [] n = Accepted n
+unfoldable pub walk : List ℕ → List ℕ → List ℕ → List Test → ℕ → Answer
+walk T t claim [] n = Accepted
 walk T t claim (x ∷ xs) n =
-    choose (holds T t claim (x .at) (x .number)) (walk T t claim xs (n + 1))
-    (Refused (Constraint (record { 0 = x .at }) (x .number) (n + 1)))
+    unless (holds T t claim (x .at) (x .number)) (Constraint (record { 0 = x .at }) (x .number) (n + 1))
+    (walk T t claim xs (n + 1))
 
 -- what the walk through all tests answers
-unfoldable pub verdict : List ℕ → List ℕ → List ℕ → ℕ → Checked
-verdict T t claim k = walk T t claim (tests k) 0
+unfoldable pub constraintTest : List ℕ → List ℕ → List ℕ → ℕ → Answer
+constraintTest T t claim k = walk T t claim (tests k) 0
