@@ -6,8 +6,9 @@ use mathlib.Core.List.{List, [], _∷_, _++_}
 use Prim.Native.Nat.{ℕ, _+_, _*_}
 use native.Mathlib.Omega.{arith}
 use borrow.Author.Tests.{eq-eqb, ne-eqb}
-use lib.ListN.{length, set}
-use Rattle.refusals.specs.Refusals.{digestWords}
+use lib.ListN.{length, set, take, drop}
+use Rattle.counts.specs.Counts.{mostBatches, isTapLength, tapWordBatches}
+use Rattle.refusals.specs.Refusals.{digest}
 use Rattle.refusals.specs.Answers.{unless, after, Refuses, digestAfter, leaves}
 use Rattle.refusals.specs.declared.Refusal.{Refusal}
 use Rattle.refusals.specs.declared.Refusal.the-variants.{TapLength, DestinationLength}
@@ -19,11 +20,14 @@ use Rattle.refusals.specs.declared.DigestAnswer.the-variants.{Accepted, Refused
 use Rattle.refusals.specs.declared.TestsAnswer.{TestsAnswer}
 use Rattle.refusals.specs.declared.TestsAnswer.the-variants as tests
 use Rattle.table.specs.Table.{tableTest}
-use Rattle.hash.specs.Answers.{hashTest, chainTest}
-use Rattle.trace.specs.Answers.{buildTest}
-use Rattle.board.specs.Board.{batchesIn, unpackTest}
+use Rattle.hash.specs.Hash.{hash, chain}
+use Rattle.hash.specs.Answers.{hashTest, hashAnswer, chainTest, chainAnswer}
+use Rattle.trace.specs.Trace.{trace}
+use Rattle.trace.specs.Answers.{buildTest, buildAnswer, buildLeaves}
+use Rattle.board.specs.Board.{batchesIn, claimIn, tapsIn, unpackTest, unpackAnswer, unpackLeaves}
+use Rattle.board.proofs.Cases.{unpack-accepted}
 use Rattle.export.specs.Code.{code, refusalCode, answerCode, digestCode, testsCode}
-use Rattle.export.specs.Calls.{HandsOver, hashCallTest, hashNoRoom, chainCallTest, chainNoRoom, buildCallTest, unpackCallTest}
+use Rattle.export.specs.Calls.{HandsOver, hashCallTest, hashNoRoom, hashCall, chainCallTest, chainNoRoom, chainCall, buildCallTest, buildCall, unpackCallTest, unpackCall}
 
 -- ---- the code of an answer that was found to be one or the other
 pub answer-accepted : (a : Answer) → a ≡ answer.Accepted → 0 ≡ answerCode a
@@ -117,14 +121,13 @@ hash-no-room-refuses T = go (tableTest T)
 
 pub chain-no-room-refuses : (T w : List ℕ) → Refuses (chainNoRoom T w)
 unfolding chainNoRoom
-chain-no-room-refuses T w = go (tableTest T) _
+chain-no-room-refuses T w = go (tableTest T) (isTapLength mostBatches (length w))
   where
     go : (t : Answer) (b : Bool) → Refuses (after t (unless b TapLength (answer.Refused DestinationLength)))
     go (answer.Refused r) b = (r, refl)
     go answer.Accepted true = (DestinationLength, refl)
     go answer.Accepted false = (TapLength, refl)
 
--- no list of taps has 0 words
 module _ (file : List ℕ) (taps size : ℕ) where
   pub unpack-room : size ≡ 4 → unpackTest file taps ≡ unpackCallTest file taps size
   unfolding unpackTest unpackCallTest
@@ -133,6 +136,50 @@ module _ (file : List ℕ) (taps size : ℕ) where
   pub unpack-short : (size ≡ 4 → ⊥) → unpackCallTest file taps size ≡ unpackTest file 0
   unfolding unpackTest unpackCallTest
   unpack-short e = rw (ne-eqb size 4 e, ne-eqb 0 (12 * batchesIn file + 4) (λ q. omega arith))
+
+-- no list of taps has 0 words
+pub no-list-refuses : (file : List ℕ) → Refuses (unpackTest file 0)
+no-list-refuses file = go (unpackTest file 0) refl
+  where
+    go : (a : Answer) → unpackTest file 0 ≡ a → Refuses a
+    go (answer.Refused r) e = (r, refl)
+    go answer.Accepted e = absurd (omega (arith, unpack-accepted file 0 e .1))
+
+-- so that the answer for such a destination is the one that stops at 8
+module _ (file : List ℕ) (taps size : ℕ) (short : size ≡ 4 → ⊥) where
+  pub unpack-stopped : (code : ℕ) (old : List ℕ) → code ≡ digestCode (unpackAnswer file 0) → HandsOver (unpackCall file taps size) code old old
+  unfolding unpackAnswer unpackCall
+  unpack-stopped code old e =
+      let r = no-list-refuses file in
+      handed-refused (digestAfter (unpackCallTest file taps size) (digest (claimIn file))) (r .0) code old
+      (ap (λ t. digestAfter t (digest (claimIn file))) (unpack-short file taps size short ∙ r .1))
+      (e ∙ sym (digest-refused (unpackAnswer file 0) (r .0) (ap (λ t. digestAfter t (digest (claimIn file))) (r .1))))
+
+-- where there is room, answer and content are the operation's
+module _ (size : ℕ) (four : size ≡ 4) where
+  pub hash-answer : (T words : List ℕ) → hashAnswer T words ≡ hashCall T words size
+  unfolding hashAnswer hashCall
+  hash-answer T words = ap (λ t. digestAfter t (digest (hash T (take 4 words) (drop 4 words)))) (hash-room T words size four)
+
+  pub chain-answer : (T w : List ℕ) → chainAnswer T w ≡ chainCall T w size
+  unfolding chainAnswer chainCall
+  chain-answer T w = ap (λ t. digestAfter t (digest (chain T w (tapWordBatches (length w))))) (chain-room T w size four)
+
+  pub build-answer : (T w : List ℕ) (rows : ℕ) → buildAnswer T w rows ≡ buildCall T w rows size
+  unfolding buildAnswer buildCall
+  build-answer T w rows = ap (λ t. digestAfter t (digest (chain T w (tapWordBatches (length w))))) (build-room T w size rows four)
+
+  pub build-left : (T w old : List ℕ) → buildLeaves T w old ≡ leaves (buildCallTest T w (length old) size) (trace T w (tapWordBatches (length w))) old
+  unfolding buildLeaves
+  build-left T w old = ap (λ t. leaves t (trace T w (tapWordBatches (length w))) old) (build-room T w size (length old) four)
+
+  pub unpack-answer : (file : List ℕ) (taps : ℕ) → unpackAnswer file taps ≡ unpackCall file taps size
+  unfolding unpackAnswer unpackCall
+  unpack-answer file taps = ap (λ t. digestAfter t (digest (claimIn file))) (unpack-room file taps size four)
+
+  pub unpack-left : (file old : List ℕ) → unpackLeaves file old ≡ leaves (unpackCallTest file (length old) size) (tapsIn file) old
+  unfolding unpackLeaves
+  unpack-left file old = ap (λ t. leaves t (tapsIn file) old) (unpack-room file (length old) size four)
 
 -- where no word of a destination was lent
 pub list-kept : (part old : List ℕ) → length part ≡ 0 → part ++ old ≡ old

@@ -37,4 +37,5 @@ says p h = record {
 
 -- acceptance, with the tests where they are counted
 pub says-accepted : (n : ℕ) → n < 2 ^ 28 → Says (code 0 0 0 n) (indexed 0 n)
+unfolding particularsCode
 says-accepted n h = says (indexed 0 n) (record { number = lit< tt; constraint = lit< tt; row = lit< tt; value = h })

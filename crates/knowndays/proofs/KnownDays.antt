@@ -57,10 +57,10 @@ module _ (T : List ℕ) (table : tableTest T ≡ answer.Accepted) where
 
   judges : (t claim : List ℕ) {a : TestsAnswer} → let k = traceWordBatches (length t) in
       testsAfter
-        (unless (isTraceLength mostBatches (length t)) TraceLength
-        (unless (canonicalWords claim) (ClaimWord (firstBad claim))
-        (unless (canonicalWords t) (TraceWord (firstBad t))
-        (constraintTest T t claim k))))
+      (unless (isTraceLength mostBatches (length t)) TraceLength
+      (unless (canonicalWords claim) (ClaimWord (firstBad claim))
+      (unless (canonicalWords t) (TraceWord (firstBad t))
+      (constraintTest T t claim k))))
       (length (tests k)) ≡ a → checkAnswer T t claim ≡ a
   unfolding checkTest checkAnswer
   judges t claim e = ap (λ x. testsAfter x (length (tests (traceWordBatches (length t))))) (accepted _) ∙ e

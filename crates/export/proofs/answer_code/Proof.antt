@@ -1,8 +1,8 @@
--- `export::answer_code` meets its contract.
+-- `export::answer_code`: 0, or the code of the refusal.
 -- Assumes nothing.
 use mathlib.Core.Path.{_∙_}
-use borrow.Author.Needs.{needs}
 use Rattle.export.proofs.Answers.{answer-accepted, answer-refused}
+use borrow.Author.Needs.{needs}
 use Rattle.export.proofs.answer_code.Statement.{statement}
 use Rattle.export.proofs.answer_code.Tie as tie
 
@@ -12,15 +12,15 @@ enum-told c = search needs
 enum-known-answer : tie.Need-enum-known-answer
 enum-known-answer c = search needs
 
-code-of-requires : tie.Need-code-of-requires
-code-of-requires c κs = search needs
+refusal-code-requires : tie.Need-refusal-code-requires
+refusal-code-requires c κs = search needs
 
 returns : tie.Need-returns
 returns c = answer-accepted _ (c .enum-told .given .1)
 
 returns-2 : tie.Need-returns-2
-returns-2 c = c .code-of .ensures ∙ answer-refused _ _ (c .before .before .answer .given .1)
+returns-2 c = c .refusal-code .ensures ∙ answer-refused _ _ (c .before .before .answer .given .1)
 
 pub answer-code-spec : {M : Type 1} → statement M
 answer-code-spec =
-    tie.close (tie.spec enum-told enum-known-answer code-of-requires returns returns-2)
+    tie.close (tie.spec enum-told enum-known-answer refusal-code-requires returns returns-2)

@@ -1,7 +1,7 @@
--- `export::hand_over` meets its contract: four stores, or none.
+-- `export::hand_over`: four stores, or none.
 -- Assumes nothing.
+use Rattle.export.proofs.Answers.{handed-accepted, handed-refused}
 use borrow.Author.Needs.{needs}
-use Rattle.export.proofs.Answers.{told-accepted, told-refused}
 use Rattle.export.proofs.hand_over.Statement.{statement}
 use Rattle.export.proofs.hand_over.Tie as tie
 
@@ -23,17 +23,17 @@ slice-write-output-4 c = search needs
 enum-known-answer-2 : tie.Need-enum-known-answer-2
 enum-known-answer-2 c = search needs
 
-code-of-requires : tie.Need-code-of-requires
-code-of-requires c κs = search needs
+refusal-code-requires : tie.Need-refusal-code-requires
+refusal-code-requires c κs = search needs
 
 same-length : tie.Need-same-length
 same-length c = search needs
 
 returns : tie.Need-returns
-returns c = told-accepted _ _ _ (c .before .before .before .before .pre) (c .before .answer .given .1)
+returns c = handed-accepted _ _ _ (c .before .before .before .before .pre) (c .before .answer .given .1)
 
 returns-2 : tie.Need-returns-2
-returns-2 c = told-refused _ _ _ _ (c .before .before .answer2 .given .1) (c .code-of .ensures)
+returns-2 c = handed-refused _ _ _ _ (c .before .before .answer2 .given .1) (c .refusal-code .ensures)
 
 pub hand-over-spec : {M : Type 1} → statement M
 hand-over-spec =
@@ -45,7 +45,7 @@ hand-over-spec =
     slice-write-output-3
     slice-write-output-4
     enum-known-answer-2
-    code-of-requires
+    refusal-code-requires
     same-length
     returns
     returns-2)

@@ -1,22 +1,29 @@
--- `export::lemoncolumn_build` meets its contract.
+-- `export::lemoncolumn_build`: Build, or what is left of it where the output finds no room.
 -- Assumes nothing.
-use mathlib.Core.Path.{_∙_}
-use borrow.Author.Needs.{needs}
-use Rattle.trace.specs.Answers.{buildLeaves}
+use mathlib.Core.Path.{ap, _∙_}
+use Rattle.export.specs.Code.{answerCode}
 use Rattle.export.specs.Calls.{buildCall}
-use Rattle.export.proofs.Answers.{told-stopped, told-as, into-four, not-into-four, no-room-refuses, kept}
+use Rattle.export.proofs.Answers.{stopped, kept, handed-as, build-short, chain-no-room-refuses, build-answer, build-left}
+use borrow.Author.Needs.{needs}
 use Rattle.export.proofs.lemoncolumn_build.Statement.{statement}
 use Rattle.export.proofs.lemoncolumn_build.Tie as tie
 
-no-room-requires : tie.Need-no-room-requires
-no-room-requires c κs = search needs
+chain-no-room-requires : tie.Need-chain-no-room-requires
+chain-no-room-requires c κs = search needs
+
+answer-code-requires : tie.Need-answer-code-requires
+answer-code-requires c κs = search needs
 
 returns : tie.Need-returns
 unfolding buildCall
 returns c =
-    let short = not-into-four _ _ _ (c .before .if1 .taken) in
-    let refused = no-room-refuses _ _ in
-    record { told = told-stopped _ _ _ _ short refused (c .no-room .ensures); rows = kept _ _ _ _ short refused }
+    let n = c .before in
+    let short = build-short _ _ _ _ (n .before .if1 .taken) in
+    let refuses = chain-no-room-refuses _ _ in
+    record {
+      four = stopped _ _ short refuses _ _ _ (c .answer-code .ensures ∙ ap answerCode (n .chain-no-room .ensures));
+      rows = kept _ _ short refuses _ _;
+    }
 
 build-requires : tie.Need-build-requires
 build-requires c κs = search needs
@@ -31,17 +38,20 @@ same-length-2 : tie.Need-same-length-2
 same-length-2 c = search needs
 
 returns-2 : tie.Need-returns-2
-unfolding buildCall buildLeaves
 returns-2 c =
     let called = c .before .before .before .before .before .before in
-    let full = into-four _ _ _ (called .before .before .if1 .left) in
-    record { told = told-as _ _ _ _ _ (called .build .ensures .0 ∙ full) (c .before .before .hand-over .ensures); rows = rw full at (called .build .ensures .1) }
+    let room = called .before .before .if1 .left in
+    record {
+      four = handed-as _ _ _ _ _ (called .build .ensures .0 ∙ build-answer _ room _ _ _) (c .before .before .hand-over .ensures);
+      rows = called .build .ensures .1 ∙ build-left _ room _ _ _;
+    }
 
 pub lemoncolumn-build-spec : {M : Type 1} → statement M
 lemoncolumn-build-spec =
     tie.close
     (tie.spec
-    no-room-requires
+    chain-no-room-requires
+    answer-code-requires
     returns
     build-requires
     hand-over-requires

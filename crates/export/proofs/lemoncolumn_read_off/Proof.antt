@@ -1,16 +1,16 @@
--- `export::lemoncolumn_read_off` meets its contract.
+-- `export::lemoncolumn_read_off`: the code of what Read-off answers, and what it leaves.
 -- Assumes nothing.
 use mathlib.Core.Path.{ap, _∙_}
+use Rattle.export.specs.Code.{testsCode}
 use borrow.Author.Needs.{needs}
-use Rattle.export.specs.Code.{checkedCode}
 use Rattle.export.proofs.lemoncolumn_read_off.Statement.{statement}
 use Rattle.export.proofs.lemoncolumn_read_off.Tie as tie
 
 read-off-requires : tie.Need-read-off-requires
 read-off-requires c κs = search needs
 
-checked-code-requires : tie.Need-checked-code-requires
-checked-code-requires c κs = search needs
+tests-code-requires : tie.Need-tests-code-requires
+tests-code-requires c κs = search needs
 
 same-length : tie.Need-same-length
 same-length c = search needs
@@ -18,8 +18,8 @@ same-length c = search needs
 returns : tie.Need-returns
 returns c =
     let called = c .before .before .before .read-off .ensures in
-    record { coded = c .checked-code .ensures ∙ ap checkedCode (called .0); list = called .1 }
+    record { coded = c .tests-code .ensures ∙ ap testsCode (called .0); list = called .1 }
 
 pub lemoncolumn-read-off-spec : {M : Type 1} → statement M
 lemoncolumn-read-off-spec =
-    tie.close (tie.spec read-off-requires checked-code-requires same-length returns)
+    tie.close (tie.spec read-off-requires tests-code-requires same-length returns)

@@ -1,11 +1,9 @@
--- `export::lemoncolumn_unpack` meets its contract.
+-- `export::lemoncolumn_unpack`: Unpack, or what is left of it where the claim finds no room: no list of taps has 0 words.
 -- Assumes nothing.
 use mathlib.Core.Path.{ap, _∙_}
+use Rattle.export.specs.Code.{digestCode}
+use Rattle.export.proofs.Answers.{kept, handed-as, list-kept, unpack-short, unpack-stopped, no-list-refuses, unpack-answer, unpack-left}
 use borrow.Author.Needs.{needs}
-use Rattle.board.specs.Board.{unpackLeaves}
-use Rattle.export.specs.Code.{digestedCode}
-use Rattle.export.specs.Calls.{unpackCall}
-use Rattle.export.proofs.Answers.{told-stopped, told-as, into-four, not-into-four, no-list-refuses, list-kept}
 use Rattle.export.proofs.lemoncolumn_unpack.Statement.{statement}
 use Rattle.export.proofs.lemoncolumn_unpack.Tie as tie
 
@@ -18,19 +16,20 @@ slice-aggregate-unpack c = search needs
 unpack-requires : tie.Need-unpack-requires
 unpack-requires c κs = search needs
 
-digested-code-requires : tie.Need-digested-code-requires
-digested-code-requires c κs = search needs
+digest-code-requires : tie.Need-digest-code-requires
+digest-code-requires c κs = search needs
 
 same-length : tie.Need-same-length
 same-length c = search needs
 
 returns : tie.Need-returns
-unfolding unpackCall
 returns c =
     let called = c .before .before .before in
-    let short = not-into-four _ _ _ (called .before .before .if1 .taken) in
-    let refused = no-list-refuses _ in
-    record { told = told-stopped _ _ _ _ short refused (c .digested-code .ensures ∙ ap digestedCode (called .unpack .ensures .0)); list = list-kept _ _ _ (called .unpack .last .1 .0) _ short refused (called .unpack .kept .1 .0) }
+    let short = called .before .before .if1 .taken in
+    record {
+      four = unpack-stopped _ _ _ short _ _ (c .digest-code .ensures ∙ ap digestCode (called .unpack .ensures .0));
+      list = list-kept (called .unpack .last .1 .0) _ (called .unpack .kept .1 .0) ∙ kept _ _ (unpack-short _ _ _ short) (no-list-refuses _) _ _;
+    }
 
 unpack-requires-2 : tie.Need-unpack-requires-2
 unpack-requires-2 c κs = search needs
@@ -45,13 +44,12 @@ same-length-3 : tie.Need-same-length-3
 same-length-3 c = search needs
 
 returns-2 : tie.Need-returns-2
-unfolding unpackCall unpackLeaves
 returns-2 c =
     let called = c .before .before .before .before .before .before in
-    let full = into-four _ _ _ (called .before .before .if1 .left) in
+    let room = called .before .before .if1 .left in
     record {
-      told = told-as _ _ _ _ _ (called .unpack2 .ensures .0 ∙ full) (c .before .before .hand-over .ensures);
-      list = rw full at (called .unpack2 .ensures .1);
+      four = handed-as _ _ _ _ _ (called .unpack2 .ensures .0 ∙ unpack-answer _ room _ _) (c .before .before .hand-over .ensures);
+      list = called .unpack2 .ensures .1 ∙ unpack-left _ room _ _;
     }
 
 pub lemoncolumn-unpack-spec : {M : Type 1} → statement M
@@ -61,7 +59,7 @@ lemoncolumn-unpack-spec =
     slice-relend-prefix-unpack
     slice-aggregate-unpack
     unpack-requires
-    digested-code-requires
+    digest-code-requires
     same-length
     returns
     unpack-requires-2
