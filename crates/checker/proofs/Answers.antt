@@ -14,10 +14,10 @@ use Rattle.counts.proofs.Laws.{trace-length-sound, trace-length-complete, trace
 use Rattle.refusals.specs.declared.Refusal.{Refusal}
 use Rattle.refusals.specs.declared.Refusal.the-variants.{ClaimWord, TraceWord}
 use Rattle.refusals.specs.declared.Answer.{Answer}
-use Rattle.refusals.specs.declared.Answer.the-variants.{Accepted}
+use Rattle.refusals.specs.declared.Answer.the-variants.{Accepted, Refused}
 use Rattle.refusals.specs.declared.TestsAnswer.{TestsAnswer}
 use Rattle.refusals.specs.Answers.{unless, testsAfter}
-use Rattle.refusals.proofs.Laws.{passed, both-accepted}
+use Rattle.refusals.proofs.Laws.{passed, both-accepted, one-test-refused, one-test-passed}
 use Rattle.table.specs.Table.{IsTable, tableTest}
 use Rattle.table.proofs.Theorems.{test-sound, test-complete}
 use Rattle.constraints.specs.Constraints.{tests, constraintTest}
@@ -32,8 +32,8 @@ pub record CheckInputs (T t claim : List ℕ) (k : ℕ) : Type 0 where
   pub canonical : AllCanonical t
 
 module _ (T t claim : List ℕ) where
-  pub check-inputs : checkTest T t claim ≡ Accepted
-      → CheckInputs T t claim (traceWordBatches (length t)) × (constraintTest T t claim (traceWordBatches (length t)) ≡ Accepted)
+  pub check-inputs : checkTest T t claim ≡ Accepted → let k = traceWordBatches (length t) in
+      CheckInputs T t claim k × (constraintTest T t claim k ≡ Accepted)
   unfolding checkTest
   check-inputs e =
       let a = both-accepted (tableTest T) _ e in
@@ -59,14 +59,16 @@ module _ (T t claim : List ℕ) where
       rw (test-complete T (h .table), s .0, test-good claim (h .claim-canonical), test-good t (h .canonical))
       (ap (constraintTest T t claim) (s .1))
 
-  pub check-passes : (k : ℕ) → CheckInputs T t claim k → constraintTest T t claim k ≡ Accepted → checkTest T t claim ≡ Accepted
+  pub check-passes : (k : ℕ) → CheckInputs T t claim k → constraintTest T t claim k ≡ Accepted
+      → checkTest T t claim ≡ Accepted
   check-passes k h e = check-reaches k h ∙ e
 
 -- ---- what a function learns from the tests that it passes, one after the other
 
 -- what is left to be tested from 10 on, and from 9 on
 abbrev pub fromWords : List ℕ → List ℕ → List ℕ → Answer
-fromWords T t claim = unless (canonicalWords t) (TraceWord (firstBad t)) (constraintTest T t claim (traceWordBatches (length t)))
+fromWords T t claim =
+    unless (canonicalWords t) (TraceWord (firstBad t)) (constraintTest T t claim (traceWordBatches (length t)))
 
 abbrev pub fromClaim : List ℕ → List ℕ → List ℕ → Answer
 fromClaim T t claim = unless (canonicalWords claim) (ClaimWord (firstBad claim)) (fromWords T t claim)
@@ -74,20 +76,40 @@ fromClaim T t claim = unless (canonicalWords claim) (ClaimWord (firstBad claim))
 pub is-table : (T : List ℕ) {a : Answer} → a ≡ tableTest T → a ≡ Accepted → IsTable T
 is-table T e q = test-sound T (sym e ∙ q)
 
-pub batches : (words : ℕ) {b : BatchCount} {k : ℕ} → b ≡ batchesIf (isTraceLength mostBatches words) (traceWordBatches words)
-    → b ≡ Permitted k → (words ≡ 384 * k) × IsPermitted k × (k < 2 ^ 32)
+pub batches : (words : ℕ) {b : BatchCount} {k : ℕ}
+    → b ≡ batchesIf (isTraceLength mostBatches words) (traceWordBatches words) → b ≡ Permitted k
+    → (words ≡ 384 * k) × IsPermitted k × (k < 2 ^ 32)
 batches words e q =
     let p = trace-permitted mostBatches words e q in
     let s = trace-length-sound mostBatches words (p .0) in
     let h = subst IsPermitted (p .1) (s .1) in
     (omega (arith, s .0, p .1), h, omega (arith, h .high))
 
-pub canonical-words : (w : List ℕ) (r : Refusal) {a : Answer} → a ≡ unless (canonicalWords w) r Accepted → a ≡ Accepted → AllCanonical w
-canonical-words w r e q = good-test w (passed (canonicalWords w) r Accepted (sym e ∙ q) .0)
+-- a is what the test of the claim's words answered
+module _ (T t claim : List ℕ) {o a : Answer}
+    (e : a ≡ unless (canonicalWords claim) (ClaimWord (firstBad claim)) Accepted) where
+  pub claim-refused : {r : Refusal} → a ≡ Refused r → o ≡ Refused r → o ≡ fromClaim T t claim
+  claim-refused q p = one-test-refused (canonicalWords claim) (ClaimWord (firstBad claim)) e (fromWords T t claim) q p
+
+  pub claim-passed : a ≡ Accepted → o ≡ fromWords T t claim → o ≡ fromClaim T t claim
+  claim-passed q p = one-test-passed (canonicalWords claim) (ClaimWord (firstBad claim)) e q p
+
+-- and what that of the trace's words did
+module _ (T t claim : List ℕ) {o a : Answer} (e : a ≡ unless (canonicalWords t) (TraceWord (firstBad t)) Accepted) where
+  pub words-refused : {r : Refusal} → a ≡ Refused r → o ≡ Refused r → o ≡ fromWords T t claim
+  words-refused q p = one-test-refused (canonicalWords t) (TraceWord (firstBad t)) e _ q p
+
+  pub words-passed : a ≡ Accepted → o ≡ constraintTest T t claim (traceWordBatches (length t)) → o ≡ fromWords T t claim
+  words-passed q p = one-test-passed (canonicalWords t) (TraceWord (firstBad t)) e q p
+
+pub canonical-words : (t : List ℕ) {a : Answer} → a ≡ unless (canonicalWords t) (TraceWord (firstBad t)) Accepted
+    → a ≡ Accepted → AllCanonical t
+canonical-words t e q = good-test t (passed (canonicalWords t) (TraceWord (firstBad t)) Accepted (sym e ∙ q) .0)
 
 -- what the walk answered is the answer a of all tests, where those before it leave it to the walk
 pub walked : (T t claim : List ℕ) (k : ℕ) {o : TestsAnswer} {a : Answer} → length t ≡ 384 * k
-    → o ≡ testsAfter (constraintTest T t claim k) (length (tests k)) → constraintTest T t claim (traceWordBatches (length t)) ≡ a
+    → o ≡ testsAfter (constraintTest T t claim k) (length (tests k))
+    → constraintTest T t claim (traceWordBatches (length t)) ≡ a
     → o ≡ testsAfter a (length (tests (traceWordBatches (length t))))
 walked T t claim k size q p =
     let e : k ≡ traceWordBatches (length t) = omega arith in

@@ -1,11 +1,11 @@
 -- Check over what no earlier refusal turns back: its answer is that of the walk.
 -- Assumes nothing.
-use mathlib.Core.Path.{_≡_, sym, ap, ap₂, _∙_}
+use mathlib.Core.Path.{_≡_, ap, ap₂}
 use mathlib.Core.List.{List}
 use Prim.Native.Nat.{ℕ, _*_}
 use lib.ListN.{length}
 use Rattle.words.specs.Words.{AllCanonical}
-use Rattle.counts.specs.Counts.{IsPermitted, mostBatches, traceWordBatches}
+use Rattle.counts.specs.Counts.{IsPermitted, mostBatches}
 use Rattle.counts.proofs.Laws.{trace-length-complete}
 use Rattle.refusals.specs.Answers.{testsAfter}
 use Rattle.table.specs.Table.{IsTable}

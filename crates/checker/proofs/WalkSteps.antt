@@ -19,7 +19,8 @@ module _ (T t claim : List ℕ) (k : ℕ) where
   unfoldable pub left : List Test → ℕ → TestsAnswer
   left xs n = testsAfter (walk T t claim xs n) (n + length xs)
 
-  one-holds : (x : Test) (xs : List Test) (n : ℕ) → holds T t claim (x .at) (x .number) ≡ true → left (x ∷ xs) n ≡ left xs (n + 1)
+  one-holds : (x : Test) (xs : List Test) (n : ℕ) → holds T t claim (x .at) (x .number) ≡ true
+      → left (x ∷ xs) n ≡ left xs (n + 1)
   unfolding left walk
   one-holds x xs n e =
       let z : n + suc (length xs) ≡ n + 1 + length xs = omega arith in
@@ -38,7 +39,11 @@ module _ (T t claim : List ℕ) (k : ℕ) where
   unfoldable pub constraints : ℕ → ℕ → ℕ → ℕ → TestsAnswer
   constraints i c m n = left (rowTests k i c (53 - c) ++ testsFrom k (i + 1) m) n
 
-  pub start : rows 0 (32 * k) 0 ≡ testsAfter (constraintTest T t claim k) (length (tests k))
+  -- what the walk has to answer
+  abbrev pub answer : TestsAnswer
+  answer = testsAfter (constraintTest T t claim k) (length (tests k))
+
+  pub start : rows 0 (32 * k) 0 ≡ answer
   unfolding left rows constraintTest tests
   start = ap (testsAfter (walk T t claim (testsFrom k 0 (32 * k)) 0)) (zero-add (length (testsFrom k 0 (32 * k))))
 
@@ -59,12 +64,14 @@ module _ (T t claim : List ℕ) (k : ℕ) where
     unfolding constraints rowTests
     pass a p = rw (one-more, a) (one-holds _ _ n p)
 
-    pub fail : applies k i c ≡ true → holds T t claim i c ≡ false → constraints i c m n ≡ Refused (Constraint (record { 0 = i }) c (n + 1))
+    pub fail : applies k i c ≡ true → holds T t claim i c ≡ false
+        → constraints i c m n ≡ Refused (Constraint (record { 0 = i }) c (n + 1))
     unfolding constraints rowTests
     fail a p = rw (one-more, a) (one-fails _ _ n p)
 
   -- constraints that do not apply are passed over
-  skip-some : (i c m n d : ℕ) → c + d ≤ 53 → ((e : ℕ) → c ≤ e → e < c + d → applies k i e ≡ false) → constraints i c m n ≡ constraints i (c + d) m n
+  skip-some : (i c m n d : ℕ) → c + d ≤ 53 → ((e : ℕ) → c ≤ e → e < c + d → applies k i e ≡ false)
+      → constraints i c m n ≡ constraints i (c + d) m n
   skip-some i c m n zero l h = ap (λ x. constraints i x m n) (sym (add-zero c))
   skip-some i c m n (suc d) l h =
       skip i c m n (omega arith) (h c (omega arith) (omega arith))

@@ -105,7 +105,8 @@ module _ (T t claim : List ℕ) where
         → IsFirstFailing T t claim (tests k) i c n
     refused-first-failing i c n = go (constraintTest T t claim k) test-ends
       where
-        go : (r : Answer) → Ends (tests k) 0 r → r ≡ Refused (Constraint (record { 0 = i }) c n) → IsFirstFailing T t claim (tests k) i c n
+        go : (r : Answer) → Ends (tests k) 0 r → r ≡ Refused (Constraint (record { 0 = i }) c n)
+            → IsFirstFailing T t claim (tests k) i c n
         go r (passes a) e = absurd (not-accepted _ (sym e))
         go r (stops j d place f m p) e =
             let same : _≡_ {A = RowNumber} (record { 0 = j }) (record { 0 = i }) = cc in
@@ -129,6 +130,7 @@ module _ (T t claim : List ℕ) where
         → (i : ℕ) × (c : ℕ) × (n : ℕ) × (constraintTest T t claim k ≡ Refused (Constraint (record { 0 = i }) c n))
     else-first-failing = go (constraintTest T t claim k) test-ends
       where
-        go : (r : Answer) → Ends (tests k) 0 r → (r ≡ Accepted → ⊥) → (i : ℕ) × (c : ℕ) × (n : ℕ) × (r ≡ Refused (Constraint (record { 0 = i }) c n))
+        go : (r : Answer) → Ends (tests k) 0 r → (r ≡ Accepted → ⊥)
+            → (i : ℕ) × (c : ℕ) × (n : ℕ) × (r ≡ Refused (Constraint (record { 0 = i }) c n))
         go r (passes a) q = absurd (q refl)
         go r (stops i c place f m p) q = (i, c, m, refl)

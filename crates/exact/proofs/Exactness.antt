@@ -81,11 +81,12 @@ module _ (T t claim : List ℕ) (k : ℕ) (table : IsTable T) (permitted : IsPer
 
   -- a trace that is not accepted is refused with 11, and with row, constraint and place of the first test of the order that fails
   pub first-failing : (constraintTest T t claim k ≡ Accepted → ⊥)
-      → (i : ℕ) × (c : ℕ) × (n : ℕ)
-      × (constraintTest T t claim k ≡ Refused (Constraint (record { 0 = i }) c n)) × IsFirstFailing T t claim (tests k) i c n
+      → (i : ℕ) × (c : ℕ) × (n : ℕ) × (constraintTest T t claim k ≡ Refused (Constraint (record { 0 = i }) c n))
+      × IsFirstFailing T t claim (tests k) i c n
   first-failing never =
       let r = walks.else-first-failing T t claim k never in
       (r .0, r .1, r .2, r .3, walks.refused-first-failing T t claim k (r .0) (r .1) (r .2) (r .3))
 
-  pub refuses-exactly : (i c n : ℕ) → (constraintTest T t claim k ≡ Refused (Constraint (record { 0 = i }) c n)) ↔ IsFirstFailing T t claim (tests k) i c n
+  pub refuses-exactly : (i c n : ℕ) → (constraintTest T t claim k ≡ Refused (Constraint (record { 0 = i }) c n))
+      ↔ IsFirstFailing T t claim (tests k) i c n
   refuses-exactly i c n = (walks.refused-first-failing T t claim k i c n, walks.first-failing-refused T t claim k i c n)

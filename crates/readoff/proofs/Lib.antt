@@ -1,3 +1,3 @@
 pub mod ReadLaws
-pub mod ReadAnswers
+pub mod Answers
 pub mod Theorems

@@ -1,27 +1,34 @@
--- What Read-off answers, and what it leaves in the destination (document 01, "What is turned back": 1, 2, 4; 7; 8; 9; 10; 11).
+-- What Read-off tests and answers, and what it leaves (document 01, "The 52 constraints", "What is turned back").
 -- T is the lent table, t the lent trace, size the length of the destination.
 -- Assumes nothing.
 use mathlib.Core.List.{List}
-use Prim.Native.Nat.{ℕ, _+_, _*_, _/_}
+use Prim.Native.Nat.{ℕ, _+_, _*_}
 use lib.Dec.{eqb}
 use lib.ListN.{length}
-use Rattle.lists.specs.Lists.{choose}
-use Rattle.counts.specs.Counts.{traceBatches}
-use Rattle.refusals.specs.Refusals.{checkedAfter, checkedKept}
-use Rattle.refusals.specs.declared.Refusal.the-variants.{DestinationLength}
-use Rattle.refusals.specs.declared.Checked.{Checked}
-use Rattle.refusals.specs.declared.Checked.the-variants.{Refused}
+use Rattle.words.specs.Words.{firstBad, canonicalWords}
+use Rattle.counts.specs.Counts.{mostBatches, isTraceLength, traceWordBatches}
+use Rattle.refusals.specs.declared.Refusal.the-variants.{TraceLength, DestinationLength, ClaimWord, TraceWord}
+use Rattle.refusals.specs.declared.Answer.{Answer}
+use Rattle.refusals.specs.declared.TestsAnswer.{TestsAnswer}
+use Rattle.refusals.specs.Answers.{unless, after, testsAfter, leaves}
 use Rattle.table.specs.Table.{tableTest}
+use Rattle.constraints.specs.Constraints.{tests, constraintTest}
 use Rattle.constraints.specs.ReadOff.{readTaps}
-use Rattle.checker.specs.Answers.{judged, traceAfter}
 
--- 8, or what Check judges
-unfoldable pub sizeJudged : List ℕ → List ℕ → List ℕ → ℕ → ℕ → Checked
-sizeJudged T t claim size k = choose (eqb size (12 * k + 4)) (judged T t claim k) (Refused DestinationLength)
+-- 1, 2, 4; 7; 8; 9; 10; 11
+unfoldable pub readOffTest : List ℕ → List ℕ → List ℕ → ℕ → Answer
+readOffTest T t claim size =
+    after (tableTest T)
+    (unless (isTraceLength mostBatches (length t)) TraceLength
+    (unless (eqb size (12 * traceWordBatches (length t) + 4)) DestinationLength
+    (unless (canonicalWords claim) (ClaimWord (firstBad claim))
+    (unless (canonicalWords t) (TraceWord (firstBad t))
+    (constraintTest T t claim (traceWordBatches (length t)))))))
 
-unfoldable pub readOffAnswer : List ℕ → List ℕ → List ℕ → ℕ → Checked
-readOffAnswer T t claim size = checkedAfter (tableTest T) (traceAfter (traceBatches (length t)) (sizeJudged T t claim size))
+-- the number reported is Check's
+unfoldable pub readOffAnswer : List ℕ → List ℕ → List ℕ → ℕ → TestsAnswer
+readOffAnswer T t claim size = testsAfter (readOffTest T t claim size) (length (tests (traceWordBatches (length t))))
 
 -- the 12k + 4 words of the taps that the trace holds, or what was there
 unfoldable pub readOffLeaves : List ℕ → List ℕ → List ℕ → List ℕ → List ℕ
-readOffLeaves T t claim old = checkedKept (readOffAnswer T t claim (length old)) (readTaps T t (length t / 384)) old
+readOffLeaves T t claim old = leaves (readOffTest T t claim (length old)) (readTaps T t (traceWordBatches (length t))) old

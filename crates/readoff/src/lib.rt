@@ -12,10 +12,11 @@ ghost use Rattle.readoff.specs.Lent.{HasTap};
 use counts::BatchCount;
 use counts::BatchNumber;
 use counts::HashNumber;
+use counts::MOST_BATCHES;
 use counts::TapNumber;
 use refusals::Answer;
-use refusals::Checked;
 use refusals::Refusal;
+use refusals::TestsAnswer;
 
 // The input of a hash of the chain: row 0 of the batch for the first of its three hashes, for the others back less K_0 at rows 10 and 20.
 fn read_input(inverse: &[u64], table: &[u64], trace: &[u64], hash: HashNumber) -> [u64; 12]
@@ -61,25 +62,48 @@ fn write_taps(inverse: &[u64], table: &[u64], trace: &[u64], k: usize, destinati
     }
 }
 
-// Read-off: 1, 2, 4; 7; 8; 9; 10; 11. It writes when every test has passed.
-pub fn read_off(table: &[u64], trace: &[u64], claim: [u64; 4], destination: &mut [u64]) -> Checked
-    ensures { λ r. ⌜ (r ≡ readOffAnswer (now (table .entry)) (now (trace .entry)) claim (length (now (destination .entry)))) × (now (destination .exit) ≡ readOffLeaves (now (table .entry)) (now (trace .entry)) claim (now (destination .entry))) ⌝ }
+// What Read-off tests: 1, 2, 4; 7; 8; 9; 10; 11.
+fn test_read_off(table: &[u64], trace: &[u64], claim: &[u64; 4], size: usize) -> TestsAnswer
+    ensures { λ r. ⌜ r ≡ readOffAnswer (now (table .entry)) (now (trace .entry)) (now (claim .entry)) size ⌝ }
 {
     let tested = table::test(table);
     let Answer::Accepted = tested else {
-        return Checked::after(tested);
+        return TestsAnswer::Refused(tested.refusal());
     };
-    let counted = counts::trace_batches(trace.len());
-    let BatchCount::Permitted(k) = counted else {
-        return Checked::Refused(Refusal::TraceLength);
+    let BatchCount::Permitted(k) = counts::trace_batches(MOST_BATCHES, trace.len()) else {
+        return TestsAnswer::Refused(Refusal::TraceLength);
     };
-    if destination.len() != 12 * k + 4 {
-        return Checked::Refused(Refusal::DestinationLength);
+    if size != 12 * k + 4 {
+        return TestsAnswer::Refused(Refusal::DestinationLength);
     }
-    let answer = checker::judge(table, trace, claim, k);
-    let Checked::Accepted(_) = answer else {
+    let of_claim = checker::test_claim(claim);
+    let Answer::Accepted = of_claim else {
+        return TestsAnswer::Refused(of_claim.refusal());
+    };
+    let of_words = checker::test_words(trace);
+    let Answer::Accepted = of_words else {
+        return TestsAnswer::Refused(of_words.refusal());
+    };
+    checker::test_constraints(table, trace, claim, k)
+}
+
+// Read-off: it writes when every test has passed.
+pub fn read_off(
+    table: &[u64],
+    trace: &[u64],
+    claim: [u64; 4],
+    destination: &mut [u64],
+) -> TestsAnswer
+    ensures { λ r. ⌜
+        (r ≡ readOffAnswer (now (table .entry)) (now (trace .entry)) claim (length (now (destination .entry))))
+        × (now (destination .exit)
+        ≡ readOffLeaves (now (table .entry)) (now (trace .entry)) claim (now (destination .entry))) ⌝ }
+{
+    let answer = test_read_off(table, trace, &claim, destination.len());
+    let TestsAnswer::Accepted(_) = answer else {
         return answer;
     };
+    let k = trace.len() / 384;
     let inverse = steps::back_ready(table);
     write_taps(&inverse, table, trace, k, destination);
     answer

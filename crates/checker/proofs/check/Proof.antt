@@ -2,14 +2,14 @@
 -- Assumes nothing.
 use mathlib.Core.Path.{_≡_, refl, sym, _∙_}
 use lib.ListN.{length}
-use Rattle.words.specs.Words.{canonicalWords, firstBad}
 use Rattle.counts.specs.Counts.{mostBatches}
 use Rattle.counts.proofs.Laws.{trace-permitted, trace-refused}
-use Rattle.refusals.specs.declared.Refusal.the-variants.{ClaimWord, TraceWord}
 use Rattle.refusals.specs.declared.Answer.{Answer}
-use Rattle.refusals.proofs.Laws.{unless-refused, unless-passed, after-refused, after-accepted, one-test-refused, one-test-passed, tests-turned-back}
+use Rattle.refusals.proofs.Laws.{unless-refused, unless-passed, after-refused, after-accepted, tests-turned-back}
 use Rattle.checker.specs.Answers.{checkTest, checkAnswer}
-use Rattle.checker.proofs.Answers.{fromWords, fromClaim, is-table, batches, canonical-words, walked}
+use Rattle.checker.proofs.Answers.{fromWords, fromClaim}
+use Rattle.checker.proofs.Answers.{is-table, batches, canonical-words, walked}
+use Rattle.checker.proofs.Answers.{claim-refused, claim-passed, words-refused, words-passed}
 use borrow.Author.Needs.{needs}
 use Rattle.checker.proofs.check.Statement.{statement}
 use Rattle.checker.proofs.check.Tie as tie
@@ -85,20 +85,15 @@ returns-3 : tie.Need-returns-3
 unfolding checkAnswer
 returns-3 c =
     let t = c .before .before .before in
-    let claim = entry (t .before .before) .args .t3 in
     tests-turned-back
-    (sized (t .before .before)
-    (one-test-refused (canonicalWords claim) (ClaimWord (firstBad claim)) (t .test-claim .ensures) _ (c .refusal2 .ensures) refl))
-    _ refl
+    (sized (t .before .before) (claim-refused _ _ _ (t .test-claim .ensures) (c .refusal2 .ensures) refl)) _ refl
 
 -- the claim is canonical, and the trace is to be tested
 claimed : (c : tie.After-enum-told4) {o : Answer} → let a = entry (c .before .before .before .before) .args in
     o ≡ fromWords (a .table .now) (a .trace .now) (a .t3) → o ≡ checkTest (a .table .now) (a .trace .now) (a .t3)
 claimed c e =
     let t = c .before .before in
-    let claim = entry (t .before .before) .args .t3 in
-    sized (t .before .before)
-    (one-test-passed (canonicalWords claim) (ClaimWord (firstBad claim)) (t .test-claim .ensures) (c .enum-told4 .given .1) e)
+    sized (t .before .before) (claim-passed _ _ _ (t .test-claim .ensures) (c .enum-told4 .given .1) e)
 
 test-words-requires : tie.Need-test-words-requires
 test-words-requires c κs = search needs
@@ -116,11 +111,8 @@ returns-4 : tie.Need-returns-4
 unfolding checkAnswer
 returns-4 c =
     let t = c .before .before .before in
-    let trace = entry (t .before .before .before .before .before) .args .trace .now in
     tests-turned-back
-    (claimed (t .before)
-    (one-test-refused (canonicalWords trace) (TraceWord (firstBad trace)) (t .test-words .ensures) _ (c .refusal3 .ensures) refl))
-    _ refl
+    (claimed (t .before) (words-refused _ _ _ (t .test-words .ensures) (c .refusal3 .ensures) refl)) _ refl
 
 test-constraints-requires : tie.Need-test-constraints-requires
 test-constraints-requires c κs =
@@ -131,7 +123,7 @@ test-constraints-requires c κs =
     let trace = entry k .args .trace .now in
     let s = batches (length trace) (b .trace-batches .ensures) (k .before .k .given .1) in (
       is-table _ (b .before .before .before .test .ensures) (b .before .enum-told .given .1),
-      canonical-words trace (TraceWord (firstBad trace)) (t .test-words .ensures) (told .enum-told6 .given .1),
+      canonical-words trace (t .test-words .ensures) (told .enum-told6 .given .1),
       s .0,
       s .2,
     )
@@ -143,10 +135,10 @@ returns-5 c =
     let t = told .before .before in
     let k = t .before .before .before .before .before in
     let a = entry k .args in
-    let s = batches (length (a .trace .now)) (k .before .before .before .trace-batches .ensures) (k .before .k .given .1) in
+    let b = k .before .before .before in
+    let s = batches (length (a .trace .now)) (b .trace-batches .ensures) (k .before .k .given .1) in
     walked (a .table .now) (a .trace .now) (a .t3) _ (s .0) (c .test-constraints .ensures)
-    (claimed (t .before)
-    (one-test-passed (canonicalWords (a .trace .now)) (TraceWord (firstBad (a .trace .now))) (t .test-words .ensures) (told .enum-told6 .given .1) refl))
+    (claimed (t .before) (words-passed _ _ _ (t .test-words .ensures) (told .enum-told6 .given .1) refl))
 
 pub check-spec : {M : Type 1} → statement M
 check-spec =
