@@ -86,7 +86,8 @@ batches words e q =
     (omega (arith, s .0, p .1), h, omega (arith, h .high))
 
 -- a is what the test of the claim's words answered
-module _ (T t claim : List ℕ) {o a : Answer} (e : a ≡ unless (canonicalWords claim) (ClaimWord (firstBad claim)) Accepted) where
+module _ (T t claim : List ℕ) {o a : Answer}
+    (e : a ≡ unless (canonicalWords claim) (ClaimWord (firstBad claim)) Accepted) where
   pub claim-refused : {r : Refusal} → a ≡ Refused r → o ≡ Refused r → o ≡ fromClaim T t claim
   claim-refused q p = one-test-refused (canonicalWords claim) (ClaimWord (firstBad claim)) e (fromWords T t claim) q p
 
@@ -101,8 +102,8 @@ module _ (T t claim : List ℕ) {o a : Answer} (e : a ≡ unless (canonicalWords
   pub words-passed : a ≡ Accepted → o ≡ constraintTest T t claim (traceWordBatches (length t)) → o ≡ fromWords T t claim
   words-passed q p = one-test-passed (canonicalWords t) (TraceWord (firstBad t)) e q p
 
-pub canonical-words : (t : List ℕ) {a : Answer} → a ≡ unless (canonicalWords t) (TraceWord (firstBad t)) Accepted → a ≡ Accepted
-    → AllCanonical t
+pub canonical-words : (t : List ℕ) {a : Answer} → a ≡ unless (canonicalWords t) (TraceWord (firstBad t)) Accepted
+    → a ≡ Accepted → AllCanonical t
 canonical-words t e q = good-test t (passed (canonicalWords t) (TraceWord (firstBad t)) Accepted (sym e ∙ q) .0)
 
 -- what the walk answered is the answer a of all tests, where those before it leave it to the walk

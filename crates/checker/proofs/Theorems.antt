@@ -13,17 +13,17 @@ use Rattle.constraints.specs.Constraints.{tests, constraintTest}
 use Rattle.checker.specs.Answers.{checkAnswer}
 use Rattle.checker.proofs.Answers.{CheckInputs, check-reaches}
 
-module _ (T t claim : List ℕ) (k : ℕ) (table : IsTable T) (permitted : IsPermitted k) (size : length t ≡ 384 * k) where
-  module _ (canonical : AllCanonical t) (claim-canonical : AllCanonical claim) where
-    pub check-verdict : checkAnswer T t claim ≡ testsAfter (constraintTest T t claim k) (length (tests k))
-    unfolding checkAnswer
-    check-verdict =
-        let inputs : CheckInputs T t claim k = record {
-          table = table;
-          permitted = permitted;
-          size = size;
-          claim-canonical = claim-canonical;
-          canonical = canonical;
-        } in
-        ap₂ testsAfter (check-reaches T t claim k inputs)
-        (ap (λ n. length (tests n)) (trace-length-complete mostBatches (length t) k size permitted .1))
+module _ (T t claim : List ℕ) (k : ℕ) (table : IsTable T) (permitted : IsPermitted k) (size : length t ≡ 384 * k)
+    (canonical : AllCanonical t) (claim-canonical : AllCanonical claim) where
+  pub check-verdict : checkAnswer T t claim ≡ testsAfter (constraintTest T t claim k) (length (tests k))
+  unfolding checkAnswer
+  check-verdict =
+      let inputs : CheckInputs T t claim k = record {
+        table = table;
+        permitted = permitted;
+        size = size;
+        claim-canonical = claim-canonical;
+        canonical = canonical;
+      } in
+      ap₂ testsAfter (check-reaches T t claim k inputs)
+      (ap (λ n. length (tests n)) (trace-length-complete mostBatches (length t) k size permitted .1))

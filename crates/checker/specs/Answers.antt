@@ -1,4 +1,4 @@
--- What Check tests and answers (document 01, "The 52 constraints"; its "What is turned back" has the order of the refusals).
+-- What Check tests and answers (document 01, "The 52 constraints", "What is turned back").
 -- T is the lent table, t the lent trace.
 -- Assumes nothing.
 use mathlib.Core.List.{List}

@@ -59,7 +59,9 @@ fn walk_tests(
     }
 }
 
-// 9, 10 and 11: three tests, each for every operation that has it, in that operation's order.
+// 9, 10 and 11 are functions of their own, since each operation that has them puts them in its own order.
+
+// 9: the words of the claim.
 pub fn test_claim(claim: &[u64]) -> Answer
     ensures { λ r. ⌜ r ≡ unless (canonicalWords (now (claim .entry)))
         (Refusal.ClaimWord (firstBad (now (claim .entry)))) Answer.Accepted ⌝ }
@@ -71,6 +73,7 @@ pub fn test_claim(claim: &[u64]) -> Answer
     Answer::Accepted
 }
 
+// 10: the words of the trace.
 pub fn test_words(trace: &[u64]) -> Answer
     ensures { λ r. ⌜ r ≡ unless (canonicalWords (now (trace .entry)))
         (Refusal.TraceWord (firstBad (now (trace .entry)))) Answer.Accepted ⌝ }
@@ -82,6 +85,7 @@ pub fn test_words(trace: &[u64]) -> Answer
     Answer::Accepted
 }
 
+// 11: the walk, for a trace of canonical words.
 pub fn test_constraints(table: &[u64], trace: &[u64], claim: &[u64; 4], k: usize) -> TestsAnswer
     requires { ⌜ IsTable (now table) × AllCanonical (now trace) × (length (now trace) ≡ 384 * k) × (k < 2 ^ 32) ⌝ }
     ensures { λ r. ⌜ r ≡ testsAfter (constraintTest (now (table .entry)) (now (trace .entry)) (now (claim .entry)) k)

@@ -1,7 +1,7 @@
 -- Exactness (document 00, demand 3): for every accepted table, permitted k, and trace and claim of words below p, what acceptance and refusal mean.
 -- They hold for every invertible M: no maximum-distance property is asked for. Of the claim only the length is asked, since no output holds a word of p or above.
 -- Assumes nothing.
-use mathlib.Core.Path.{_≡_, sym, ap, _∙_}
+use mathlib.Core.Path.{_≡_, refl, sym, ap, _∙_}
 use mathlib.Core.Logic.{_↔_}
 use mathlib.Core.List.{List}
 use Prim.Native.Nat.{ℕ, _+_, _*_}
@@ -12,7 +12,7 @@ use Rattle.refusals.specs.declared.Refusal.the-variants.{Constraint}
 use Rattle.refusals.specs.declared.Answer.the-variants.{Accepted, Refused}
 use Rattle.refusals.specs.declared.TestsAnswer.the-variants as counted
 use Rattle.refusals.specs.Answers.{testsAfter}
-use Rattle.refusals.proofs.Laws.{tests-accepted}
+use Rattle.refusals.proofs.Laws.{tests-accepted, tests-returned}
 use Rattle.table.specs.Table.{IsTable}
 use Rattle.hash.specs.Hash.{chain}
 use Rattle.trace.specs.Trace.{trace}
@@ -32,6 +32,14 @@ tests-say : (T t claim : List ℕ) (k : ℕ) → AllHold T t claim (tests k) ↔
 tests-say T t claim k = (
   λ a. hold-equations T t claim k (λ i c l e. a (record { at = i; number = c }) (test-list k (record { at = i; number = c }) .1 (l, e))),
   λ q x m. (let s = test-list k x .0 m in equations-hold T t claim k q (x .at) (x .number) (s .0) (s .1)),
+)
+
+-- an acceptance is reported with 372 × k tests
+pub reported : (T t claim : List ℕ) (k : ℕ) → (constraintTest T t claim k ≡ Accepted)
+    ↔ (testsAfter (constraintTest T t claim k) (length (tests k)) ≡ counted.Accepted (372 * k))
+reported T t claim k = (
+  λ e. sym (tests-returned refl e (sym (length-tests k))),
+  λ e. tests-accepted (constraintTest T t claim k) (length (tests k)) (372 * k) e .0,
 )
 
 -- ---- lists of taps and the traces built from them

@@ -1,5 +1,4 @@
--- What Read-off tests and answers, and what it leaves in the destination (document 01, "The 52 constraints", and "What is turned back"
--- for the order of the refusals).
+-- What Read-off tests and answers, and what it leaves (document 01, "The 52 constraints", "What is turned back").
 -- T is the lent table, t the lent trace, size the length of the destination.
 -- Assumes nothing.
 use mathlib.Core.List.{List}

@@ -2,14 +2,14 @@
 -- Assumes nothing.
 use mathlib.Core.Path.{_≡_, refl, sym, _∙_}
 use lib.ListN.{length}
-use Rattle.words.specs.Words.{canonicalWords, firstBad}
 use Rattle.counts.specs.Counts.{mostBatches}
 use Rattle.counts.proofs.Laws.{trace-permitted, trace-refused}
-use Rattle.refusals.specs.declared.Refusal.the-variants.{ClaimWord, TraceWord}
 use Rattle.refusals.specs.declared.Answer.{Answer}
 use Rattle.refusals.proofs.Laws.{unless-refused, unless-passed, after-refused, after-accepted, tests-turned-back}
 use Rattle.checker.specs.Answers.{checkTest, checkAnswer}
-use Rattle.checker.proofs.Answers.{fromWords, fromClaim, is-table, batches, claim-refused, claim-passed, words-refused, words-passed, canonical-words, walked}
+use Rattle.checker.proofs.Answers.{fromWords, fromClaim}
+use Rattle.checker.proofs.Answers.{is-table, batches, canonical-words, walked}
+use Rattle.checker.proofs.Answers.{claim-refused, claim-passed, words-refused, words-passed}
 use borrow.Author.Needs.{needs}
 use Rattle.checker.proofs.check.Statement.{statement}
 use Rattle.checker.proofs.check.Tie as tie
@@ -85,7 +85,8 @@ returns-3 : tie.Need-returns-3
 unfolding checkAnswer
 returns-3 c =
     let t = c .before .before .before in
-    tests-turned-back (sized (t .before .before) (claim-refused _ _ _ (t .test-claim .ensures) (c .refusal2 .ensures) refl)) _ refl
+    tests-turned-back
+    (sized (t .before .before) (claim-refused _ _ _ (t .test-claim .ensures) (c .refusal2 .ensures) refl)) _ refl
 
 -- the claim is canonical, and the trace is to be tested
 claimed : (c : tie.After-enum-told4) {o : Answer} → let a = entry (c .before .before .before .before) .args in
@@ -110,7 +111,8 @@ returns-4 : tie.Need-returns-4
 unfolding checkAnswer
 returns-4 c =
     let t = c .before .before .before in
-    tests-turned-back (claimed (t .before) (words-refused _ _ _ (t .test-words .ensures) (c .refusal3 .ensures) refl)) _ refl
+    tests-turned-back
+    (claimed (t .before) (words-refused _ _ _ (t .test-words .ensures) (c .refusal3 .ensures) refl)) _ refl
 
 test-constraints-requires : tie.Need-test-constraints-requires
 test-constraints-requires c κs =
@@ -133,7 +135,8 @@ returns-5 c =
     let t = told .before .before in
     let k = t .before .before .before .before .before in
     let a = entry k .args in
-    let s = batches (length (a .trace .now)) (k .before .before .before .trace-batches .ensures) (k .before .k .given .1) in
+    let b = k .before .before .before in
+    let s = batches (length (a .trace .now)) (b .trace-batches .ensures) (k .before .k .given .1) in
     walked (a .table .now) (a .trace .now) (a .t3) _ (s .0) (c .test-constraints .ensures)
     (claimed (t .before) (words-passed _ _ _ (t .test-words .ensures) (told .enum-told6 .given .1) refl))
 

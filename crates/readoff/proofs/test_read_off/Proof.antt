@@ -5,14 +5,15 @@ use Prim.Native.Nat.{_+_, _*_, _^_, _<_}
 use native.Mathlib.Omega.{arith}
 use lib.Dec.{eqb}
 use lib.ListN.{length}
-use Rattle.words.specs.Words.{canonicalWords, firstBad}
 use Rattle.counts.specs.Counts.{IsPermitted, mostBatches, traceWordBatches}
 use Rattle.counts.proofs.Laws.{trace-permitted, trace-refused}
-use Rattle.refusals.specs.declared.Refusal.the-variants.{DestinationLength, ClaimWord, TraceWord}
+use Rattle.refusals.specs.declared.Refusal.the-variants.{DestinationLength}
 use Rattle.refusals.specs.declared.Answer.{Answer}
 use Rattle.refusals.specs.Answers.{unless}
 use Rattle.refusals.proofs.Laws.{unless-refused, unless-passed, after-refused, after-accepted, tests-turned-back}
-use Rattle.checker.proofs.Answers.{fromWords, fromClaim, is-table, batches, claim-refused, claim-passed, words-refused, words-passed, canonical-words, walked}
+use Rattle.checker.proofs.Answers.{fromWords, fromClaim}
+use Rattle.checker.proofs.Answers.{is-table, batches, canonical-words, walked}
+use Rattle.checker.proofs.Answers.{claim-refused, claim-passed, words-refused, words-passed}
 use Rattle.readoff.specs.Answers.{readOffTest, readOffAnswer}
 use Rattle.readoff.proofs.Answers.{room, no-room}
 use borrow.Author.Needs.{needs}
@@ -112,7 +113,8 @@ returns-4 : tie.Need-returns-4
 unfolding readOffAnswer
 returns-4 c =
     let t = c .before .before .before in
-    tests-turned-back (roomy (t .before .before) (claim-refused _ _ _ (t .test-claim .ensures) (c .refusal2 .ensures) refl)) _ refl
+    tests-turned-back
+    (roomy (t .before .before) (claim-refused _ _ _ (t .test-claim .ensures) (c .refusal2 .ensures) refl)) _ refl
 
 -- the claim is canonical, and the trace is to be tested
 claimed : (c : tie.After-enum-told4) {o : Answer} → let a = entry (c .before .before .before .before .before) .args in
@@ -138,7 +140,8 @@ returns-5 : tie.Need-returns-5
 unfolding readOffAnswer
 returns-5 c =
     let t = c .before .before .before in
-    tests-turned-back (claimed (t .before) (words-refused _ _ _ (t .test-words .ensures) (c .refusal3 .ensures) refl)) _ refl
+    tests-turned-back
+    (claimed (t .before) (words-refused _ _ _ (t .test-words .ensures) (c .refusal3 .ensures) refl)) _ refl
 
 test-constraints-requires : tie.Need-test-constraints-requires
 test-constraints-requires c κs =
