@@ -2,7 +2,7 @@
 -- buffer. From how each can end (crate `export`, proofs/Endings.antt), and that its word loses nothing of its answer (there, proofs/Theorems.antt).
 -- Assumes nothing.
 use mathlib.Core.Path.{_≡_, refl, sym, ap, subst, _∙_}
-use mathlib.Core.Bool.{Bool, true, false, _||_, true≢false}
+use mathlib.Core.Bool.{Bool, true, false, _&&_, _||_, true≢false}
 use mathlib.Core.List.{List, [], _∷_, List·Memᴰ}
 use mathlib.Core.Logic.{_⊎_, inl, inr}
 use Prim.Native.Nat.{ℕ, _+_, _*_, _^_, _<_}
@@ -12,11 +12,11 @@ use lib.Dec.{eqb}
 use lib.ListN.{length}
 use Rattle.lists.proofs.Bools.{or-cases, and-both}
 use Rattle.words.specs.Words.{AllCanonical}
-use Rattle.counts.specs.Counts.{tapWordBatches, traceWordBatches}
+use Rattle.counts.specs.Counts.{mostBatches, isTapLength, tapWordBatches, traceWordBatches}
 use Rattle.refusals.specs.Refusals.{told, indexed, digest, digestWords}
 use Rattle.refusals.specs.Answers.{Refuses as IsRefusal, digestAfter, testsAfter, leaves}
 use Rattle.refusals.specs.declared.Refusal.{Refusal}
-use Rattle.refusals.specs.declared.Refusal.the-variants.{NoInverse, WrongInverse}
+use Rattle.refusals.specs.declared.Refusal.the-variants.{NoInverse, WrongInverse, TapLength, DestinationLength}
 use Rattle.refusals.specs.declared.Answer.{Answer}
 use Rattle.refusals.specs.declared.Answer.the-variants as answer
 use Rattle.refusals.specs.declared.Digest.{Digest}
@@ -24,7 +24,7 @@ use Rattle.refusals.proofs.Laws.{passed, both-accepted, digest-refused, tests-r
 use Rattle.table.specs.Table.{Prepares, tableTest}
 use Rattle.table.proofs.Theorems.{prepares-some, prepares-unique, refused-kept}
 use Rattle.hash.specs.Hash as rescue
-use Rattle.hash.specs.Answers.{hashAnswer, chainAnswer, chainTest}
+use Rattle.hash.specs.Answers.{hashTest, hashAnswer, chainTest, chainAnswer}
 use Rattle.hash.proofs.Inputs.{hash-tap, output-tap}
 use Rattle.hash.proofs.Answers.{ChainInputs, chain-inputs}
 use Rattle.trace.specs.Trace.{trace}
@@ -85,24 +85,24 @@ numbered o r (prepare-refuses raw old new q h) =
     ends.prepare-ends (OneOf ns) (one-of 1 ns refl) (one-of 8 ns refl) (λ i l. one-of 2 ns refl) (one-of 3 ns refl) raw old new (answer.Refused q) h
 numbered o r (hash-refuses T words q e) =
     let ns = numbers hash in
-    subst (AnswerEnds (OneOf ns)) (digest-refused _ _ q e)
+    subst (AnswerEnds (OneOf ns)) (digest-refused (hashTest T words) _ q e)
     (ends.hash-ends (OneOf ns) (table-causes ns refl refl refl) T words (λ i h. one-of 6 ns refl))
 numbered o r (chain-refuses T w q e) =
     let ns = numbers chain in
-    subst (AnswerEnds (OneOf ns)) (digest-refused _ _ q e)
+    subst (AnswerEnds (OneOf ns)) (digest-refused (chainTest T w) _ q e)
     (ends.chain-ends (OneOf ns) (table-causes ns refl refl refl) T w (one-of 5 ns refl) (λ k s p i h. one-of 6 ns refl))
 numbered o r (build-refuses T w size q e) =
     let ns = numbers build in
-    subst (AnswerEnds (OneOf ns)) (digest-refused _ _ q e)
+    subst (AnswerEnds (OneOf ns)) (digest-refused (buildTest T w size) _ q e)
     (ends.build-ends (OneOf ns) (table-causes ns refl refl refl) T w (one-of 5 ns refl) (λ k s p i h. one-of 6 ns refl) size (one-of 8 ns refl))
 numbered o r (check-refuses T t claim q e) =
     let ns = numbers check in
-    subst (AnswerEnds (OneOf ns)) (tests-refused _ _ q e)
+    subst (AnswerEnds (OneOf ns)) (tests-refused (checkTest T t claim) _ q e)
     (ends.check-ends (OneOf ns) (table-causes ns refl refl refl) T t claim (one-of 7 ns refl) (λ i h. one-of 9 ns refl)
     (λ k s p i h. one-of 10 ns refl) (λ k p i c n f. one-of 11 ns refl))
 numbered o r (read-off-refuses T t claim size q e) =
     let ns = numbers read-off in
-    subst (AnswerEnds (OneOf ns)) (tests-refused _ _ q e)
+    subst (AnswerEnds (OneOf ns)) (tests-refused (readOffTest T t claim size) _ q e)
     (ends.read-off-ends (OneOf ns) (table-causes ns refl refl refl) T t claim (one-of 7 ns refl) (λ i h. one-of 9 ns refl)
     (λ k s p i h. one-of 10 ns refl) (λ k p i c n f. one-of 11 ns refl) size (one-of 8 ns refl))
 numbered o r (pack-refuses w claim size q e) =
@@ -111,7 +111,7 @@ numbered o r (pack-refuses w claim size q e) =
     (ends.pack-ends (OneOf ns) w claim size (one-of 5 ns refl) (one-of 8 ns refl) (λ i h. one-of 9 ns refl) (λ k s p i h. one-of 6 ns refl))
 numbered o r (unpack-refuses file size q e) =
     let ns = numbers unpack in
-    subst (AnswerEnds (OneOf ns)) (digest-refused _ _ q e)
+    subst (AnswerEnds (OneOf ns)) (digest-refused (unpackTest file size) _ q e)
     (ends.unpack-ends (OneOf ns) file (one-of 12 ns refl) (one-of 8 ns refl) (λ j h. one-of 13 ns refl) (λ j h. one-of 14 ns refl) size)
 
 -- Prepare never returns 4, and only it returns 3
@@ -193,15 +193,19 @@ chain-words T w k s c = four-words (rescue.outputAt T w (3 * k)) (output-tap T w
 chain-call-inputs : (T w : List ℕ) (size : ℕ) → chainCallTest T w size ≡ answer.Accepted → ChainInputs T w (tapWordBatches (length w))
 unfolding chainCallTest
 chain-call-inputs T w size e =
-    let a = passed _ _ _ (both-accepted (tableTest T) _ e .1) in
-    chain-inputs T w (chain-room T w size (eqb-true size 4 (passed _ _ _ (a .1) .0)) ∙ e)
+    let a = both-accepted (tableTest T) _ e in
+    let b = passed (isTapLength mostBatches (length w)) TapLength _ (a .1) in
+    let c = passed (eqb size 4) DestinationLength _ (b .1) in
+    chain-inputs T w (chain-room T w size (eqb-true size 4 (c .0)) ∙ e)
 
 build-call-inputs : (T w : List ℕ) (rows size : ℕ) → buildCallTest T w rows size ≡ answer.Accepted → BuildInputs T w rows (tapWordBatches (length w))
 unfolding buildCallTest
 build-call-inputs T w rows size e =
-    let a = passed _ _ _ (both-accepted (tableTest T) _ e .1) in
-    let b = and-both (eqb size 4) _ (passed _ _ _ (a .1) .0) in
-    build-inputs T w rows (build-room T w size rows (eqb-true size 4 (b .0)) ∙ e)
+    let a = both-accepted (tableTest T) _ e in
+    let b = passed (isTapLength mostBatches (length w)) TapLength _ (a .1) in
+    let c = passed (eqb size 4 && eqb rows (384 * tapWordBatches (length w))) DestinationLength _ (b .1) in
+    let d = and-both (eqb size 4) (eqb rows (384 * tapWordBatches (length w))) (c .0) in
+    build-inputs T w rows (build-room T w size rows (eqb-true size 4 (d .0)) ∙ e)
 
 chain-call : (T w output output′ : List ℕ) (code : ℕ) → HandsOver (chainCall T w (length output)) code output output′
     → Answered code (callNumbers chain) (ChainResult T w output′) (output′ ≡ output)
@@ -268,11 +272,11 @@ module _ (T t : List ℕ) (c0 c1 c2 c3 : ℕ) where
       let claim : List ℕ = c0 ∷ c1 ∷ c2 ∷ c3 ∷ [] in
       let k = traceWordBatches (length t) in
       tests-says code ns (ReadOffResult T t taps′) (taps′ ≡ taps) (readOffTest T t claim (length taps)) (length (order.tests k)) (h .coded)
-      (λ e. bits.tests-bits k (read-off-inputs T t claim (length taps) e .permitted))
+      (λ e. bits.tests-bits k (read-off-inputs T t claim (length taps) e .1 .permitted))
       (bits.read-off-bits T t claim refl (length taps))
       (ends.read-off-ends (OneOf ns) (table-causes ns refl refl refl) T t claim (one-of 7 ns refl) (λ i l. one-of 9 ns refl)
       (λ k s p i l. one-of 10 ns refl) (λ k p i c n f. one-of 11 ns refl) (length taps) (one-of 8 ns refl))
-      (λ e. (let i = read-off-inputs T t claim (length taps) e in record {
+      (λ e. (let i = read-off-inputs T t claim (length taps) e .1 in record {
         k = k;
         permitted = i .permitted;
         rows = i .size;

@@ -75,7 +75,7 @@ module _ (T w : List ℕ) (k : ℕ) (table : IsTable T) (permitted : IsPermitted
       let answered : readOffAnswer T t claim (length room) ≡ counted.Accepted (372 * k) =
       ap (readOffAnswer T t claim) l
       ∙ same-for T t claim k long
-      ∙ check-verdict T t claim k table permitted long (trace-canonical T w k size canonical) (output .size) (output .canonical)
+      ∙ check-verdict T t claim k table permitted long (trace-canonical T w k size canonical) (output .canonical)
       ∙ ap (λ a. testsAfter a (length (tests k))) (read .0)
       ∙ ap counted.Accepted (length-tests k) in
       let passes = tests-accepted (readOffTest T t claim (length room)) _ _ answered .0 in

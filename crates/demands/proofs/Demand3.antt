@@ -32,7 +32,7 @@ use Rattle.demands.specs.Demand3.{Exact, Demand3}
 module _ (T t claim : List ℕ) (k : ℕ) (table : IsTable T) (permitted : IsPermitted k) (size : length t ≡ 384 * k) (canonical : AllCanonical t)
     (claim-size : length claim ≡ 4) (claim-canonical : AllCanonical claim) where
   checks : checkAnswer T t claim ≡ testsAfter (constraintTest T t claim k) (length (tests k))
-  checks = check-verdict T t claim k table permitted size canonical claim-size claim-canonical
+  checks = check-verdict T t claim k table permitted size canonical claim-canonical
 
   agrees : readOffAnswer T t claim (12 * k + 4) ≡ checkAnswer T t claim
   agrees = same-for T t claim k size

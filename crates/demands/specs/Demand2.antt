@@ -20,7 +20,7 @@ use Rattle.trace.specs.Trace.{trace}
 use Rattle.trace.specs.Answers.{buildAnswer, buildLeaves}
 use Rattle.readoff.specs.Answers.{readOffAnswer, readOffLeaves}
 use Rattle.elements.specs.Words.{AllBytes}
-use Rattle.board.specs.Board.{packTest, packLeaves, unpackTest, unpackLeaves}
+use Rattle.board.specs.Board.{packTest, packLeaves, unpackAnswer, unpackLeaves}
 
 pub record Demand2 : Type 0 where
   -- for every accepted table and permitted k, hash, chain and trace of canonical words are those of the definitions
@@ -36,7 +36,7 @@ pub record Demand2 : Type 0 where
       × (readOffLeaves T (buildLeaves T w old) (digestWords d) room ≡ w)
   -- a file that Pack wrote into old, unpacked
   pub unpacks : (w claim old room : List ℕ) → length claim ≡ 4 → packTest w claim (length old) ≡ answer.Accepted → length room ≡ length w
-      → (unpackTest (packLeaves w claim old) (length room) ≡ Accepted (digest claim)) × (unpackLeaves (packLeaves w claim old) room ≡ w)
+      → (unpackAnswer (packLeaves w claim old) (length room) ≡ Accepted (digest claim)) × (unpackLeaves (packLeaves w claim old) room ≡ w)
   -- a file that Unpack accepted with the claim d, packed from the taps that it left in old
-  pub packs : (file old room : List ℕ) (d : Digest) → AllBytes file → unpackTest file (length old) ≡ Accepted d → length room ≡ length file
+  pub packs : (file old room : List ℕ) (d : Digest) → AllBytes file → unpackAnswer file (length old) ≡ Accepted d → length room ≡ length file
       → (packTest (unpackLeaves file old) (digestWords d) (length room) ≡ answer.Accepted) × (packLeaves (unpackLeaves file old) (digestWords d) room ≡ file)
