@@ -13,7 +13,7 @@ use Rattle.refusals.specs.declared.Answer.{Answer}
 use Rattle.refusals.specs.declared.Answer.the-variants as answer
 use Rattle.refusals.specs.declared.Checked.{Checked}
 use Rattle.refusals.specs.declared.Checked.the-variants as checked
-use Rattle.table.specs.Table.{Prepares}
+use Rattle.table.specs.Table.{rawWords, tableWords, Prepares}
 use Rattle.hash.specs.Hash.{chain}
 use Rattle.trace.specs.Trace.{trace}
 use Rattle.constraints.specs.Constraints.{verdict}
@@ -21,17 +21,21 @@ use Rattle.board.specs.Board.{batchesIn, tapsIn, claimIn, unpackTest, IsBoard}
 use Rattle.outcome.specs.declared.Outcome.{Outcome}
 use Rattle.outcome.specs.declared.Outcome.the-variants.{Accepted, Refused, TooLong}
 
--- ---- the input: a raw table, 3168 bytes, and then a board file
+-- ---- the input: a raw table and then a board file
+
+-- the bytes of a raw table, 8 for each word: 3168
+abbrev pub rawBytes : ℕ
+rawBytes = 8 * rawWords
 
 -- word j of the table: 8 bytes, low byte first
 unfoldable pub rawWord : List ℕ → ℕ → ℕ
 rawWord input j = sum 8 (λ b. cell input (8 * j + b) * 2 ^ (8 * b))
 
 unfoldable pub rawIn : List ℕ → List ℕ
-rawIn input = tab 396 (rawWord input)
+rawIn input = tab rawWords (rawWord input)
 
 unfoldable pub fileIn : List ℕ → List ℕ
-fileIn input = drop 3168 input
+fileIn input = drop rawBytes input
 
 -- ---- it prepares, unpacks, builds, checks against the claim
 
@@ -53,22 +57,22 @@ checkedTaps T w claim k = reported k (verdict T (trace T w k) claim k)
 unfoldable pub cleared : List ℕ → List ℕ → Outcome
 cleared T file = fileAfter (unpackTest file (12 * batchesIn file + 4)) (checkedTaps T (tapsIn file) (claimIn file) (batchesIn file))
 
--- where Prepare writes: 540 words
+-- where Prepare writes
 abbrev pub unprepared : List ℕ
-unprepared = replicate 540 0
+unprepared = replicate tableWords 0
 
 -- under 3168 bytes and over 5572 nothing else is looked at; the table's refusal comes before the file's
 pub data Clears (input : List ℕ) : Outcome → Type 0 where
-  short : length input < 3168 → Clears input (Refused TableLength)
+  short : length input < rawBytes → Clears input (Refused TableLength)
   long : 5572 < length input → Clears input TooLong
-  turned-back : 3168 ≤ length input → length input ≤ 5572 → (r : Refusal) → Prepares (rawIn input) unprepared (answer.Refused r) unprepared → Clears input (Refused r)
-  judged : 3168 ≤ length input → length input ≤ 5572 → (T : List ℕ) → Prepares (rawIn input) unprepared answer.Accepted T → Clears input (cleared T (fileIn input))
+  turned-back : rawBytes ≤ length input → length input ≤ 5572 → (r : Refusal) → Prepares (rawIn input) unprepared (answer.Refused r) unprepared → Clears input (Refused r)
+  judged : rawBytes ≤ length input → length input ≤ 5572 → (T : List ℕ) → Prepares (rawIn input) unprepared answer.Accepted T → Clears input (cleared T (fileIn input))
 
 -- ---- what the answers mean
 
 -- table and file are accepted
 pub record IsJudged (input T : List ℕ) (k : ℕ) : Type 0 where
-  pub low : 3168 ≤ length input
+  pub low : rawBytes ≤ length input
   pub high : length input ≤ 5572
   pub prepared : Prepares (rawIn input) unprepared answer.Accepted T
   pub board : IsBoard (fileIn input) k

@@ -3,9 +3,9 @@ ghost use mathlib.Core.Path.{_≡_};
 ghost use Prim.Native.Nat.{_+_, _*_, _/_, _-_, _≤_};
 ghost use lib.ListN.{length};
 ghost use Rattle.words.specs.Words.{AllCanonical};
-ghost use Rattle.table.specs.Table.{IsTable, Prepares};
+ghost use Rattle.table.specs.Table.{rawWords, IsTable, Prepares};
 ghost use Rattle.board.specs.Board.{claimOf};
-ghost use Rattle.clearing.specs.Clearing.{rawWord, rawIn, reported, checkedTaps, cleared, unprepared, Clears, Taps};
+ghost use Rattle.clearing.specs.Clearing.{rawBytes, rawWord, rawIn, reported, checkedTaps, cleared, unprepared, Clears, Taps};
 use fileword::Word;
 use outcome::Outcome;
 use refusals::Answer;
@@ -14,8 +14,8 @@ use refusals::Digest;
 use refusals::Digested;
 use refusals::Refusal;
 
-// A raw table: 396 words of 8 bytes.
-const TABLE_BYTES: usize = 396 * 8;
+// A raw table, of 8 bytes a word.
+const TABLE_BYTES: usize = table::RAW_WORDS * 8;
 
 // The longest input: a table, and a file of 16 batches.
 pub const LONGEST: usize = TABLE_BYTES + 144 * 16 + 100;
@@ -32,11 +32,11 @@ fn raw_word(input: &[u8], j: usize) -> u64
 
 // The raw table, with which the input begins.
 fn read_table(input: &[u8], raw: &mut [u64])
-    requires { ⌜ (3168 ≤ length (now input)) × (length (now raw) ≡ 396) ⌝ }
+    requires { ⌜ (rawBytes ≤ length (now input)) × (length (now raw) ≡ rawWords) ⌝ }
     ensures { λ r. ⌜ now (raw .exit) ≡ rawIn (now (input .entry)) ⌝ }
 {
     let mut j: usize = 0;
-    while j < 396 {
+    while j < table::RAW_WORDS {
         raw[j] = raw_word(input, j);
         j += 1;
     }
@@ -44,19 +44,19 @@ fn read_table(input: &[u8], raw: &mut [u64])
 
 // Prepares the raw table.
 fn prepare(input: &[u8], table: &mut [u64]) -> Answer
-    requires { ⌜ 3168 ≤ length (now input) ⌝ }
+    requires { ⌜ rawBytes ≤ length (now input) ⌝ }
     ensures { λ r. ⌜ Prepares (rawIn (now (input .entry))) (now (table .entry)) r (now (table .exit)) ⌝ }
 {
-    let mut raw = [0u64; 396];
+    let mut raw = [0u64; table::RAW_WORDS];
     read_table(input, &mut raw);
     table::prepare(&raw, table)
 }
 
 // Room for a prepared table, and for the taps and the trace of 16 batches.
-fn table_room() -> [u64; 540]
+fn table_room() -> [u64; table::WORDS]
     ensures { λ r. ⌜ r ≡ unprepared ⌝ }
 {
-    [0; 540]
+    [0; table::WORDS]
 }
 
 fn tap_room() -> [u64; 196]

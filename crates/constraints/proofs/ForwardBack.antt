@@ -100,7 +100,8 @@ module _ (T t : List ℕ) (h j : ℕ) (l : j < 10) where
       → cell (forward T t (firstRow h + j)) c ≡ add (cell (secondStep T j (row t (firstRow h + j))) c) (cell (initialConstant T) c)
   unfolding forward
   forward-enters e c q =
-      rw (e, round-of h j l) (cell-plus-first 4 (secondStep T j (row t (firstRow h + j))) (initialConstant T) c (omega arith) q)
+      rw (e, round-of h j l)
+      (cell-plus-first 4 (secondStep T j (row t (firstRow h + j))) (initialConstant T) c (omega arith) q)
 
   -- a row is the first step from its back
   pub row-from-back : IsTable T → IsState (row t (firstRow h + j)) → row t (firstRow h + j) ≡ firstStep T j (back T t (firstRow h + j))

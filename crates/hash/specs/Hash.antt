@@ -23,7 +23,7 @@ plus s k = tab 12 (λ j. add (cell s j) (cell k j))
 unfoldable pub mix : List ℕ → List ℕ → List ℕ
 mix T s = times (matrixOf T) s
 
--- the first step of round r, from the state before it to the middle state: root every cell, multiply by M, add its constant
+-- the first step of round r, to its middle state: root every cell, multiply by M, add its constant
 unfoldable pub firstStep : List ℕ → ℕ → List ℕ → List ℕ
 firstStep T r s = plus (mix T (roots s)) (firstStepConstant T r)
 

@@ -46,37 +46,38 @@ pub fn opening(table: &[u64], input: [u64; 12]) -> [u64; 12]
     let mut out = [0u64; 12];
     let mut j: usize = 0;
     while j < 12 {
-        out[j] = Fp(input[j]).add(Fp(table::initial_constant(table, j))).0;
+        let constant = table::initial_constant(table, j);
+        out[j] = Fp(input[j]).add(Fp(constant)).0;
         j += 1;
     }
     out
 }
 
 // s plus the first-step constant of the round.
-fn plus_first(table: &[u64], round: usize, s: [u64; 12]) -> [u64; 12]
+fn plus_first_step(table: &[u64], round: usize, s: [u64; 12]) -> [u64; 12]
     requires { ⌜ IsTable (now table) × (round < 10) × CanonicalTo 12 s ⌝ }
     ensures { λ r. ⌜ r ≡ plus s (firstStepConstant (now (table .entry)) round) ⌝ }
 {
     let mut out = [0u64; 12];
     let mut j: usize = 0;
     while j < 12 {
-        out[j] = Fp(s[j]).add(Fp(table::first_step_constant(table, round, j)))
-            .0;
+        let constant = table::first_step_constant(table, round, j);
+        out[j] = Fp(s[j]).add(Fp(constant)).0;
         j += 1;
     }
     out
 }
 
 // s plus the second-step constant of the round.
-fn plus_second(table: &[u64], round: usize, s: [u64; 12]) -> [u64; 12]
+fn plus_second_step(table: &[u64], round: usize, s: [u64; 12]) -> [u64; 12]
     requires { ⌜ IsTable (now table) × (round < 10) × CanonicalTo 12 s ⌝ }
     ensures { λ r. ⌜ r ≡ plus s (secondStepConstant (now (table .entry)) round) ⌝ }
 {
     let mut out = [0u64; 12];
     let mut j: usize = 0;
     while j < 12 {
-        out[j] = Fp(s[j]).add(Fp(table::second_step_constant(table, round, j)))
-            .0;
+        let constant = table::second_step_constant(table, round, j);
+        out[j] = Fp(s[j]).add(Fp(constant)).0;
         j += 1;
     }
     out
@@ -88,7 +89,7 @@ pub fn first_step(table: &[u64], round: usize, s: [u64; 12]) -> [u64; 12]
     ensures { λ r. ⌜ r ≡ firstStep (now (table .entry)) round s ⌝ }
 {
     let mixed = mix(table, roots::roots(s));
-    plus_first(table, round, mixed)
+    plus_first_step(table, round, mixed)
 }
 
 // The second step of the round, from its middle state.
@@ -97,7 +98,7 @@ pub fn second_step(table: &[u64], round: usize, s: [u64; 12]) -> [u64; 12]
     ensures { λ r. ⌜ r ≡ secondStep (now (table .entry)) round s ⌝ }
 {
     let mixed = mix(table, cubes(s));
-    plus_second(table, round, mixed)
+    plus_second_step(table, round, mixed)
 }
 
 // The state after the ten rounds.

@@ -49,7 +49,11 @@ S-constants n = ap (λ k. cell (shifted 11 ++ shifted 1 ++ replicate 252 0) k) e
 
 constant-zero : (n j : ℕ) → j < 12 → cell (constant S n) j ≡ 0
 unfolding constant
-constant-zero n j h = getD-take 12 (drop (2 * matrixWords + 12 * n) S) j 0 h ∙ getD-drop (2 * matrixWords + 12 * n) S j 0 ∙ ap (cell S) e ∙ S-constants (12 * n + j)
+constant-zero n j h =
+    getD-take 12 (drop (2 * matrixWords + 12 * n) S) j 0 h
+    ∙ getD-drop (2 * matrixWords + 12 * n) S j 0
+    ∙ ap (cell S) e
+    ∙ S-constants (12 * n + j)
   where
     e : 2 * matrixWords + 12 * n + j ≡ 2 * matrixWords + (12 * n + j)
     e = omega arith
@@ -104,7 +108,8 @@ add-zero-constant x k h e = ap (λ y. (x + y) % P) e ∙ ap (λ y. y % P) z ∙ 
     z = omega arith
 
 -- one step: a cell function that gives canonical words, then M, then a constant of zeros
-step-cell : (s k : List ℕ) (i : ℕ) → IsState s → i < 12 → cell k i ≡ 0 → cell (plus (mix S s) k) i ≡ cell s ((i + 11) % 12)
+step-cell : (s k : List ℕ) (i : ℕ) → IsState s → i < 12 → cell k i ≡ 0
+    → cell (plus (mix S s) k) i ≡ cell s ((i + 11) % 12)
 step-cell s k i st h z =
     cell-plus (mix S s) k i h
     ∙ ap (λ x. add x (cell k i)) (mix-cell s i h ∙ mod-eq-of-lt (state-cell st ((i + 11) % 12)))

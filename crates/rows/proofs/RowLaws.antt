@@ -34,12 +34,14 @@ module _ (t : List ℕ) (i : ℕ) (h : HasRow t i) where
   )
 
 -- the loop's first four columns are the sums, the others as they were
-pub entering-filled : (s k : List ℕ) → length s ≡ 12 → (out : List ℕ) (m : ℕ) → m ≡ 4 → out ≡ filled m (λ j. add (cell s j) (cell k j)) s → out ≡ plusFirst 4 s k
+pub entering-filled : (s k : List ℕ) → length s ≡ 12 → (out : List ℕ) (m : ℕ) → m ≡ 4
+    → out ≡ filled m (λ j. add (cell s j) (cell k j)) s → out ≡ plusFirst 4 s k
 unfolding plusFirst
 entering-filled s k size out m q f =
     f
     ∙ ap (λ x. filled x sum s) q
-    ∙ tab-unique 12 (filled 4 sum s) (λ j. choose (ltb j 4) (sum j) (cell s j)) (length-filled 4 sum s (omega arith) ∙ size) (λ j l. same j (decLt j 4))
+    ∙ tab-unique 12 (filled 4 sum s) (λ j. choose (ltb j 4) (sum j) (cell s j))
+    (length-filled 4 sum s (omega arith) ∙ size) (λ j l. same j (decLt j 4))
   where
     sum : ℕ → ℕ
     sum j = add (cell s j) (cell k j)
@@ -50,7 +52,9 @@ entering-filled s k size out m q f =
 
 -- they can be added where only these columns were computed
 plus-columns : (s k : List ℕ) → plusFirst 4 (columns 4 s) k ≡ columns 4 (plusFirst 4 s k)
-plus-columns s k = same-cells 12 (plusFirst 4 (columns 4 s) k) (columns 4 (plusFirst 4 s k)) (length-first 4 (columns 4 s) k) (length-columns 4 (plusFirst 4 s k)) (λ j h. go j h (decLt j 4))
+plus-columns s k =
+    same-cells 12 (plusFirst 4 (columns 4 s) k) (columns 4 (plusFirst 4 s k))
+    (length-first 4 (columns 4 s) k) (length-columns 4 (plusFirst 4 s k)) (λ j h. go j h (decLt j 4))
   where
     go : (j : ℕ) → j < 12 → Dec (j < 4) → cell (plusFirst 4 (columns 4 s) k) j ≡ cell (columns 4 (plusFirst 4 s k)) j
     go j h (yes l) =
@@ -71,9 +75,14 @@ module _ (T t : List ℕ) (i : ℕ) {r : ℕ} (q : r ≡ round i) {s : List ℕ}
   unfolding forward
   forward-plain b e = rw b (second-made 12 e)
 
-  pub forward-entering : entering i ≡ true → {n : List ℕ} → n ≡ columns 4 (secondStep T r s) → {out : List ℕ} → out ≡ plusFirst 4 n (initialConstant T) → out ≡ columns (tested i) (forward T t i)
+  pub forward-entering : entering i ≡ true → {n : List ℕ} → n ≡ columns 4 (secondStep T r s)
+      → {out : List ℕ} → out ≡ plusFirst 4 n (initialConstant T) → out ≡ columns (tested i) (forward T t i)
   unfolding forward
-  forward-entering b e f = rw b (f ∙ ap (λ x. plusFirst 4 x (initialConstant T)) (second-made 4 e) ∙ plus-columns (secondStep T (round i) (row t i)) (initialConstant T))
+  forward-entering b e f =
+      rw b
+      (f
+      ∙ ap (λ x. plusFirst 4 x (initialConstant T)) (second-made 4 e)
+      ∙ plus-columns (secondStep T (round i) (row t i)) (initialConstant T))
 
   pub back-made : {out : List ℕ} → out ≡ backStep T r s → out ≡ back T t i
   unfolding back

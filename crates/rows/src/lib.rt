@@ -52,7 +52,8 @@ fn plus_entering(table: &[u64], s: [u64; 12]) -> [u64; 12]
     let mut out = s;
     let mut j: usize = 0;
     while j < 4 {
-        out[j] = Fp(s[j]).add(Fp(table::initial_constant(table, j))).0;
+        let constant = table::initial_constant(table, j);
+        out[j] = Fp(s[j]).add(Fp(constant)).0;
         j += 1;
     }
     out

@@ -21,6 +21,10 @@ pub minus-canonical : (s k : List ℕ) → CanonicalTo 12 (minus s k)
 unfolding minus
 minus-canonical s k j l = subst Canonical (sym (cell-tab 12 (λ n. sub (cell s n) (cell k n)) j l)) (mod-lt _ (omega arith))
 
-pub minus-filled : (s k : List ℕ) (n : ℕ) → n ≡ 12 → {out : List ℕ} → out ≡ filled n (λ j. sub (cell s j) (cell k j)) (replicate 12 0) → out ≡ minus s k
+pub minus-filled : (s k : List ℕ) (n : ℕ) → n ≡ 12 → {out : List ℕ}
+    → out ≡ filled n (λ j. sub (cell s j) (cell k j)) (replicate 12 0) → out ≡ minus s k
 unfolding minus
-minus-filled s k n e f = f ∙ ap (λ m. filled m (λ j. sub (cell s j) (cell k j)) (replicate 12 0)) e ∙ filled-all 12 _ (replicate 12 0) refl
+minus-filled s k n e f =
+    f
+    ∙ ap (λ m. filled m (λ j. sub (cell s j) (cell k j)) (replicate 12 0)) e
+    ∙ filled-all 12 _ (replicate 12 0) refl

@@ -67,13 +67,19 @@ columns-filled n hn f = tab-unique 12 (filled n f (replicate 12 0)) (λ j. choos
 pub plus-word : (w a : ℕ) {k m : ℕ} → w % P ≡ add a k → k ≡ m → w % P ≡ add a m
 plus-word w a e h = e ∙ ap (add a) h
 
-pub second-made : (T ready s cubed out : List ℕ) (round count : ℕ) → count ≤ 12 → ready ≡ forwardReady T → cubed ≡ tab 12 (λ j. thinCube (cell s j))
-    → out ≡ filled count (λ i. add (inner ready cubed i) (cell (secondStepConstant T round) i)) (replicate 12 0) → out ≡ columns count (secondStep T round s)
+pub second-made : (T ready s cubed out : List ℕ) (round count : ℕ) → count ≤ 12
+    → ready ≡ forwardReady T → cubed ≡ tab 12 (λ j. thinCube (cell s j))
+    → out ≡ filled count (λ i. add (inner ready cubed i) (cell (secondStepConstant T round) i)) (replicate 12 0)
+    → out ≡ columns count (secondStep T round s)
 unfolding secondStep plus mix cubes forwardReady
 second-made T ready s cubed out round count hc er ec e =
     e
     ∙ columns-filled count hc (λ i. add (inner ready cubed i) (cell (secondStepConstant T round) i))
-    ∙ ap (columns count) (tab-ext 12 (λ i. add (inner ready cubed i) (cell (secondStepConstant T round) i)) (λ i. add (cell (mix T (cubes s)) i) (cell (secondStepConstant T round) i)) (λ i h. ap (λ x. add x (cell (secondStepConstant T round) i)) (mixed i h)))
+    ∙ ap (columns count)
+    (tab-ext 12
+    (λ i. add (inner ready cubed i) (cell (secondStepConstant T round) i))
+    (λ i. add (cell (mix T (cubes s)) i) (cell (secondStepConstant T round) i))
+    (λ i h. ap (λ x. add x (cell (secondStepConstant T round) i)) (mixed i h)))
   where
     mixed : (i : ℕ) → i < 12 → inner ready cubed i ≡ cell (mix T (cubes s)) i
     mixed i h =

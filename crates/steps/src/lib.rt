@@ -50,22 +50,23 @@ pub fn less_initial(table: &[u64], s: [u64; 12]) -> [u64; 12]
     let mut out = [0u64; 12];
     let mut j: usize = 0;
     while j < 12 {
-        out[j] = Fp(s[j]).sub(Fp(table::initial_constant(table, j))).0;
+        let constant = table::initial_constant(table, j);
+        out[j] = Fp(s[j]).sub(Fp(constant)).0;
         j += 1;
     }
     out
 }
 
 // The cells less the first-step constant of the round.
-fn less_first(table: &[u64], round: usize, s: [u64; 12]) -> [u64; 12]
+fn less_first_step(table: &[u64], round: usize, s: [u64; 12]) -> [u64; 12]
     requires { ⌜ IsTable (now table) × (round < 10) × CanonicalTo 12 s ⌝ }
     ensures { λ r. ⌜ (r ≡ minus s (firstStepConstant (now (table .entry)) round)) × CanonicalTo 12 r ⌝ }
 {
     let mut out = [0u64; 12];
     let mut j: usize = 0;
     while j < 12 {
-        out[j] = Fp(s[j]).sub(Fp(table::first_step_constant(table, round, j)))
-            .0;
+        let constant = table::first_step_constant(table, round, j);
+        out[j] = Fp(s[j]).sub(Fp(constant)).0;
         j += 1;
     }
     out
@@ -116,7 +117,7 @@ pub fn back_step(ready: &[u64], table: &[u64], round: usize, s: [u64; 12]) -> [u
     requires { ⌜ IsTable (now table) × (now ready ≡ backReady (now table)) × (round < 10) × CanonicalTo 12 s ⌝ }
     ensures { λ r. ⌜ r ≡ backStep (now (table .entry)) round s ⌝ }
 {
-    let less = less_first(table, round, s);
+    let less = less_first_step(table, round, s);
     let excess = winograd::neighbours(&less);
     let mut out = [0u64; 12];
     let mut i: usize = 0;

@@ -16,7 +16,7 @@ use Rattle.matrix.proofs.Linear.{times-ext, product-column}
 use Rattle.matrix.proofs.States.{cell-times}
 use Rattle.refusals.specs.declared.Answer.the-variants.{Accepted, Refused}
 use Rattle.refusals.specs.declared.Refusal.the-variants.{TableLength, TableWord, WrongInverse}
-use Rattle.table.specs.Table.{matrixOf, inverseOf, unlike, firstUnlike, tableTest}
+use Rattle.table.specs.Table.{tableWords, matrixOf, inverseOf, unlike, firstUnlike, tableTest}
 
 -- ---- the product, column by column
 pub column-canonical : (n x : List ℕ) (k : ℕ) → length n ≡ 144 → AllCanonical n → k < 12 → x ≡ tab 12 (λ j. entry n j k) → CanonicalTo 12 x
@@ -73,20 +73,20 @@ passes t b = sym (first-none 144 (unlike t) b)
 
 -- ---- the answer
 module _ (t : List ℕ) where
-  pub wrong-length : (length t ≡ 540 → ⊥) → Refused TableLength ≡ tableTest t
+  pub wrong-length : (length t ≡ tableWords → ⊥) → Refused TableLength ≡ tableTest t
   unfolding tableTest
-  wrong-length h = sym (rw (ne-eqb (length t) 540 h))
+  wrong-length h = sym (rw (ne-eqb (length t) tableWords h))
 
-  module _ (size : length t ≡ 540) where
-    pub wrong-word : (b : ℕ) → b ≡ firstBad t → (b ≡ 540 → ⊥) → Refused (TableWord b) ≡ tableTest t
+  module _ (size : length t ≡ tableWords) where
+    pub wrong-word : (b : ℕ) → b ≡ firstBad t → (b ≡ tableWords → ⊥) → Refused (TableWord b) ≡ tableTest t
     unfolding tableTest
-    wrong-word b e h = rw (e, eq-eqb (length t) 540 size, ne-eqb (firstBad t) 540 (λ q. h (e ∙ q)))
+    wrong-word b e h = rw (e, eq-eqb (length t) tableWords size, ne-eqb (firstBad t) tableWords (λ q. h (e ∙ q)))
 
-    module _ (good : firstBad t ≡ 540) where
+    module _ (good : firstBad t ≡ tableWords) where
       pub wrong-cell : (c : ℕ) → c ≡ firstUnlike t → (c ≡ 144 → ⊥) → Refused (WrongInverse c) ≡ tableTest t
       unfolding tableTest
-      wrong-cell c e h = rw (e, eq-eqb (length t) 540 size, eq-eqb (firstBad t) 540 good, ne-eqb (firstUnlike t) 144 (λ q. h (e ∙ q)))
+      wrong-cell c e h = rw (e, eq-eqb (length t) tableWords size, eq-eqb (firstBad t) tableWords good, ne-eqb (firstUnlike t) 144 (λ q. h (e ∙ q)))
 
       pub accepted : firstUnlike t ≡ 144 → Accepted ≡ tableTest t
       unfolding tableTest
-      accepted h = rw (eq-eqb (length t) 540 size, eq-eqb (firstBad t) 540 good, eq-eqb (firstUnlike t) 144 h)
+      accepted h = rw (eq-eqb (length t) tableWords size, eq-eqb (firstBad t) tableWords good, eq-eqb (firstUnlike t) 144 h)

@@ -9,7 +9,7 @@ use native.Mathlib.Decide.{ℕ-discrete}
 use native.Mathlib.Omega.{arith}
 use borrow.Author.Tests.{eq-eqb, eqb-true, eqb-false, not-true, not-false}
 use lib.Dec.{eqb}
-use lib.ListN.{length, take}
+use lib.ListN.{length}
 use Rattle.lists.specs.Lists.{choose, cell, first}
 use Rattle.lists.proofs.First.{IsFirst, is-first, none-first}
 use Rattle.field.specs.Field.{P, Canonical}
@@ -23,7 +23,7 @@ use Rattle.refusals.specs.declared.Refusal.{Refusal}
 use Rattle.refusals.specs.declared.Refusal.the-variants.{TableLength, TableWord, NoInverse, WrongInverse, DestinationLength}
 use Rattle.refusals.specs.declared.Answer.{Answer}
 use Rattle.refusals.specs.declared.Answer.the-variants.{Accepted, Refused}
-use Rattle.table.specs.Table.{matrixOf, inverseOf, initialConstant, firstStepConstant, secondStepConstant, unlike, firstUnlike, tableTest, IsTable, RawInverse, prepared, rawTest, Prepares, accepts, no-inverse, refuses}
+use Rattle.table.specs.Table.{rawWords, tableWords, rawMatrix, matrixOf, inverseOf, initialConstant, firstStepConstant, secondStepConstant, unlike, firstUnlike, tableTest, IsTable, RawInverse, prepared, rawTest, Prepares, accepts, no-inverse, refuses}
 use Rattle.table.proofs.Parts as parts
 use Rattle.table.proofs.Tested as tested
 use Rattle.table.proofs.Prepared as prep
@@ -56,14 +56,14 @@ test-complete t h = sym (tested.accepted t (h .size) (all-good t (h .canonical) 
 
 -- 2: the lowest index of a word that is not canonical
 pub record FirstWord (t : List ℕ) (i : ℕ) : Type 0 where
-  pub size : length t ≡ 540
-  pub within : i < 540
+  pub size : length t ≡ tableWords
+  pub within : i < tableWords
   pub bad : P ≤ cell t i
   pub before : (j : ℕ) → j < i → Canonical (cell t j)
 
 -- 4: the first cell, row by row, in which M times the stored inverse is unlike the identity
 pub record FirstCell (t : List ℕ) (c : ℕ) : Type 0 where
-  pub size : length t ≡ 540
+  pub size : length t ≡ tableWords
   pub canonical : AllCanonical t
   pub within : c < 144
   pub other : product 12 (entry (matrixOf t)) (entry (inverseOf t)) (c / 12) (c % 12) ≡ identity (c / 12) (c % 12) → ⊥
@@ -72,14 +72,14 @@ pub record FirstCell (t : List ℕ) (c : ℕ) : Type 0 where
 -- the answer of the test, by cases
 pub data Answers (t : List ℕ) : Answer → Type 0 where
   accepted : IsTable t → Answers t Accepted
-  length-refused : (length t ≡ 540 → ⊥) → Answers t (Refused TableLength)
+  length-refused : (length t ≡ tableWords → ⊥) → Answers t (Refused TableLength)
   word-refused : (i : ℕ) → FirstWord t i → Answers t (Refused (TableWord i))
   cell-refused : (c : ℕ) → FirstCell t c → Answers t (Refused (WrongInverse c))
 
-first-word : (t : List ℕ) → length t ≡ 540 → (firstBad t ≡ 540 → ⊥) → FirstWord t (firstBad t)
+first-word : (t : List ℕ) → length t ≡ tableWords → (firstBad t ≡ tableWords → ⊥) → FirstWord t (firstBad t)
 first-word t size b = record { size = size; within = omega (arith, within t); bad = bad-at t (omega (arith, within t)); before = good-before t }
 
-first-cell : (t : List ℕ) → length t ≡ 540 → firstBad t ≡ 540 → (firstUnlike t ≡ 144 → ⊥) → FirstCell t (firstUnlike t)
+first-cell : (t : List ℕ) → length t ≡ tableWords → firstBad t ≡ tableWords → (firstUnlike t ≡ 144 → ⊥) → FirstCell t (firstUnlike t)
 unfolding firstUnlike unlike
 first-cell t size good u = record { size = size; canonical = good-all t (good ∙ sym size); within = below; other = eqb-false _ _ (not-true _ (first-is .found below)); before = λ d l. eqb-true _ _ (not-false _ (first-is .before d l)) }
   where
@@ -90,18 +90,18 @@ first-cell t size good u = record { size = size; canonical = good-all t (good �
     below = omega (arith, first-is .within)
 
 pub test-answers : (t : List ℕ) → Answers t (tableTest t)
-test-answers t = with-size (ℕ-discrete (length t) 540)
+test-answers t = with-size (ℕ-discrete (length t) tableWords)
   where
-    with-cells : (size : length t ≡ 540) → firstBad t ≡ 540 → Dec (firstUnlike t ≡ 144) → Answers t (tableTest t)
+    with-cells : (size : length t ≡ tableWords) → firstBad t ≡ tableWords → Dec (firstUnlike t ≡ 144) → Answers t (tableTest t)
     with-cells size good (yes u) = subst (Answers t) (tested.accepted t size good u) (accepted (record { size = size; canonical = good-all t (good ∙ sym size); inverse = like-identity t u }))
     with-cells size good (no u) = subst (Answers t) (tested.wrong-cell t size good _ refl u) (cell-refused _ (first-cell t size good u))
 
-    with-words : (size : length t ≡ 540) → Dec (firstBad t ≡ 540) → Answers t (tableTest t)
+    with-words : (size : length t ≡ tableWords) → Dec (firstBad t ≡ tableWords) → Answers t (tableTest t)
     with-words size (yes b) = with-cells size b (ℕ-discrete (firstUnlike t) 144)
     with-words size (no b) = subst (Answers t) (tested.wrong-word t size _ refl b) (word-refused _ (first-word t size b))
 
-    with-size : Dec (length t ≡ 540) → Answers t (tableTest t)
-    with-size (yes s) = with-words s (ℕ-discrete (firstBad t) 540)
+    with-size : Dec (length t ≡ tableWords) → Answers t (tableTest t)
+    with-size (yes s) = with-words s (ℕ-discrete (firstBad t) tableWords)
     with-size (no s) = subst (Answers t) (tested.wrong-length t s) (length-refused s)
 
 pub test-sound : (t : List ℕ) → tableTest t ≡ Accepted → IsTable t
@@ -177,7 +177,7 @@ module _ (t : List ℕ) (h : IsTable t) where
 -- its tests give no other answers than these
 raw-answers : (raw : List ℕ) (room : ℕ) (Q : Answer → Type 0) → Q Accepted → Q (Refused TableLength) → Q (Refused DestinationLength) → ((b : ℕ) → Q (Refused (TableWord b))) → Q (rawTest raw room)
 unfolding rawTest
-raw-answers raw room Q q1 q2 q3 q4 = go (eqb (length raw) 396) (eqb room 540) (eqb (firstBad raw) 396)
+raw-answers raw room Q q1 q2 q3 q4 = go (eqb (length raw) rawWords) (eqb room tableWords) (eqb (firstBad raw) rawWords)
   where
     go : (x y z : Bool) → Q (choose x (choose y (choose z Accepted (Refused (TableWord (firstBad raw)))) (Refused DestinationLength)) (Refused TableLength))
     go false y z = q2
@@ -193,23 +193,23 @@ raw-not-4 raw room c = raw-answers raw room (λ a. a ≡ Refused (WrongInverse c
 
 -- what they let through
 pub record RawTable (raw : List ℕ) (room : ℕ) : Type 0 where
-  pub size : length raw ≡ 396
-  pub room-fits : room ≡ 540
+  pub size : length raw ≡ rawWords
+  pub room-fits : room ≡ tableWords
   pub canonical : AllCanonical raw
 
 pub raw-sound : (raw : List ℕ) (room : ℕ) → rawTest raw room ≡ Accepted → RawTable raw room
-raw-sound raw room e = with-size (ℕ-discrete (length raw) 396)
+raw-sound raw room e = with-size (ℕ-discrete (length raw) rawWords)
   where
-    with-words : length raw ≡ 396 → room ≡ 540 → Dec (firstBad raw ≡ 396) → RawTable raw room
+    with-words : length raw ≡ rawWords → room ≡ tableWords → Dec (firstBad raw ≡ rawWords) → RawTable raw room
     with-words size fits (yes b) = record { size = size; room-fits = fits; canonical = good-all raw (b ∙ sym size) }
     with-words size fits (no b) = absurd (not-refused _ (sym (prep.wrong-word raw room size fits _ refl b) ∙ e))
 
-    with-room : length raw ≡ 396 → Dec (room ≡ 540) → RawTable raw room
-    with-room size (yes f) = with-words size f (ℕ-discrete (firstBad raw) 396)
+    with-room : length raw ≡ rawWords → Dec (room ≡ tableWords) → RawTable raw room
+    with-room size (yes f) = with-words size f (ℕ-discrete (firstBad raw) rawWords)
     with-room size (no f) = absurd (not-refused _ (sym (prep.wrong-room raw room size f) ∙ e))
 
-    with-size : Dec (length raw ≡ 396) → RawTable raw room
-    with-size (yes s) = with-room s (ℕ-discrete room 540)
+    with-size : Dec (length raw ≡ rawWords) → RawTable raw room
+    with-size (yes s) = with-room s (ℕ-discrete room tableWords)
     with-size (no s) = absurd (not-refused _ (sym (prep.wrong-length raw room s) ∙ e))
 
 pub raw-complete : (raw : List ℕ) (room : ℕ) → RawTable raw room → rawTest raw room ≡ Accepted
@@ -234,12 +234,12 @@ prepared-accepted raw old new h = go Accepted new h refl
 pub prepares-some : (raw old : List ℕ) → (a : Answer) × ((s : List ℕ) × Prepares raw old a s)
 prepares-some raw old = go (rawTest raw (length old)) refl
   where
-    found : rawTest raw (length old) ≡ Accepted → Invertible 12 (entry (take 144 raw)) → (a : Answer) × ((s : List ℕ) × Prepares raw old a s)
-    found e h = (Accepted, (prepared raw (listed (h .matrix)), accepts (listed (h .matrix)) e (listed-inverse (take 144 raw) h)))
+    found : rawTest raw (length old) ≡ Accepted → Invertible 12 (entry (rawMatrix raw)) → (a : Answer) × ((s : List ℕ) × Prepares raw old a s)
+    found e h = (Accepted, (prepared raw (listed (h .matrix)), accepts (listed (h .matrix)) e (listed-inverse (rawMatrix raw) h)))
 
     go : (a : Answer) → rawTest raw (length old) ≡ a → (b : Answer) × ((s : List ℕ) × Prepares raw old b s)
     go (Refused r) e = (Refused r, (old, refuses r e))
-    go Accepted e = ⊎-elim (found e) (λ (k : Kernel 12 (entry (take 144 raw))). (Refused NoInverse, (old, no-inverse e k))) (dichotomy 12 (entry (take 144 raw)))
+    go Accepted e = ⊎-elim (found e) (λ (k : Kernel 12 (entry (rawMatrix raw))). (Refused NoInverse, (old, no-inverse e k))) (dichotomy 12 (entry (rawMatrix raw)))
 
 -- a refusal leaves the destination as it was
 pub refused-kept : (raw old new : List ℕ) (r : Refusal) → Prepares raw old (Refused r) new → new ≡ old
@@ -252,10 +252,10 @@ refused-kept raw old new r h = go (Refused r) new h refl
 
 -- answer and content are determined
 pub prepares-unique : (raw old : List ℕ) (a b : Answer) (s t : List ℕ) → Prepares raw old a s → Prepares raw old b t → (a ≡ b) × (s ≡ t)
-prepares-unique raw old a b s t (accepts n e h) (accepts m f g) = (refl, ap (prepared raw) (inverse-only (take 144 raw) n m h g))
-prepares-unique raw old a b s t (accepts n e h) (no-inverse f k) = absurd (not-both 12 (entry (take 144 raw)) (entry n) (h .inverse) k)
+prepares-unique raw old a b s t (accepts n e h) (accepts m f g) = (refl, ap (prepared raw) (inverse-only (rawMatrix raw) n m h g))
+prepares-unique raw old a b s t (accepts n e h) (no-inverse f k) = absurd (not-both 12 (entry (rawMatrix raw)) (entry n) (h .inverse) k)
 prepares-unique raw old a b s t (accepts n e h) (refuses r f) = absurd (not-refused r (sym f ∙ e))
-prepares-unique raw old a b s t (no-inverse e k) (accepts n f h) = absurd (not-both 12 (entry (take 144 raw)) (entry n) (h .inverse) k)
+prepares-unique raw old a b s t (no-inverse e k) (accepts n f h) = absurd (not-both 12 (entry (rawMatrix raw)) (entry n) (h .inverse) k)
 prepares-unique raw old a b s t (no-inverse e k) (no-inverse f l) = (refl, refl)
 prepares-unique raw old a b s t (no-inverse e k) (refuses r f) = absurd (not-refused r (sym f ∙ e))
 prepares-unique raw old a b s t (refuses r e) (accepts n f h) = absurd (not-refused r (sym e ∙ f))
@@ -263,10 +263,10 @@ prepares-unique raw old a b s t (refuses r e) (no-inverse f k) = absurd (not-ref
 prepares-unique raw old a b s t (refuses r e) (refuses q f) = (sym e ∙ f, refl)
 
 -- 3 exactly where the tests accept and M takes some non-zero column to all zeros
-pub no-inverse-exact : (raw old new : List ℕ) (a : Answer) → Prepares raw old a new → (a ≡ Refused NoInverse) ↔ ((rawTest raw (length old) ≡ Accepted) × Kernel 12 (entry (take 144 raw)))
+pub no-inverse-exact : (raw old new : List ℕ) (a : Answer) → Prepares raw old a new → (a ≡ Refused NoInverse) ↔ ((rawTest raw (length old) ≡ Accepted) × Kernel 12 (entry (rawMatrix raw)))
 no-inverse-exact raw old new a h = (to a new h, λ g. prepares-unique raw old a (Refused NoInverse) new old h (no-inverse (g .0) (g .1)) .0)
   where
-    to : (b : Answer) (s : List ℕ) → Prepares raw old b s → b ≡ Refused NoInverse → (rawTest raw (length old) ≡ Accepted) × Kernel 12 (entry (take 144 raw))
+    to : (b : Answer) (s : List ℕ) → Prepares raw old b s → b ≡ Refused NoInverse → (rawTest raw (length old) ≡ Accepted) × Kernel 12 (entry (rawMatrix raw))
     to b s (accepts n t i) e = absurd (not-refused _ (sym e))
     to b s (no-inverse t k) e = (t, k)
     to b s (refuses r t) e = absurd (raw-not-3 raw (length old) (t ∙ e))

@@ -24,7 +24,7 @@ pub const WORDS: usize = RAW_WORDS + MATRIX_WORDS;
 // Where K_0 stands in a prepared table.
 const CONSTANTS: usize = 2 * MATRIX_WORDS;
 
-// M. This and the five functions below read the parts of a prepared table, so that no other crate knows where they stand.
+// M. Where the parts of a prepared table stand, only this and the functions down to `second_step_constant` know.
 pub fn matrix(table: &[u64]) -> &[u64]
     requires { ⌜ length (now table) ≡ tableWords ⌝ }
     ensures { λ r. ⌜ now r ≡ matrixOf (now (table .entry)) ⌝ }

@@ -15,7 +15,8 @@ use Rattle.hash.proofs.opening.Statement.{statement}
 use Rattle.hash.proofs.opening.Tie as tie
 
 abbrev Inv-loop : tie.InvT-loop
-Inv-loop table input out₀ j₀ out j = (j ≤ 12) × (length out ≡ 12) × (out ≡ filled j (λ i. add (cell input i) (cell (initialConstant table) i)) out₀)
+Inv-loop table input out₀ j₀ out j =
+    (j ≤ 12) × (length out ≡ 12) × (out ≡ filled j (λ i. add (cell input i) (cell (initialConstant table) i)) out₀)
 
 abbrev μ-loop : tie.MeasureT-loop
 μ-loop table input out₀ j₀ out j = 12 - j
@@ -23,14 +24,14 @@ abbrev μ-loop : tie.MeasureT-loop
 loop-holds : tie.Need-loop-holds Inv-loop μ-loop
 loop-holds c = (omega arith, refl, filled-none _ _)
 
-mul-t8 : tie.Need-mul-t8 Inv-loop μ-loop
-mul-t8 c = search needs
-
-array-read-t11 : tie.Need-array-read-t11 Inv-loop μ-loop
-array-read-t11 c = search needs
-
 initial-constant-requires : tie.Need-initial-constant-requires Inv-loop μ-loop
 initial-constant-requires c κs = search needs
+
+mul-t9 : tie.Need-mul-t9 Inv-loop μ-loop
+mul-t9 c = search needs
+
+array-read-t12 : tie.Need-array-read-t12 Inv-loop μ-loop
+array-read-t12 c = search needs
 
 add-requires : tie.Need-add-requires Inv-loop μ-loop
 add-requires c κs =
@@ -66,9 +67,9 @@ opening-spec =
     Inv-loop
     μ-loop
     loop-holds
-    mul-t8
-    array-read-t11
     initial-constant-requires
+    mul-t9
+    array-read-t12
     add-requires
     mul-out
     array-write-out

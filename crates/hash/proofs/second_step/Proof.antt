@@ -16,15 +16,15 @@ cubes-requires c κs = search needs
 mix-requires : tie.Need-mix-requires
 mix-requires c κs = (c .before .before .pre .0, canonical-state (c .cubes .ensures) (cubes-state _))
 
-plus-second-requires : tie.Need-plus-second-requires
-plus-second-requires c κs = (c .before .before .before .pre .0, omega arith, canonical-state (c .mix .ensures) (mix-state _ _))
+plus-second-step-requires : tie.Need-plus-second-step-requires
+plus-second-step-requires c κs = (c .before .before .before .pre .0, omega arith, canonical-state (c .mix .ensures) (mix-state _ _))
 
 returns : tie.Need-returns
 unfolding secondStep
 returns c =
     let a = c .before .before .before .before .args in
     let k = secondStepConstant (a .table .now) (a .round) in
-    c .plus-second .ensures ∙ ap (λ s. plus s k) (c .before .mix .ensures ∙ ap (mix (a .table .now)) (c .before .before .cubes .ensures))
+    c .plus-second-step .ensures ∙ ap (λ s. plus s k) (c .before .mix .ensures ∙ ap (mix (a .table .now)) (c .before .before .cubes .ensures))
 
 pub second-step-spec : {M : Type 1} → statement M
 second-step-spec =
@@ -32,5 +32,5 @@ second-step-spec =
     (tie.spec
     cubes-requires
     mix-requires
-    plus-second-requires
+    plus-second-step-requires
     returns)

@@ -14,7 +14,9 @@ use Rattle.rows.proofs.plus_entering.Statement.{statement}
 use Rattle.rows.proofs.plus_entering.Tie as tie
 
 abbrev Inv-loop : tie.InvT-loop
-Inv-loop table s out₀ j₀ out j = (j ≤ 4) × (length s ≡ 12) × (length out ≡ 12) × (out ≡ filled j (λ i. add (cell s i) (cell (initialConstant table) i)) s)
+Inv-loop table s out₀ j₀ out j =
+    (j ≤ 4) × (length s ≡ 12) × (length out ≡ 12)
+    × (out ≡ filled j (λ i. add (cell s i) (cell (initialConstant table) i)) s)
 
 abbrev μ-loop : tie.MeasureT-loop
 μ-loop table s out₀ j₀ out j = 4 - j
@@ -24,14 +26,14 @@ loop-holds c =
     let g = c .before .good .1 .0 .1 .0 .1 in
     (omega arith, g, g, filled-none _ _)
 
-mul-t9 : tie.Need-mul-t9 Inv-loop μ-loop
-mul-t9 c = omega arith
-
-array-read-t12 : tie.Need-array-read-t12 Inv-loop μ-loop
-array-read-t12 c = omega arith
-
 initial-constant-requires : tie.Need-initial-constant-requires Inv-loop μ-loop
 initial-constant-requires c κs = search needs
+
+mul-t10 : tie.Need-mul-t10 Inv-loop μ-loop
+mul-t10 c = omega arith
+
+array-read-t13 : tie.Need-array-read-t13 Inv-loop μ-loop
+array-read-t13 c = omega arith
 
 add-requires : tie.Need-add-requires Inv-loop μ-loop
 add-requires c κs =
@@ -54,7 +56,7 @@ loop-again : tie.Need-loop-again Inv-loop μ-loop
 loop-again c =
     let l = c .before .before .before .loop in
     let v = c .add .ensures .0 ∙ ap (add _) (c .before .initial-constant .ensures .0) in
-    (omega arith, l .inv .1, simp length-set (l .inv .2), filled-more _ (l .j) (c .add .result .0) _ (l .out) (omega arith) v (l .inv .3))
+    (omega arith, l .inv .1, simp length-set (l .inv .2), filled-more _ (l .j) _ _ (l .out) (omega arith) v (l .inv .3))
 
 returns : tie.Need-returns Inv-loop μ-loop
 returns c =
@@ -69,9 +71,9 @@ plus-entering-spec =
     Inv-loop
     μ-loop
     loop-holds
-    mul-t9
-    array-read-t12
     initial-constant-requires
+    mul-t10
+    array-read-t13
     add-requires
     mul-out
     array-write-out

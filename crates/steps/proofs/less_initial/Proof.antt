@@ -14,7 +14,8 @@ use Rattle.steps.proofs.less_initial.Statement.{statement}
 use Rattle.steps.proofs.less_initial.Tie as tie
 
 abbrev Inv-loop : tie.InvT-loop
-Inv-loop table s out₀ j₀ out j = (j ≤ 12) × (length out ≡ 12) × (out ≡ filled j (λ i. sub (cell s i) (cell (initialConstant table) i)) out₀)
+Inv-loop table s out₀ j₀ out j =
+    (j ≤ 12) × (length out ≡ 12) × (out ≡ filled j (λ i. sub (cell s i) (cell (initialConstant table) i)) out₀)
 
 abbrev μ-loop : tie.MeasureT-loop
 μ-loop table s out₀ j₀ out j = 12 - j
@@ -22,14 +23,14 @@ abbrev μ-loop : tie.MeasureT-loop
 loop-holds : tie.Need-loop-holds Inv-loop μ-loop
 loop-holds c = (omega arith, refl, filled-none _ _)
 
-mul-t8 : tie.Need-mul-t8 Inv-loop μ-loop
-mul-t8 c = search needs
-
-array-read-t11 : tie.Need-array-read-t11 Inv-loop μ-loop
-array-read-t11 c = search needs
-
 initial-constant-requires : tie.Need-initial-constant-requires Inv-loop μ-loop
 initial-constant-requires c κs = search needs
+
+mul-t9 : tie.Need-mul-t9 Inv-loop μ-loop
+mul-t9 c = search needs
+
+array-read-t12 : tie.Need-array-read-t12 Inv-loop μ-loop
+array-read-t12 c = search needs
 
 sub-requires : tie.Need-sub-requires Inv-loop μ-loop
 sub-requires c κs =
@@ -64,9 +65,9 @@ less-initial-spec =
     Inv-loop
     μ-loop
     loop-holds
-    mul-t8
-    array-read-t11
     initial-constant-requires
+    mul-t9
+    array-read-t12
     sub-requires
     mul-out
     array-write-out

@@ -1,6 +1,7 @@
 -- `steps::second_step` meets its contract.
 -- Assumes nothing.
 use mathlib.Core.Path.{_≡_, refl, ap, _∙_}
+use mathlib.Core.List.{List}
 use Prim.Native.Nat.{ℕ, _+_, _*_, _-_, _≤_}
 use native.Mathlib.Omega.{arith}
 use borrow.Author.Needs.{needs}
@@ -14,8 +15,14 @@ use Rattle.steps.proofs.Made.{inner, forward-is, plus-word, second-made
 use Rattle.steps.proofs.second_step.Statement.{statement}
 use Rattle.steps.proofs.second_step.Tie as tie
 
+-- what the loop stores in column n
+abbrev sums : List ℕ → List ℕ → ℕ → List ℕ → ℕ → ℕ
+sums ready table round cubed n = add (inner ready cubed n) (cell (secondStepConstant table round) n)
+
 abbrev Inv-loop : tie.InvT-loop
-Inv-loop ready table round count cubed excess out₀ i₀ out i = (i ≤ count) × (length out ≡ 12) × (out ≡ filled i (λ n. add (inner ready cubed n) (cell (secondStepConstant table round) n)) out₀)
+Inv-loop ready table round count cubed excess out₀ i₀ out i =
+    (i ≤ count) × (length out ≡ 12)
+    × (out ≡ filled i (sums ready table round cubed) out₀)
 
 abbrev μ-loop : tie.MeasureT-loop
 μ-loop ready table round count cubed excess out₀ i₀ out i = count - i
@@ -78,9 +85,12 @@ loop-again c =
     let q = l .loop in
     let a = l .before .before .before .before .before .before in
     let cubed = l .before .before .before .thin-cubes .result in
-    let f : ℕ → ℕ = λ n. add (inner (a .args .ready .now) cubed n) (cell (secondStepConstant (a .args .table .now) (a .args .round)) n) in
-    let e = plus-word (y .cell-plus .result) (inner (a .args .ready .now) cubed (q .i)) (y .cell-plus .ensures .0) (y .before .before .second-step-constant .ensures .0) in
-    let v : c .less-once .result ≡ f (q .i) = made-canonical (f (q .i)) (y .cell-plus .result) (c .less-once .result) (y .cell-plus .ensures .1) e (c .less-once .ensures) .0 in
+    let f : ℕ → ℕ = sums (a .args .ready .now) (a .args .table .now) (a .args .round) cubed in
+    let k = y .before .before .second-step-constant in
+    let w = y .cell-plus in
+    let e = plus-word (w .result) (inner (a .args .ready .now) cubed (q .i)) (w .ensures .0) (k .ensures .0) in
+    let v : c .less-once .result ≡ f (q .i) =
+    made-canonical (f (q .i)) (w .result) (c .less-once .result) (w .ensures .1) e (c .less-once .ensures) .0 in
     (omega arith, length-set (q .out) (q .i) (c .less-once .result) ∙ q .inv .1, filled-more f (q .i) (c .less-once .result) _ (q .out) (omega arith) v (q .inv .2))
 
 returns : tie.Need-returns Inv-loop μ-loop
@@ -89,7 +99,7 @@ returns c =
     let q = l .before .before .before in
     let a = q .before .before .before in
     let e : l .loop .i ≡ a .args .count = omega arith in
-    let f : ℕ → ℕ = λ n. add (inner (a .args .ready .now) (q .thin-cubes .result) n) (cell (secondStepConstant (a .args .table .now) (a .args .round)) n) in
+    let f : ℕ → ℕ = sums (a .args .ready .now) (a .args .table .now) (a .args .round) (q .thin-cubes .result) in
     second-made (a .args .table .now) (a .args .ready .now) (a .args .s) (q .thin-cubes .result) (l .loop .out) (a .args .round) (a .args .count) (a .pre .4) (a .pre .1) (q .thin-cubes .ensures .0) (l .loop .inv .2 ∙ ap (λ n. filled n f (replicate 12 0)) e)
 
 pub second-step-spec : {M : Type 1} → statement M

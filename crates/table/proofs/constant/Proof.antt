@@ -27,8 +27,10 @@ shared-slice-read-result c = search needs
 returns : tie.Need-returns
 returns c =
     let s = c .before in
-    let a = s .args in
-    (sym (cell-constant (a .table .now) (a .n) (a .column) (s .pre .2)), s .pre .0 .canonical (2 * matrixWords + 12 * a .n + a .column) (omega arith))
+    let a = s .args in (
+      sym (cell-constant (a .table .now) (a .n) (a .column) (s .pre .2)),
+      s .pre .0 .canonical (2 * matrixWords + 12 * a .n + a .column) (omega arith),
+    )
 
 pub constant-spec : {M : Type 1} → statement M
 constant-spec =

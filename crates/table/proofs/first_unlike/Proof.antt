@@ -42,8 +42,12 @@ product-columns-requires c κs =
     )
 
 -- the product's cells are those of M times the stored inverse
-multiplied : (c : tie.After-product-columns Inv-loop μ-loop) → c .product-columns .result ≡ tab matrixWords (byColumns (matrixOf (c .before .before .before .before .args .table .now)) (inverseOf (c .before .before .before .before .args .table .now)))
-multiplied c = c .product-columns .ensures ∙ ap₂ (λ m n. tab matrixWords (byColumns m n)) (c .before .before .matrix .ensures) (c .before .inverse .ensures)
+multiplied : (c : tie.After-product-columns Inv-loop μ-loop)
+    → let t = c .before .before .before .before .args .table .now in
+    c .product-columns .result ≡ tab matrixWords (byColumns (matrixOf t) (inverseOf t))
+multiplied c =
+    c .product-columns .ensures
+    ∙ ap₂ (λ m n. tab matrixWords (byColumns m n)) (c .before .before .matrix .ensures) (c .before .inverse .ensures)
 
 loop-holds : tie.Need-loop-holds Inv-loop μ-loop
 loop-holds c =

@@ -7,7 +7,7 @@ use lib.ListN.{length}
 use Rattle.lists.proofs.Tab.{length-part}
 use Rattle.words.proofs.Laws.{good-all}
 use Rattle.refusals.specs.declared.Answer.the-variants.{Accepted}
-use Rattle.table.specs.Table.{rawTest, RawInverse, refuses}
+use Rattle.table.specs.Table.{rawWords, rawTest, RawInverse, refuses}
 use Rattle.table.proofs.Parts.{part-canonical}
 use Rattle.table.proofs.Prepared.{wrong-length, wrong-room, wrong-word, raw-accepted, without, inverted, written}
 use borrow.Author.Needs.{needs}
@@ -55,7 +55,7 @@ invert-requires : tie.Need-invert-requires
 invert-requires c κs =
     let e = c .before .before in
     let raw = e .before .before .before .before .before .before .args .raw .now in
-    let size : length raw ≡ 396 = e .before .before .before .if1 .left in
+    let size : length raw ≡ rawWords = e .before .before .before .if1 .left in
     (length-part raw 0 144 (omega arith), part-canonical raw 0 144 (omega arith) (good-all raw (sym (e .before .first-bad .ensures) ∙ e .if3 .left ∙ sym size)), refl)
 
 returns-4 : tie.Need-returns-4

@@ -6,7 +6,7 @@ use native.Mathlib.Omega.{arith}
 use lib.ListN.{length, length-set}
 use Rattle.lists.specs.Lists.{cell}
 use Rattle.lists.proofs.Tab.{filled, filled-none, filled-more, filled-all, tab-cell}
-use Rattle.table.specs.Table.{prepared}
+use Rattle.table.specs.Table.{tableWords, prepared}
 use Rattle.table.proofs.Prepared.{length-prepared}
 use borrow.Author.Needs.{needs}
 use Rattle.table.proofs.write.Statement.{statement}
@@ -14,11 +14,11 @@ use Rattle.table.proofs.write.Tie as tie
 
 abbrev Inv-loop : tie.InvT-loop
 Inv-loop raw n destination₀ t₀ destination t =
-    (t ≤ 540) × (length destination ≡ 540) × (destination ≡ filled t (cell (prepared raw n)) destination₀)
+    (t ≤ tableWords) × (length destination ≡ tableWords) × (destination ≡ filled t (cell (prepared raw n)) destination₀)
 
 abbrev μ-loop : tie.MeasureT-loop
 μ-loop raw n destination₀ t₀ destination t =
-    540 - t
+    tableWords - t
 
 loop-holds : tie.Need-loop-holds Inv-loop μ-loop
 loop-holds c =
@@ -55,8 +55,8 @@ returns : tie.Need-returns Inv-loop μ-loop
 returns c =
     let s = c .before .before .before .before in
     let l = c .before .loop in
-    let e : l .t ≡ 540 = omega arith in
-    l .inv .2 ∙ rw e (filled-all 540 _ _ (s .pre .2)) ∙ tab-cell 540 _ (length-prepared (s .args .raw .now) (s .args .n .now) (s .pre .0) (s .pre .1))
+    let e : l .t ≡ tableWords = omega arith in
+    l .inv .2 ∙ rw e (filled-all tableWords _ _ (s .pre .2)) ∙ tab-cell tableWords _ (length-prepared (s .args .raw .now) (s .args .n .now) (s .pre .0) (s .pre .1))
 
 pub write-spec : {M : Type 1} → statement M
 write-spec =

@@ -1,20 +1,22 @@
--- `hash::plus_first` meets its contract: the cells passed are filled with the sums.
+-- `steps::less_first_step` meets its contract: the cells passed are the differences.
 -- Assumes nothing.
-use mathlib.Core.Path.{_≡_, refl, ap, _∙_}
+use mathlib.Core.Path.{_≡_, refl, sym, ap, _∙_, subst}
 use Prim.Native.Nat.{_-_, _≤_}
 use native.Mathlib.Omega.{arith}
 use borrow.Author.Needs.{needs}
 use lib.ListN.{length, length-set}
 use Rattle.lists.specs.Lists.{cell}
 use Rattle.lists.proofs.Tab.{filled, filled-none, filled-more}
-use Rattle.field.specs.Field.{add}
+use Rattle.field.specs.Field.{sub}
+use Rattle.words.specs.Words.{CanonicalTo}
 use Rattle.table.specs.Table.{firstStepConstant}
-use Rattle.hash.proofs.CodeStates.{plus-filled}
-use Rattle.hash.proofs.plus_first.Statement.{statement}
-use Rattle.hash.proofs.plus_first.Tie as tie
+use Rattle.steps.proofs.Differences.{minus-canonical, minus-filled}
+use Rattle.steps.proofs.less_first_step.Statement.{statement}
+use Rattle.steps.proofs.less_first_step.Tie as tie
 
 abbrev Inv-loop : tie.InvT-loop
-Inv-loop table round s out₀ j₀ out j = (j ≤ 12) × (length out ≡ 12) × (out ≡ filled j (λ i. add (cell s i) (cell (firstStepConstant table round) i)) out₀)
+Inv-loop table round s out₀ j₀ out j =
+    (j ≤ 12) × (length out ≡ 12) × (out ≡ filled j (λ i. sub (cell s i) (cell (firstStepConstant table round) i)) out₀)
 
 abbrev μ-loop : tie.MeasureT-loop
 μ-loop table round s out₀ j₀ out j = 12 - j
@@ -22,17 +24,17 @@ abbrev μ-loop : tie.MeasureT-loop
 loop-holds : tie.Need-loop-holds Inv-loop μ-loop
 loop-holds c = (omega arith, refl, filled-none _ _)
 
-mul-t9 : tie.Need-mul-t9 Inv-loop μ-loop
-mul-t9 c = search needs
-
-array-read-t12 : tie.Need-array-read-t12 Inv-loop μ-loop
-array-read-t12 c = search needs
-
 first-step-constant-requires : tie.Need-first-step-constant-requires Inv-loop μ-loop
 first-step-constant-requires c κs = search needs
 
-add-requires : tie.Need-add-requires Inv-loop μ-loop
-add-requires c κs =
+mul-t10 : tie.Need-mul-t10 Inv-loop μ-loop
+mul-t10 c = search needs
+
+array-read-t13 : tie.Need-array-read-t13 Inv-loop μ-loop
+array-read-t13 c = search needs
+
+sub-requires : tie.Need-sub-requires Inv-loop μ-loop
+sub-requires c κs =
     let a = c .before .before .before .before in
     (a .pre .2 _ (omega arith), c .first-step-constant .ensures .1)
 
@@ -51,23 +53,25 @@ loop-less c = search needs
 loop-again : tie.Need-loop-again Inv-loop μ-loop
 loop-again c =
     let l = c .before .before .before .loop in
-    let v = c .add .ensures .0 ∙ ap (add _) (c .before .first-step-constant .ensures .0) in
+    let v = c .sub .ensures .0 ∙ ap (sub _) (c .before .first-step-constant .ensures .0) in
     (omega arith, simp length-set (l .inv .1), filled-more _ (l .j) _ _ (l .out) (omega arith) v (l .inv .2))
 
 returns : tie.Need-returns Inv-loop μ-loop
-returns c = plus-filled _ _ (c .before .loop .j) (omega arith) (c .before .loop .inv .2)
+returns c =
+    let made = minus-filled _ _ (c .before .loop .j) (omega arith) (c .before .loop .inv .2) in
+    (made, subst (CanonicalTo 12) (sym made) (minus-canonical _ _))
 
-pub plus-first-spec : {M : Type 1} → statement M
-plus-first-spec =
+pub less-first-step-spec : {M : Type 1} → statement M
+less-first-step-spec =
     tie.close
     (tie.spec
     Inv-loop
     μ-loop
     loop-holds
-    mul-t9
-    array-read-t12
     first-step-constant-requires
-    add-requires
+    mul-t10
+    array-read-t13
+    sub-requires
     mul-out
     array-write-out
     add-j

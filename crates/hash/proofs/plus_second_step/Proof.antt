@@ -1,4 +1,4 @@
--- `hash::plus_second` meets its contract: the cells passed are filled with the sums.
+-- `hash::plus_second_step` meets its contract: the cells passed are filled with the sums.
 -- Assumes nothing.
 use mathlib.Core.Path.{_≡_, refl, ap, _∙_}
 use Prim.Native.Nat.{_-_, _≤_}
@@ -10,11 +10,12 @@ use Rattle.lists.proofs.Tab.{filled, filled-none, filled-more}
 use Rattle.field.specs.Field.{add}
 use Rattle.table.specs.Table.{secondStepConstant}
 use Rattle.hash.proofs.CodeStates.{plus-filled}
-use Rattle.hash.proofs.plus_second.Statement.{statement}
-use Rattle.hash.proofs.plus_second.Tie as tie
+use Rattle.hash.proofs.plus_second_step.Statement.{statement}
+use Rattle.hash.proofs.plus_second_step.Tie as tie
 
 abbrev Inv-loop : tie.InvT-loop
-Inv-loop table round s out₀ j₀ out j = (j ≤ 12) × (length out ≡ 12) × (out ≡ filled j (λ i. add (cell s i) (cell (secondStepConstant table round) i)) out₀)
+Inv-loop table round s out₀ j₀ out j =
+    (j ≤ 12) × (length out ≡ 12) × (out ≡ filled j (λ i. add (cell s i) (cell (secondStepConstant table round) i)) out₀)
 
 abbrev μ-loop : tie.MeasureT-loop
 μ-loop table round s out₀ j₀ out j = 12 - j
@@ -22,14 +23,14 @@ abbrev μ-loop : tie.MeasureT-loop
 loop-holds : tie.Need-loop-holds Inv-loop μ-loop
 loop-holds c = (omega arith, refl, filled-none _ _)
 
-mul-t9 : tie.Need-mul-t9 Inv-loop μ-loop
-mul-t9 c = search needs
-
-array-read-t12 : tie.Need-array-read-t12 Inv-loop μ-loop
-array-read-t12 c = search needs
-
 second-step-constant-requires : tie.Need-second-step-constant-requires Inv-loop μ-loop
 second-step-constant-requires c κs = search needs
+
+mul-t10 : tie.Need-mul-t10 Inv-loop μ-loop
+mul-t10 c = search needs
+
+array-read-t13 : tie.Need-array-read-t13 Inv-loop μ-loop
+array-read-t13 c = search needs
 
 add-requires : tie.Need-add-requires Inv-loop μ-loop
 add-requires c κs =
@@ -57,16 +58,16 @@ loop-again c =
 returns : tie.Need-returns Inv-loop μ-loop
 returns c = plus-filled _ _ (c .before .loop .j) (omega arith) (c .before .loop .inv .2)
 
-pub plus-second-spec : {M : Type 1} → statement M
-plus-second-spec =
+pub plus-second-step-spec : {M : Type 1} → statement M
+plus-second-step-spec =
     tie.close
     (tie.spec
     Inv-loop
     μ-loop
     loop-holds
-    mul-t9
-    array-read-t12
     second-step-constant-requires
+    mul-t10
+    array-read-t13
     add-requires
     mul-out
     array-write-out
