@@ -19,7 +19,7 @@ use Rattle.elements.proofs.Words.{bytes-unique}
 use Rattle.elements.proofs.Laws.{length-words}
 use Rattle.elements.proofs.Round.{read-accepted, read-back, words-back, length-elements, elements-append, elements-canonical}
 use Rattle.board.specs.Board.{mostFileBatches, countWord, fileOf, batchesIn, claimIn, tapsIn, IsBoard}
-use Rattle.board.proofs.Cases.{batches-is}
+use Rattle.board.proofs.Answers.{batches-is}
 use Rattle.board.proofs.Files as files
 
 -- ---- the file of canonical taps and a canonical claim is a board file, and is read as those

@@ -20,7 +20,7 @@ use Rattle.elements.specs.Elements.{elementAt}
 use Rattle.elements.proofs.Laws.{no-word}
 use Rattle.elements.proofs.Tests.{too-large, first-refused}
 use Rattle.board.specs.Board.{mostFileBatches, fileOf, packTest, packed, batchesIn, claimIn, tapsIn, unpackAnswer, IsBoard, ReadTo}
-use Rattle.board.proofs.Cases.{pack-accepted, pack-complete, unpack-accepted, unpack-complete, unpack-elements, unpack-returns, unpack-refuses, returned}
+use Rattle.board.proofs.Answers.{pack-accepted, pack-complete, unpack-accepted, unpack-complete, unpack-elements, unpack-returns, unpack-refuses, returned}
 use Rattle.board.proofs.Files as files
 use Rattle.board.proofs.Round.{packed-board, packed-claim, packed-taps, board-packs, board-canonical, claim-is, taps-length}
 

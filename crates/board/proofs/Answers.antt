@@ -1,11 +1,10 @@
--- What Pack and Unpack answer, case by case in the order of their tests, and what acceptance says.
+-- What Pack's and Unpack's tests say where they accept, and that they accept what passes each of them.
 -- Assumes nothing.
 use mathlib.Core.Path.{_≡_, sym, ap, _∙_}
-use mathlib.Core.Bool.{true, false}
 use mathlib.Core.List.{List}
-use Prim.Native.Nat.{ℕ, _+_, _*_, _<_, _≤_}
+use Prim.Native.Nat.{ℕ, _+_, _*_, _≤_}
 use native.Mathlib.Omega.{arith}
-use borrow.Author.Tests.{eq-eqb, ne-eqb, eqb-true, le-leb, lt-leb}
+use borrow.Author.Tests.{eq-eqb, eqb-true, le-leb}
 use lib.Dec.{eqb, leb}
 use lib.ListN.{length}
 use Rattle.words.specs.Words.{AllCanonical, firstBad, canonicalWords}
@@ -14,7 +13,8 @@ use Rattle.counts.specs.Counts.{IsPermittedTo, permitted, tapWordBatches, isTap
 use Rattle.counts.proofs.Laws.{permitted-sound, permitted-complete, tap-length-sound, tap-length-complete}
 use Rattle.refusals.specs.Refusals.{digest}
 use Rattle.refusals.specs.declared.Refusal.{Refusal}
-use Rattle.refusals.specs.declared.Refusal.the-variants.{TapLength, TapWord, DestinationLength, ClaimWord, FileLength, WrongKind, WrongValue}
+use Rattle.refusals.specs.declared.Refusal.the-variants.{TapLength, TapWord, DestinationLength, ClaimWord}
+use Rattle.refusals.specs.declared.Refusal.the-variants.{FileLength, WrongKind, WrongValue}
 use Rattle.refusals.specs.declared.Answer.the-variants.{Accepted, Refused}
 use Rattle.refusals.specs.declared.Digest.{Digest}
 use Rattle.refusals.specs.declared.DigestAnswer.the-variants as digest-answer
@@ -22,34 +22,12 @@ use Rattle.refusals.proofs.Laws.{passed, both-accepted, digest-accepted}
 use Rattle.elements.specs.Words.{kindOf, wordAt}
 use Rattle.elements.specs.Elements.{elementsTest}
 use Rattle.elements.proofs.Tests.{each-accepted, all-accepted}
-use Rattle.board.specs.Board.{mostFileBatches, countWord, fileSize, packTest, packed, packLeaves, countIn, spareIn, batchesIn, claimIn, tapsIn, countTest, unpackTest, unpackAnswer, unpackLeaves, IsBoard}
+use Rattle.board.specs.Board.{mostFileBatches, countWord, fileSize, packTest}
+use Rattle.board.specs.Board.{countIn, spareIn, batchesIn, claimIn, countTest, unpackTest, unpackAnswer, IsBoard}
 
 -- ---- Pack
-module _ (taps claim : List ℕ) (size : ℕ) where
-  pub pack-length : isTapLength mostFileBatches (length taps) ≡ false → packTest taps claim size ≡ Refused TapLength
-  unfolding packTest
-  pack-length e = rw e
 
-  module _ (e : isTapLength mostFileBatches (length taps) ≡ true) where
-    pub pack-destination : (size ≡ fileSize (tapWordBatches (length taps)) → ⊥) → packTest taps claim size ≡ Refused DestinationLength
-    unfolding packTest
-    pack-destination s = rw (e, ne-eqb _ _ s)
-
-    module _ (s : size ≡ fileSize (tapWordBatches (length taps))) where
-      pub pack-claim : canonicalWords claim ≡ false → packTest taps claim size ≡ Refused (ClaimWord (firstBad claim))
-      unfolding packTest
-      pack-claim c = rw (e, eq-eqb _ _ s, c)
-
-      module _ (c : canonicalWords claim ≡ true) where
-        pub pack-tap : canonicalWords taps ≡ false → packTest taps claim size ≡ Refused (TapWord (firstBad taps))
-        unfolding packTest
-        pack-tap t = rw (e, eq-eqb _ _ s, c, t)
-
-        pub pack-accepts : canonicalWords taps ≡ true → packTest taps claim size ≡ Accepted
-        unfolding packTest
-        pack-accepts t = rw (e, eq-eqb _ _ s, c, t)
-
--- what Pack's acceptance says of taps, claim and the destination's length
+-- what its acceptance says of taps, claim and the destination's length
 pub record IsPacked (taps claim : List ℕ) (size k : ℕ) : Type 0 where
   pub permitted : IsPermittedTo mostFileBatches k
   pub taps-size : length taps ≡ 12 * k + 4
@@ -75,39 +53,13 @@ pack-accepted taps claim size e =
     }
 
 pub pack-complete : (taps claim : List ℕ) (size k : ℕ) → IsPacked taps claim size k → packTest taps claim size ≡ Accepted
+unfolding packTest
 pack-complete taps claim size k h =
     let t = tap-length-complete mostFileBatches (length taps) k (h .taps-size) (h .permitted) in
     let s = h .size-is ∙ sym (ap fileSize (t .1)) in
-    pack-accepts taps claim size (t .0) s (test-good claim (h .claim-canonical)) (test-good taps (h .taps-canonical))
-
--- Pack's answer, with what is left in the destination
-module _ (taps claim old : List ℕ) where
-  pub pack-turned-back : {r : Refusal} → packTest taps claim (length old) ≡ Refused r
-      → (Refused r ≡ packTest taps claim (length old)) × (old ≡ packLeaves taps claim old)
-  unfolding packLeaves
-  pack-turned-back e = (sym e, rw e)
-
-  pub pack-written : {new : List ℕ} → packTest taps claim (length old) ≡ Accepted → new ≡ packed taps claim
-      → (Accepted ≡ packTest taps claim (length old)) × (new ≡ packLeaves taps claim old)
-  unfolding packLeaves
-  pack-written e q = (sym e, q ∙ rw e)
+    rw (t .0, eq-eqb _ _ s, test-good claim (h .claim-canonical), test-good taps (h .taps-canonical))
 
 -- ---- word 0
-pub count-kind : (w : ℕ) → (kindOf w ≡ 0 → ⊥) → countTest w ≡ Refused (WrongKind 0)
-unfolding countTest
-count-kind w a = rw (ne-eqb _ _ a)
-
-pub count-spare : (w : ℕ) → kindOf w ≡ 0 → (spareIn w ≡ 0 → ⊥) → countTest w ≡ Refused (WrongValue 0)
-unfolding countTest
-count-spare w a b = rw (eq-eqb _ _ a, ne-eqb _ _ b)
-
-pub count-value : (w : ℕ) → kindOf w ≡ 0 → spareIn w ≡ 0 → permitted mostFileBatches (countIn w) ≡ false → countTest w ≡ Refused (WrongValue 0)
-unfolding countTest
-count-value w a b p = rw (eq-eqb _ _ a, eq-eqb _ _ b, p)
-
-pub count-accepts : (w : ℕ) → kindOf w ≡ 0 → spareIn w ≡ 0 → permitted mostFileBatches (countIn w) ≡ true → countTest w ≡ Accepted
-unfolding countTest
-count-accepts w a b p = rw (eq-eqb _ _ a, eq-eqb _ _ b, p)
 
 -- word 0 is accepted exactly where it is the count word of a permitted k
 pub count-accepted : (w : ℕ) → countTest w ≡ Accepted → (w ≡ countWord (countIn w)) × IsPermittedTo mostFileBatches (countIn w)
@@ -119,34 +71,22 @@ count-accepted w e =
     (omega (arith, eqb-true (kindOf w) 0 (a .0), eqb-true (spareIn w) 0 (b .0)), permitted-sound mostFileBatches (countIn w) (c .0))
 
 pub count-complete : (k : ℕ) → IsPermittedTo mostFileBatches k → (countIn (countWord k) ≡ k) × (countTest (countWord k) ≡ Accepted)
+unfolding countTest
 count-complete k p =
     let k-is : countIn (countWord k) ≡ k = omega (arith, p .high) in
-    (k-is, count-accepts (countWord k) (omega (arith, p .high)) (omega (arith, p .high)) (ap (permitted mostFileBatches) k-is ∙ permitted-complete mostFileBatches k p))
+    let kind : kindOf (countWord k) ≡ 0 = omega (arith, p .high) in
+    let spare : spareIn (countWord k) ≡ 0 = omega (arith, p .high) in
+    let right = ap (permitted mostFileBatches) k-is ∙ permitted-complete mostFileBatches k p in
+    (k-is, rw (eq-eqb _ _ kind, eq-eqb _ _ spare, right))
 
 -- ---- Unpack
-module _ (file : List ℕ) (size : ℕ) where
-  pub unpack-short : length file < 4 → unpackTest file size ≡ Refused FileLength
-  unfolding unpackTest
-  unpack-short h = rw (lt-leb _ _ h)
 
-  module _ (h : 4 ≤ length file) where
-    pub unpack-count : (r : Refusal) → countTest (wordAt file 0) ≡ Refused r → unpackTest file size ≡ Refused r
-    unfolding unpackTest
-    unpack-count r e = rw (le-leb _ _ h, e)
-
-    module _ (e : countTest (wordAt file 0) ≡ Accepted) where
-      pub unpack-length : (length file ≡ fileSize (batchesIn file) → ⊥) → unpackTest file size ≡ Refused FileLength
-      unfolding unpackTest
-      unpack-length l = rw (le-leb _ _ h, e, ne-eqb _ _ l)
-
-      module _ (l : length file ≡ fileSize (batchesIn file)) where
-        pub unpack-destination : (size ≡ 12 * batchesIn file + 4 → ⊥) → unpackTest file size ≡ Refused DestinationLength
-        unfolding unpackTest
-        unpack-destination s = rw (le-leb _ _ h, e, eq-eqb _ _ l, ne-eqb _ _ s)
-
-        pub unpack-elements : size ≡ 12 * batchesIn file + 4 → unpackTest file size ≡ elementsTest file 1 (12 * batchesIn file + 8)
-        unfolding unpackTest
-        unpack-elements s = rw (le-leb _ _ h, e, eq-eqb _ _ l, eq-eqb _ _ s)
+-- once word 0 and the lengths have passed, the elements decide
+pub unpack-elements : (file : List ℕ) (size : ℕ) → 4 ≤ length file → countTest (wordAt file 0) ≡ Accepted
+    → length file ≡ fileSize (batchesIn file) → size ≡ 12 * batchesIn file + 4
+    → unpackTest file size ≡ elementsTest file 1 (12 * batchesIn file + 8)
+unfolding unpackTest
+unpack-elements file size h e l s = rw (le-leb _ _ h, e, eq-eqb _ _ l, eq-eqb _ _ s)
 
 pub unpack-accepted : (file : List ℕ) (size : ℕ) → unpackTest file size ≡ Accepted → IsBoard file (batchesIn file) × (size ≡ 12 * batchesIn file + 4)
 unfolding unpackTest batchesIn
@@ -184,18 +124,6 @@ unpack-returns file size e = rw e
 pub unpack-refuses : (file : List ℕ) (size : ℕ) (r : Refusal) → unpackTest file size ≡ Refused r → unpackAnswer file size ≡ digest-answer.Refused r
 unfolding unpackAnswer
 unpack-refuses file size r e = rw e
-
--- with what is left in the destination
-module _ (file old : List ℕ) where
-  pub unpack-turned-back : {r : Refusal} → unpackTest file (length old) ≡ Refused r
-      → (digest-answer.Refused r ≡ unpackAnswer file (length old)) × (old ≡ unpackLeaves file old)
-  unfolding unpackAnswer unpackLeaves
-  unpack-turned-back e = (rw e, rw e)
-
-  pub unpack-written : {new : List ℕ} → unpackTest file (length old) ≡ Accepted → new ≡ tapsIn file
-      → (digest-answer.Accepted (digest (claimIn file)) ≡ unpackAnswer file (length old)) × (new ≡ unpackLeaves file old)
-  unfolding unpackAnswer unpackLeaves
-  unpack-written e q = (rw e, q ∙ rw e)
 
 -- and conversely
 pub returned : (file : List ℕ) (size : ℕ) (d : Digest) → unpackAnswer file size ≡ digest-answer.Accepted d
