@@ -1,3 +1,3 @@
 pub mod WalkSteps
-pub mod AnswerLaws
+pub mod Answers
 pub mod Theorems

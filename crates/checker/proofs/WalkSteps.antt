@@ -2,86 +2,103 @@
 -- Assumes nothing.
 use mathlib.Core.Path.{_≡_, refl, sym, ap, _∙_}
 use mathlib.Core.Bool.{true, false}
-use mathlib.Core.List.{List, _++_}
+use mathlib.Core.List.{List, _∷_, _++_}
 use Prim.Native.Nat.{ℕ, zero, suc, _+_, _*_, _-_, _≤_, _<_}
-use native.Mathlib.Nat.{add-zero}
+use native.Mathlib.Nat.{add-zero, zero-add}
 use native.Mathlib.Omega.{arith}
+use lib.ListN.{length}
 use Rattle.refusals.specs.declared.Refusal.the-variants.{Constraint}
-use Rattle.refusals.specs.declared.Checked.{Checked}
-use Rattle.refusals.specs.declared.Checked.the-variants.{Accepted, Refused}
-use Rattle.constraints.specs.Constraints.{applies, holds, rowTests, testsFrom, tests, walk, verdict}
+use Rattle.refusals.specs.declared.TestsAnswer.{TestsAnswer}
+use Rattle.refusals.specs.declared.TestsAnswer.the-variants.{Accepted, Refused}
+use Rattle.refusals.specs.Answers.{testsAfter}
+use Rattle.constraints.specs.Constraints.{Test, applies, holds, rowTests, testsFrom, tests, walk, constraintTest}
 use Rattle.rowtests.proofs.SpanLaws.{Spans}
 
 module _ (T t claim : List ℕ) (k : ℕ) where
-  -- the verdict from row i on, with m rows left and n tests walked before
-  unfoldable pub rows : ℕ → ℕ → ℕ → Checked
-  rows i m n = walk T t claim (testsFrom k i m) n
+  -- what is answered in the end, where n tests are walked and xs are left
+  unfoldable pub left : List Test → ℕ → TestsAnswer
+  left xs n = testsAfter (walk T t claim xs n) (n + length xs)
 
-  -- the verdict from constraint c of row i on, with m rows after it
-  unfoldable pub left : ℕ → ℕ → ℕ → ℕ → Checked
-  left i c m n = walk T t claim (rowTests k i c (53 - c) ++ testsFrom k (i + 1) m) n
+  one-holds : (x : Test) (xs : List Test) (n : ℕ) → holds T t claim (x .at) (x .number) ≡ true → left (x ∷ xs) n ≡ left xs (n + 1)
+  unfolding left walk
+  one-holds x xs n e =
+      let z : n + suc (length xs) ≡ n + 1 + length xs = omega arith in
+      rw e (ap (testsAfter (walk T t claim xs (n + 1))) z)
 
-  pub start : rows 0 (32 * k) 0 ≡ verdict T t claim k
-  unfolding rows verdict tests
-  start = refl
+  one-fails : (x : Test) (xs : List Test) (n : ℕ) → holds T t claim (x .at) (x .number) ≡ false
+      → left (x ∷ xs) n ≡ Refused (Constraint (record { 0 = x .at }) (x .number) (n + 1))
+  unfolding left walk
+  one-fails x xs n e = rw e
+
+  -- from row i on, with m rows left
+  unfoldable pub rows : ℕ → ℕ → ℕ → TestsAnswer
+  rows i m n = left (testsFrom k i m) n
+
+  -- from constraint c of row i on, with m rows after it
+  unfoldable pub constraints : ℕ → ℕ → ℕ → ℕ → TestsAnswer
+  constraints i c m n = left (rowTests k i c (53 - c) ++ testsFrom k (i + 1) m) n
+
+  pub start : rows 0 (32 * k) 0 ≡ testsAfter (constraintTest T t claim k) (length (tests k))
+  unfolding left rows constraintTest tests
+  start = ap (testsAfter (walk T t claim (testsFrom k 0 (32 * k)) 0)) (zero-add (length (testsFrom k 0 (32 * k))))
 
   -- no row is left
   pub done : (i m n : ℕ) → m ≡ 0 → rows i m n ≡ Accepted n
-  unfolding rows testsFrom walk
-  done i m n e = rw e
+  unfolding left rows testsFrom walk
+  done i m n e = rw e (ap Accepted (add-zero n))
 
   module _ (i c m n : ℕ) (h : c ≤ 52) where
     one-more : 53 - c ≡ suc (53 - (c + 1))
     one-more = omega arith
 
-    pub skip : applies k i c ≡ false → left i c m n ≡ left i (c + 1) m n
-    unfolding left rowTests
+    pub skip : applies k i c ≡ false → constraints i c m n ≡ constraints i (c + 1) m n
+    unfolding constraints rowTests
     skip a = rw (one-more, a)
 
-    pub pass : applies k i c ≡ true → holds T t claim i c ≡ true → left i c m n ≡ left i (c + 1) m (n + 1)
-    unfolding left rowTests walk
-    pass a p = rw (one-more, a, p)
+    pub pass : applies k i c ≡ true → holds T t claim i c ≡ true → constraints i c m n ≡ constraints i (c + 1) m (n + 1)
+    unfolding constraints rowTests
+    pass a p = rw (one-more, a) (one-holds _ _ n p)
 
-    pub fail : applies k i c ≡ true → holds T t claim i c ≡ false → left i c m n ≡ Refused (Constraint (record { 0 = i }) c (n + 1))
-    unfolding left rowTests walk
-    fail a p = rw (one-more, a, p)
+    pub fail : applies k i c ≡ true → holds T t claim i c ≡ false → constraints i c m n ≡ Refused (Constraint (record { 0 = i }) c (n + 1))
+    unfolding constraints rowTests
+    fail a p = rw (one-more, a) (one-fails _ _ n p)
 
   -- constraints that do not apply are passed over
-  skip-some : (i c m n d : ℕ) → c + d ≤ 53 → ((e : ℕ) → c ≤ e → e < c + d → applies k i e ≡ false) → left i c m n ≡ left i (c + d) m n
-  skip-some i c m n zero l h = ap (λ x. left i x m n) (sym (add-zero c))
+  skip-some : (i c m n d : ℕ) → c + d ≤ 53 → ((e : ℕ) → c ≤ e → e < c + d → applies k i e ≡ false) → constraints i c m n ≡ constraints i (c + d) m n
+  skip-some i c m n zero l h = ap (λ x. constraints i x m n) (sym (add-zero c))
   skip-some i c m n (suc d) l h =
       skip i c m n (omega arith) (h c (omega arith) (omega arith))
       ∙ skip-some i (c + 1) m n d (omega arith) (λ e p q. h e (omega arith) (omega arith))
-      ∙ ap (λ x. left i x m n) one
+      ∙ ap (λ x. constraints i x m n) one
     where
       one : c + 1 + d ≡ c + suc d
       one = omega arith
 
-  whole-row : (i r n : ℕ) → i < r → rows i (r - i) n ≡ left i 1 (r - (i + 1)) n
-  unfolding left rows testsFrom
+  whole-row : (i r n : ℕ) → i < r → rows i (r - i) n ≡ constraints i 1 (r - (i + 1)) n
+  unfolding constraints rows testsFrom
   whole-row i r n h =
       let e : r - i ≡ suc (r - (i + 1)) = omega arith in
       rw e
 
-  row-over : (i m n : ℕ) → left i 53 m n ≡ rows (i + 1) m n
-  unfolding left rows rowTests
+  row-over : (i m n : ℕ) → constraints i 53 m n ≡ rows (i + 1) m n
+  unfolding constraints rows rowTests
   row-over i m n = refl
 
   module _ (i low high : ℕ) (s : Spans i low high) where
     -- a row begins with the lowest constraint of its span, and is over after the highest
-    pub enter : (r n : ℕ) → i < r → rows i (r - i) n ≡ left i low (r - (i + 1)) n
+    pub enter : (r n : ℕ) → i < r → rows i (r - i) n ≡ constraints i low (r - (i + 1)) n
     enter r n h =
         whole-row i r n h
         ∙ skip-some i 1 (r - (i + 1)) n (low - 1) (omega (arith, s .from-one, s .some, s .to-last)) (λ e p q. s .below k e (omega (arith, s .from-one)))
-        ∙ ap (λ x. left i x (r - (i + 1)) n) one
+        ∙ ap (λ x. constraints i x (r - (i + 1)) n) one
       where
         one : 1 + (low - 1) ≡ low
         one = omega (arith, s .from-one)
 
-    pub leave : (c m n : ℕ) → high < c → c ≤ 53 → left i c m n ≡ rows (i + 1) m n
+    pub leave : (c m n : ℕ) → high < c → c ≤ 53 → constraints i c m n ≡ rows (i + 1) m n
     leave c m n h l =
         skip-some i c m n (53 - c) (omega arith) (λ e p q. s .above k e (omega arith))
-        ∙ ap (λ x. left i x m n) one
+        ∙ ap (λ x. constraints i x m n) one
         ∙ row-over i m n
       where
         one : c + (53 - c) ≡ 53

@@ -2,35 +2,39 @@
 ghost use mathlib.Core.Path.{_≡_};
 ghost use Prim.Native.Nat.{_*_, _<_, _^_};
 ghost use lib.ListN.{length};
-ghost use Rattle.words.specs.Words.{AllCanonical};
+ghost use Rattle.words.specs.Words.{AllCanonical, canonicalWords, firstBad};
+ghost use Rattle.refusals.specs.Answers.{unless, testsAfter};
 ghost use Rattle.table.specs.Table.{IsTable};
-ghost use Rattle.constraints.specs.Constraints.{verdict};
+ghost use Rattle.constraints.specs.Constraints.{tests, constraintTest};
 ghost use Rattle.steps.specs.Steps.{forwardReady, backReady};
-ghost use Rattle.checker.specs.Answers.{judged, checkAnswer};
+ghost use Rattle.checker.specs.Answers.{checkAnswer};
 use counts::BatchCount;
+use counts::MOST_BATCHES;
 use counts::RowNumber;
 use refusals::Answer;
-use refusals::Checked;
 use refusals::Refusal;
+use refusals::TestsAnswer;
 
 // The walk through the tests in their order, which stops at the first that fails. M and its inverse come made ready.
-pub fn walk_tests(
+fn walk_tests(
     m: &[u64],
     inverse: &[u64],
     table: &[u64],
     trace: &[u64],
     claim: &[u64; 4],
     k: usize,
-) -> Checked
-    requires { ⌜ (now m ≡ forwardReady (now table)) × (now inverse ≡ backReady (now table)) × IsTable (now table) × AllCanonical (now trace) × (length (now trace) ≡ 384 * k) × (k < 2 ^ 32) ⌝ }
-    ensures { λ r. ⌜ r ≡ verdict (now (table .entry)) (now (trace .entry)) (now (claim .entry)) k ⌝ }
+) -> TestsAnswer
+    requires { ⌜ (now m ≡ forwardReady (now table)) × (now inverse ≡ backReady (now table)) × IsTable (now table)
+        × AllCanonical (now trace) × (length (now trace) ≡ 384 * k) × (k < 2 ^ 32) ⌝ }
+    ensures { λ r. ⌜ r ≡ testsAfter (constraintTest (now (table .entry)) (now (trace .entry)) (now (claim .entry)) k)
+        (length (tests k)) ⌝ }
 {
     let rows = 32 * k;
     let mut tests: usize = 0;
     let mut i: usize = 0;
     'walk: loop {
         if rows <= i {
-            break 'walk Checked::Accepted(tests);
+            break 'walk TestsAnswer::Accepted(tests);
         }
         let row = RowNumber(i);
         let forward = rowtests::forward_of(m, table, trace, row);
@@ -42,7 +46,7 @@ pub fn walk_tests(
             if rowtests::applies(k, row, constraint) {
                 tests += 1;
                 if !rowtests::holds(table, trace, claim, row, constraint, &forward, &back) {
-                    break 'walk Checked::Refused(Refusal::Constraint {
+                    break 'walk TestsAnswer::Refused(Refusal::Constraint {
                         row,
                         constraint,
                         tests,
@@ -55,35 +59,57 @@ pub fn walk_tests(
     }
 }
 
-// What is judged once the lengths are right: 9, 10, 11.
-pub fn judge(table: &[u64], trace: &[u64], claim: [u64; 4], k: usize) -> Checked
-    requires { ⌜ IsTable (now table) × (length (now trace) ≡ 384 * k) × (k < 2 ^ 32) ⌝ }
-    ensures { λ r. ⌜ r ≡ judged (now (table .entry)) (now (trace .entry)) claim k ⌝ }
+// 9, 10 and 11: three tests, each for every operation that has it, in that operation's order.
+pub fn test_claim(claim: &[u64]) -> Answer
+    ensures { λ r. ⌜ r ≡ unless (canonicalWords (now (claim .entry)))
+        (Refusal.ClaimWord (firstBad (now (claim .entry)))) Answer.Accepted ⌝ }
 {
-    let bad_claim = words::first_bad(&claim);
-    if bad_claim != 4 {
-        return Checked::Refused(Refusal::ClaimWord(bad_claim));
+    let bad = words::first_bad(claim);
+    if bad != claim.len() {
+        return Answer::Refused(Refusal::ClaimWord(bad));
     }
-    let bad_trace = words::first_bad(trace);
-    if bad_trace != trace.len() {
-        return Checked::Refused(Refusal::TraceWord(bad_trace));
+    Answer::Accepted
+}
+
+pub fn test_words(trace: &[u64]) -> Answer
+    ensures { λ r. ⌜ r ≡ unless (canonicalWords (now (trace .entry)))
+        (Refusal.TraceWord (firstBad (now (trace .entry)))) Answer.Accepted ⌝ }
+{
+    let bad = words::first_bad(trace);
+    if bad != trace.len() {
+        return Answer::Refused(Refusal::TraceWord(bad));
     }
+    Answer::Accepted
+}
+
+pub fn test_constraints(table: &[u64], trace: &[u64], claim: &[u64; 4], k: usize) -> TestsAnswer
+    requires { ⌜ IsTable (now table) × AllCanonical (now trace) × (length (now trace) ≡ 384 * k) × (k < 2 ^ 32) ⌝ }
+    ensures { λ r. ⌜ r ≡ testsAfter (constraintTest (now (table .entry)) (now (trace .entry)) (now (claim .entry)) k)
+        (length (tests k)) ⌝ }
+{
     let m = steps::forward_ready(table);
     let inverse = steps::back_ready(table);
-    walk_tests(&m, &inverse, table, trace, &claim, k)
+    walk_tests(&m, &inverse, table, trace, claim, k)
 }
 
 // Check: 1, 2, 4; 7; 9; 10; 11.
-pub fn check(table: &[u64], trace: &[u64], claim: [u64; 4]) -> Checked
+pub fn check(table: &[u64], trace: &[u64], claim: [u64; 4]) -> TestsAnswer
     ensures { λ r. ⌜ r ≡ checkAnswer (now (table .entry)) (now (trace .entry)) claim ⌝ }
 {
     let tested = table::test(table);
     let Answer::Accepted = tested else {
-        return Checked::after(tested);
+        return TestsAnswer::Refused(tested.refusal());
     };
-    let counted = counts::trace_batches(trace.len());
-    let BatchCount::Permitted(k) = counted else {
-        return Checked::Refused(Refusal::TraceLength);
+    let BatchCount::Permitted(k) = counts::trace_batches(MOST_BATCHES, trace.len()) else {
+        return TestsAnswer::Refused(Refusal::TraceLength);
     };
-    judge(table, trace, claim, k)
+    let of_claim = test_claim(&claim);
+    let Answer::Accepted = of_claim else {
+        return TestsAnswer::Refused(of_claim.refusal());
+    };
+    let of_words = test_words(trace);
+    let Answer::Accepted = of_words else {
+        return TestsAnswer::Refused(of_words.refusal());
+    };
+    test_constraints(table, trace, &claim, k)
 }

@@ -10,7 +10,7 @@ use borrow.Author.Tests.{le-leb, lt-leb, eq-eqb, eqb-true}
 use lib.Dec.{eqb}
 use Rattle.lists.specs.Lists.{cell}
 use Rattle.field.specs.Field.{add}
-use Rattle.table.specs.Table.{constant}
+use Rattle.table.specs.Table.{initialConstant}
 use Rattle.constraints.specs.Constraints.{row, within, entering, forward, back, applies, holds}
 use Rattle.constraints.proofs.Families as families
 use Rattle.constraints.proofs.Families.{Applies, applies-cases, applies-yes}
@@ -19,9 +19,9 @@ pub record Equations (T t claim : List ℕ) (k : ℕ) : Type 0 where
   -- 1 to 4
   pub zero-columns : (i j : ℕ) → i < 32 * k → within i ≡ 0 → j < 4 → cell (row t i) (8 + j) ≡ 0
   -- 5 to 8
-  pub new-zeros : (i j : ℕ) → i < 32 * k → entering i ≡ true → j < 4 → cell (back T t (i + 1)) (8 + j) ≡ cell (constant T 0) (8 + j)
+  pub new-zeros : (i j : ℕ) → i < 32 * k → entering i ≡ true → j < 4 → cell (back T t (i + 1)) (8 + j) ≡ cell (initialConstant T) (8 + j)
   -- 9 to 20
-  pub starts : (i j : ℕ) → i < 32 * k → within i ≡ 0 → j < 12 → add (cell (row t i) j) (cell (constant T 0) j) ≡ cell (back T t (i + 1)) j
+  pub starts : (i j : ℕ) → i < 32 * k → within i ≡ 0 → j < 12 → add (cell (row t i) j) (cell (initialConstant T) j) ≡ cell (back T t (i + 1)) j
   -- 21 to 32
   pub output-kept : (i j : ℕ) → i < 32 * k → 1 ≤ within i → within i ≤ 29 → j < 4 → cell (forward T t i) j ≡ cell (back T t (i + 1)) j
   pub goes-on : (i j : ℕ) → i < 32 * k → 1 ≤ within i → within i ≤ 29 → entering i ≡ false → j < 12 → cell (forward T t i) j ≡ cell (back T t (i + 1)) j
@@ -41,13 +41,13 @@ module _ (T t claim : List ℕ) where
         let e : 1 + j + 7 ≡ 8 + j = omega arith in
         rw (le-leb (1 + j) 4 (omega arith), e)
 
-    at-new-zeros : j < 4 → holds T t claim i (5 + j) ≡ eqb (cell (back T t (i + 1)) (8 + j)) (cell (constant T 0) (8 + j))
+    at-new-zeros : j < 4 → holds T t claim i (5 + j) ≡ eqb (cell (back T t (i + 1)) (8 + j)) (cell (initialConstant T) (8 + j))
     unfolding holds
     at-new-zeros h =
         let e : 5 + j + 3 ≡ 8 + j = omega arith in
         rw (lt-leb (5 + j) 4 (omega arith), le-leb (5 + j) 8 (omega arith), e)
 
-    at-starts : j < 12 → holds T t claim i (9 + j) ≡ eqb (add (cell (row t i) j) (cell (constant T 0) j)) (cell (back T t (i + 1)) j)
+    at-starts : j < 12 → holds T t claim i (9 + j) ≡ eqb (add (cell (row t i) j) (cell (initialConstant T) j)) (cell (back T t (i + 1)) j)
     unfolding holds
     at-starts h =
         let e : 9 + j - 9 ≡ j = omega arith in

@@ -8,7 +8,7 @@ use native.Mathlib.Omega.{arith}
 use borrow.Author.Tests.{le-leb, leb-true, eq-eqb, ne-eqb, eqb-true, eqb-false, not-true}
 use lib.Dec.{leb, eqb}
 use Rattle.lists.proofs.Bools.{or-cases, and-both, and-intro}
-use Rattle.constraints.specs.Constraints.{within, entering, between, applies}
+use Rattle.constraints.specs.Constraints.{within, entering, between, lastRow, claimRow, applies}
 
 -- constraint c applies at row i of k batches, at column j
 pub data Applies (k i c : ℕ) : Type 0 where
@@ -76,14 +76,14 @@ module _ (k i c : ℕ) where
           let r = range 33 44 c (s .0) in
           ends (c - 33) (omega arith) (omega arith) (eqb-true _ _ (s .1))
 
-      l₇ : (between 45 48 c && (eqb (within i) 31 && not (eqb (i + 1) (32 * k)))) ≡ true → Applies k i c
+      l₇ : (between 45 48 c && (eqb (within i) 31 && not (lastRow k i))) ≡ true → Applies k i c
       l₇ e =
           let s = and-both _ _ e in
           let r = range 45 48 c (s .0) in
-          let v = and-both (eqb (within i) 31) (not (eqb (i + 1) (32 * k))) (s .1) in
+          let v = and-both (eqb (within i) 31) (not (lastRow k i)) (s .1) in
           joins (c - 45) (omega arith) (omega arith) (eqb-true _ _ (v .0)) (eqb-false _ _ (not-true _ (v .1)))
 
-      l₈ : (between 49 52 c && eqb (i + 1) (32 * k)) ≡ true → Applies k i c
+      l₈ : (between 49 52 c && claimRow k i) ≡ true → Applies k i c
       l₈ e =
           let s = and-both _ _ e in
           let r = range 49 52 c (s .0) in

@@ -7,17 +7,17 @@ use mathlib.Core.List.{List}
 use Prim.Native.Nat.{ℕ, _+_, _*_, _-_, _/_, _%_, _≤_, _<_}
 use native.Mathlib.Decide.{ℕ-discrete}
 use native.Mathlib.Omega.{arith}
-use borrow.Author.Tests.{eq-eqb, ne-eqb, eqb-true}
+use borrow.Author.Tests.{eq-eqb, ne-eqb, eqb-true, lt-ltb, le-ltb}
 use lib.Dec.{eqb}
-use lib.ListN.{take}
+use lib.ListN.{length}
 use Rattle.lists.specs.Lists.{cell}
+use Rattle.lists.proofs.Tab.{length-tab, cell-tab}
 use Rattle.lists.proofs.Bools.{or-cases}
 use Rattle.field.specs.Field.{add}
-use Rattle.table.specs.Table.{IsTable, constant}
+use Rattle.table.specs.Table.{IsTable, initialConstant}
 use Rattle.hash.specs.Hash.{firstStep, secondStep}
-use Rattle.hash.proofs.States.{IsState, cell-plus}
-use Rattle.hash.proofs.Inputs.{cell-take}
-use Rattle.constraints.specs.Constraints.{row, within, round, entering, forward, backStep, back}
+use Rattle.hash.proofs.States.{IsState}
+use Rattle.constraints.specs.Constraints.{row, within, round, entering, plusFirst, forward, backStep, back}
 use Rattle.constraints.specs.ReadOff.{firstRow}
 use Rattle.constraints.proofs.OneRound.{first-back, backStep-state}
 
@@ -66,6 +66,21 @@ round-hash i p q e =
     let twenty : within i ≡ 20 → ⊥ = λ z. enters-not-at i e (inr z) in
     (3 * (i / 32) + (within i - 1) / 10, (within i - 1) % 10, omega arith, omega arith)
 
+-- ---- the first columns of a state plus those of another
+pub length-first : (n : ℕ) (s k : List ℕ) → length (plusFirst n s k) ≡ 12
+unfolding plusFirst
+length-first n s k = length-tab 12 _
+
+module _ (n : ℕ) (s k : List ℕ) (j : ℕ) (h : j < 12) where
+  pub cell-plus-first : j < n → cell (plusFirst n s k) j ≡ add (cell s j) (cell k j)
+  unfolding plusFirst
+  cell-plus-first l = cell-tab 12 _ j h ∙ rw (lt-ltb j n l)
+
+  pub cell-plus-kept : n ≤ j → cell (plusFirst n s k) j ≡ cell s j
+  unfolding plusFirst
+  cell-plus-kept l = cell-tab 12 _ j h ∙ rw (le-ltb j n l)
+
+-- ---- forward and back
 pub back-state : (T t : List ℕ) (i : ℕ) → IsState (back T t i)
 unfolding back
 back-state T t i = backStep-state T (round i) (row t i)
@@ -82,12 +97,10 @@ module _ (T t : List ℕ) (h j : ℕ) (l : j < 10) where
 
   -- and columns 0 to 3 where one does
   pub forward-enters : entering (firstRow h + j) ≡ true → (c : ℕ) → c < 4
-      → cell (forward T t (firstRow h + j)) c ≡ add (cell (secondStep T j (row t (firstRow h + j))) c) (cell (constant T 0) c)
+      → cell (forward T t (firstRow h + j)) c ≡ add (cell (secondStep T j (row t (firstRow h + j))) c) (cell (initialConstant T) c)
   unfolding forward
   forward-enters e c q =
-      rw (e, round-of h j l)
-      (cell-plus (secondStep T j (row t (firstRow h + j))) (take 4 (constant T 0)) c (omega arith)
-      ∙ ap (add (cell (secondStep T j (row t (firstRow h + j))) c)) (cell-take (constant T 0) c q))
+      rw (e, round-of h j l) (cell-plus-first 4 (secondStep T j (row t (firstRow h + j))) (initialConstant T) c (omega arith) q)
 
   -- a row is the first step from its back
   pub row-from-back : IsTable T → IsState (row t (firstRow h + j)) → row t (firstRow h + j) ≡ firstStep T j (back T t (firstRow h + j))

@@ -11,10 +11,10 @@ use Rattle.field.specs.Field.{add, sub, cube, root}
 use Rattle.field.proofs.Fermat.{cube-root, root-cube}
 use Rattle.field.proofs.Ring.{sub-add, add-sub}
 use Rattle.matrix.specs.Matrix.{times}
-use Rattle.table.specs.Table.{IsTable, matrixOf, inverseOf, constant}
+use Rattle.table.specs.Table.{IsTable, matrixOf, inverseOf, firstStepConstant}
 use Rattle.table.proofs.Theorems.{undo-mix, mix-undo}
 use Rattle.hash.specs.Hash.{roots, cubes, plus, mix, firstStep}
-use Rattle.hash.proofs.States.{IsState, state-cell, same-state, tab-state, roots-state, cubes-state, plus-state, times-state, cell-roots, cell-cubes, cell-plus, constant-state}
+use Rattle.hash.proofs.States.{IsState, state-cell, same-state, tab-state, roots-state, cubes-state, plus-state, times-state, cell-roots, cell-cubes, cell-plus, first-constant-state}
 use Rattle.constraints.specs.Constraints.{minus, backStep}
 
 -- ---- addition and subtraction
@@ -52,19 +52,19 @@ module _ (T : List ℕ) (accepted : IsTable T) (r : ℕ) (h : r < 10) where
   pub back-first : {s : List ℕ} → IsState s → backStep T r (firstStep T r s) ≡ s
   unfolding backStep firstStep mix
   back-first {s} p =
-      ap (λ x. cubes (times (inverseOf T) x)) (minus-plus (times-state (matrixOf T) (roots s)) (constant-state T accepted (2 * r + 1) (omega arith)))
+      ap (λ x. cubes (times (inverseOf T) x)) (minus-plus (times-state (matrixOf T) (roots s)) (first-constant-state T accepted r h))
       ∙ ap cubes (undo-mix T accepted (roots s) (roots-state s .size) (λ i l. state-cell (roots-state s) i))
       ∙ cubes-roots p
 
   pub first-back : {x : List ℕ} → IsState x → firstStep T r (backStep T r x) ≡ x
   unfolding backStep firstStep mix
   first-back {x} p =
-      ap (λ y. plus (times (matrixOf T) y) (constant T (2 * r + 1))) (roots-cubes (times-state (inverseOf T) (minus x (constant T (2 * r + 1)))))
-      ∙ ap (λ y. plus y (constant T (2 * r + 1))) (mix-undo T accepted less (less-state .size) (λ i l. state-cell less-state i))
-      ∙ plus-minus p (constant-state T accepted (2 * r + 1) (omega arith))
+      ap (λ y. plus (times (matrixOf T) y) (firstStepConstant T r)) (roots-cubes (times-state (inverseOf T) (minus x (firstStepConstant T r))))
+      ∙ ap (λ y. plus y (firstStepConstant T r)) (mix-undo T accepted less (less-state .size) (λ i l. state-cell less-state i))
+      ∙ plus-minus p (first-constant-state T accepted r h)
     where
       less : List ℕ
-      less = minus x (constant T (2 * r + 1))
+      less = minus x (firstStepConstant T r)
 
       less-state : IsState less
-      less-state = minus-state x (constant T (2 * r + 1))
+      less-state = minus-state x (firstStepConstant T r)

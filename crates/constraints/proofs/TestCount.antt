@@ -12,7 +12,7 @@ use lib.ListN.{length, length-append}
 use Rattle.lists.specs.Lists.{choose, sum, first}
 use Rattle.lists.proofs.First.{none-first}
 use Rattle.lists.proofs.Sum.{sum-ext, sum-split, sum-suc, sum-zero}
-use Rattle.constraints.specs.Constraints.{keep, within, between, applies, rowTests, testsFrom, tests}
+use Rattle.constraints.specs.Constraints.{keep, within, between, lastRow, applies, rowTests, testsFrom, tests}
 
 -- the tests at row r of a batch
 abbrev pub testsAt : ℕ → ℕ
@@ -49,7 +49,7 @@ appliesAt r last c =
     || ((between 45 48 c && (eqb r 31 && not last))
     || (between 49 52 c && last)))))))
 
-applies-at : (k i c : ℕ) → applies k i c ≡ appliesAt (within i) (eqb (i + 1) (32 * k)) c
+applies-at : (k i c : ℕ) → applies k i c ≡ appliesAt (within i) (lastRow k i) c
 unfolding applies appliesAt
 applies-at k i c = refl
 
@@ -77,8 +77,8 @@ count-at r last h l = go (decLt r 31)
 pub length-row-tests : (k i : ℕ) → length (rowTests k i 1 52) ≡ testsAt (within i)
 length-row-tests k i =
     length-rowTests k i 1 52
-    ∙ count-ext (applies k i) (appliesAt (within i) (eqb (i + 1) (32 * k))) 1 52 (applies-at k i)
-    ∙ count-at (within i) (eqb (i + 1) (32 * k)) (omega arith) (λ h. ne-eqb (i + 1) (32 * k) (λ (e : i + 1 ≡ 32 * k). omega arith))
+    ∙ count-ext (applies k i) (appliesAt (within i) (lastRow k i)) 1 52 (applies-at k i)
+    ∙ count-at (within i) (lastRow k i) (omega arith) (λ h. ne-eqb (i + 1) (32 * k) (λ (e : i + 1 ≡ 32 * k). omega arith))
 
 -- ---- the tests of n rows, and of k batches
 length-testsFrom : (k i n : ℕ) → length (testsFrom k i n) ≡ sum n (λ m. testsAt (within (i + m)))

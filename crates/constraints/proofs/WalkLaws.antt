@@ -1,4 +1,4 @@
--- The walk accepts exactly where every test holds, with the number of all tests; else it names the first test that fails, and its place.
+-- The walk accepts exactly where every test holds; else it names the first test that fails, and its place.
 -- Assumes nothing.
 use mathlib.Core.Path.{_≡_, refl, sym, ap, _∙_, subst, subst₃}
 use mathlib.Core.Bool.{Bool, true, false, true≢false}
@@ -7,12 +7,13 @@ use mathlib.Core.List.{List, [], _∷_, _++_, List·Memᴰ, List·Memᴰ·cases-
 use Prim.Native.Nat.{ℕ, suc, _+_}
 use native.Mathlib.Omega.{arith}
 use lib.ListN.{length}
-use Rattle.lists.specs.Lists.{choose}
 use Rattle.counts.specs.declared.RowNumber.{RowNumber}
 use Rattle.refusals.specs.declared.Refusal.the-variants.{Constraint}
-use Rattle.refusals.specs.declared.Checked.{Checked}
-use Rattle.refusals.specs.declared.Checked.the-variants.{Accepted, Refused}
-use Rattle.constraints.specs.Constraints.{Test, holds, tests, walk, verdict}
+use Rattle.refusals.specs.declared.Answer.{Answer}
+use Rattle.refusals.specs.declared.Answer.the-variants.{Accepted, Refused}
+use Rattle.refusals.specs.Answers.{unless}
+use Rattle.refusals.proofs.Laws.{not-accepted}
+use Rattle.constraints.specs.Constraints.{Test, holds, tests, walk, constraintTest}
 use Rattle.constraints.specs.FirstFailing.{AllHold, IsFirstFailing}
 
 module _ (T t claim : List ℕ) where
@@ -27,12 +28,14 @@ module _ (T t claim : List ℕ) where
       go (inr p) = a y p
 
   -- a walk over xs after n tests comes to one of these two ends
-  pub data Ends (xs : List Test) (n : ℕ) : Checked → Type 0 where
-    passes : AllHold T t claim xs → (m : ℕ) → m ≡ n + length xs → Ends xs n (Accepted m)
-    stops : (i c place : ℕ) → IsFirstFailing T t claim xs i c place → (m : ℕ) → m ≡ n + place → Ends xs n (Refused (Constraint (record { 0 = i }) c m))
+  pub data Ends (xs : List Test) (n : ℕ) : Answer → Type 0 where
+    passes : AllHold T t claim xs → Ends xs n Accepted
+    stops : (i c place : ℕ) → IsFirstFailing T t claim xs i c place → (m : ℕ) → m ≡ n + place
+        → Ends xs n (Refused (Constraint (record { 0 = i }) c m))
 
-  one-more-end : (x : Test) (xs : List Test) (n : ℕ) (r : Checked) → holds T t claim (x .at) (x .number) ≡ true → Ends xs (n + 1) r → Ends (x ∷ xs) n r
-  one-more-end x xs n r e (passes a m p) = passes (one-more-holds x xs e a) m (omega arith)
+  one-more-end : (x : Test) (xs : List Test) (n : ℕ) (r : Answer) → holds T t claim (x .at) (x .number) ≡ true
+      → Ends xs (n + 1) r → Ends (x ∷ xs) n r
+  one-more-end x xs n r e (passes a) = passes (one-more-holds x xs e a)
   one-more-end x xs n r e (stops i c place f m p) =
       stops i c (place + 1)
       (record {
@@ -47,11 +50,11 @@ module _ (T t claim : List ℕ) where
 
   pub walk-ends : (xs : List Test) (n : ℕ) → Ends xs n (walk T t claim xs n)
   unfolding walk
-  walk-ends [] n = passes none-to-hold n (omega arith)
+  walk-ends [] n = passes none-to-hold
   walk-ends (x ∷ xs) n = go (holds T t claim (x .at) (x .number)) refl (walk-ends xs (n + 1))
     where
       go : (b : Bool) → holds T t claim (x .at) (x .number) ≡ b → Ends xs (n + 1) (walk T t claim xs (n + 1))
-          → Ends (x ∷ xs) n (choose b (walk T t claim xs (n + 1)) (Refused (Constraint (record { 0 = x .at }) (x .number) (n + 1))))
+          → Ends (x ∷ xs) n (unless b (Constraint (record { 0 = x .at }) (x .number) (n + 1)) (walk T t claim xs (n + 1)))
       go true e r = one-more-end x xs n _ e r
       go false e r =
           stops (x .at) (x .number) 1
@@ -77,44 +80,33 @@ module _ (T t claim : List ℕ) where
       rw (a x (List·Memᴰ.List·Memᴰ·head refl))
       (walk-stops xs i c rest (n + 1) (λ y m. a y (List·Memᴰ.List·Memᴰ·tail m)) e ∙ ap (λ m. Refused (Constraint (record { 0 = i }) c m)) z)
 
-  -- ---- the verdict
+  -- ---- through all tests
   module _ (k : ℕ) where
-    verdict-ends : Ends (tests k) 0 (verdict T t claim k)
-    unfolding verdict
-    verdict-ends = walk-ends (tests k) 0
+    test-ends : Ends (tests k) 0 (constraintTest T t claim k)
+    unfolding constraintTest
+    test-ends = walk-ends (tests k) 0
 
-    pub accepted-all-hold : (n : ℕ) → verdict T t claim k ≡ Accepted n → AllHold T t claim (tests k)
-    accepted-all-hold n = go (verdict T t claim k) verdict-ends
+    pub accepted-all-hold : constraintTest T t claim k ≡ Accepted → AllHold T t claim (tests k)
+    accepted-all-hold = go (constraintTest T t claim k) test-ends
       where
-        go : (r : Checked) → Ends (tests k) 0 r → r ≡ Accepted n → AllHold T t claim (tests k)
-        go r (passes a m p) e = a
-        go r (stops i c place f m p) e = absurd (let z : _≡_ {A = ℕ} 0 1 = cc in omega arith)
+        go : (r : Answer) → Ends (tests k) 0 r → r ≡ Accepted → AllHold T t claim (tests k)
+        go r (passes a) e = a
+        go r (stops i c place f m p) e = absurd (not-accepted _ e)
 
-    -- the number reported with an accepted trace is that of all tests
-    pub accepted-count : (n : ℕ) → verdict T t claim k ≡ Accepted n → n ≡ length (tests k)
-    accepted-count n = go (verdict T t claim k) verdict-ends
+    pub all-hold-accepted : AllHold T t claim (tests k) → constraintTest T t claim k ≡ Accepted
+    all-hold-accepted a = go (constraintTest T t claim k) test-ends
       where
-        go : (r : Checked) → Ends (tests k) 0 r → r ≡ Accepted n → n ≡ length (tests k)
-        go r (passes a m p) e =
-            let z : m ≡ n = cc in
-            omega arith
-        go r (stops i c place f m p) e = absurd (let z : _≡_ {A = ℕ} 0 1 = cc in omega arith)
-
-    pub all-hold-accepted : AllHold T t claim (tests k) → verdict T t claim k ≡ Accepted (length (tests k))
-    all-hold-accepted a = go (verdict T t claim k) verdict-ends
-      where
-        go : (r : Checked) → Ends (tests k) 0 r → r ≡ Accepted (length (tests k))
-        go r (passes b m p) =
-            let z : m ≡ length (tests k) = omega arith in
-            ap Accepted z
+        go : (r : Answer) → Ends (tests k) 0 r → r ≡ Accepted
+        go r (passes b) = refl
         go r (stops i c place f m p) = absurd (not-both (tests k) i c place a f)
 
     -- a refusal names row, constraint and place of the first test that fails
-    pub refused-first-failing : (i c n : ℕ) → verdict T t claim k ≡ Refused (Constraint (record { 0 = i }) c n) → IsFirstFailing T t claim (tests k) i c n
-    refused-first-failing i c n = go (verdict T t claim k) verdict-ends
+    pub refused-first-failing : (i c n : ℕ) → constraintTest T t claim k ≡ Refused (Constraint (record { 0 = i }) c n)
+        → IsFirstFailing T t claim (tests k) i c n
+    refused-first-failing i c n = go (constraintTest T t claim k) test-ends
       where
-        go : (r : Checked) → Ends (tests k) 0 r → r ≡ Refused (Constraint (record { 0 = i }) c n) → IsFirstFailing T t claim (tests k) i c n
-        go r (passes a m p) e = absurd (let z : _≡_ {A = ℕ} 0 1 = cc in omega arith)
+        go : (r : Answer) → Ends (tests k) 0 r → r ≡ Refused (Constraint (record { 0 = i }) c n) → IsFirstFailing T t claim (tests k) i c n
+        go r (passes a) e = absurd (not-accepted _ (sym e))
         go r (stops j d place f m p) e =
             let same : _≡_ {A = RowNumber} (record { 0 = j }) (record { 0 = i }) = cc in
             let x : j ≡ i = ap (λ row. row .0) same in
@@ -123,8 +115,9 @@ module _ (T t claim : List ℕ) where
             let w : place ≡ n = omega arith in
             subst₃ (λ u v l. IsFirstFailing T t claim (tests k) u v l) x y w f
 
-    pub first-failing-refused : (i c n : ℕ) → IsFirstFailing T t claim (tests k) i c n → verdict T t claim k ≡ Refused (Constraint (record { 0 = i }) c n)
-    unfolding verdict
+    pub first-failing-refused : (i c n : ℕ) → IsFirstFailing T t claim (tests k) i c n
+        → constraintTest T t claim k ≡ Refused (Constraint (record { 0 = i }) c n)
+    unfolding constraintTest
     first-failing-refused i c n f =
         let z : 0 + (length (f .before) + 1) ≡ n = omega (arith, f .place) in
         ap (λ l. walk T t claim l 0) (f .order)
@@ -132,10 +125,10 @@ module _ (T t claim : List ℕ) where
         ∙ ap (λ m. Refused (Constraint (record { 0 = i }) c m)) z
 
     -- and every trace that is not accepted is refused so
-    pub else-first-failing : ((n : ℕ) → verdict T t claim k ≡ Accepted n → ⊥)
-        → (i : ℕ) × (c : ℕ) × (n : ℕ) × (verdict T t claim k ≡ Refused (Constraint (record { 0 = i }) c n))
-    else-first-failing never = go (verdict T t claim k) verdict-ends never
+    pub else-first-failing : (constraintTest T t claim k ≡ Accepted → ⊥)
+        → (i : ℕ) × (c : ℕ) × (n : ℕ) × (constraintTest T t claim k ≡ Refused (Constraint (record { 0 = i }) c n))
+    else-first-failing = go (constraintTest T t claim k) test-ends
       where
-        go : (r : Checked) → Ends (tests k) 0 r → ((n : ℕ) → r ≡ Accepted n → ⊥) → (i : ℕ) × (c : ℕ) × (n : ℕ) × (r ≡ Refused (Constraint (record { 0 = i }) c n))
-        go r (passes a m p) q = absurd (q m refl)
+        go : (r : Answer) → Ends (tests k) 0 r → (r ≡ Accepted → ⊥) → (i : ℕ) × (c : ℕ) × (n : ℕ) × (r ≡ Refused (Constraint (record { 0 = i }) c n))
+        go r (passes a) q = absurd (q refl)
         go r (stops i c place f m p) q = (i, c, m, refl)

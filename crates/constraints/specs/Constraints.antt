@@ -4,16 +4,17 @@
 use mathlib.Core.Bool.{Bool, true, false, _&&_, _||_, not}
 use mathlib.Core.List.{List, [], _∷_, _++_}
 use Prim.Native.Nat.{ℕ, zero, suc, _+_, _*_, _-_, _%_}
-use lib.Dec.{leb, eqb}
+use lib.Dec.{leb, ltb, eqb}
 use lib.ListN.{take, drop}
 use Rattle.lists.specs.Lists.{choose, cell, tab}
 use Rattle.field.specs.Field.{add, sub}
 use Rattle.matrix.specs.Matrix.{times}
-use Rattle.table.specs.Table.{inverseOf, constant}
-use Rattle.hash.specs.Hash.{cubes, plus, secondStep}
+use Rattle.table.specs.Table.{inverseOf, initialConstant, firstStepConstant}
+use Rattle.hash.specs.Hash.{cubes, secondStep}
 use Rattle.refusals.specs.declared.Refusal.the-variants.{Constraint}
-use Rattle.refusals.specs.declared.Checked.{Checked}
-use Rattle.refusals.specs.declared.Checked.the-variants.{Accepted, Refused}
+use Rattle.refusals.specs.declared.Answer.{Answer}
+use Rattle.refusals.specs.declared.Answer.the-variants.{Accepted}
+use Rattle.refusals.specs.Answers.{unless}
 
 -- ---- rows, forward and back
 
@@ -33,10 +34,14 @@ round i = (within i - 1) % 10
 abbrev pub entering : ℕ → Bool
 entering i = eqb (within i) 10 || eqb (within i) 20
 
+-- the first n columns of a state plus those of another, the others as they are
+unfoldable pub plusFirst : ℕ → List ℕ → List ℕ → List ℕ
+plusFirst n s k = tab 12 (λ j. choose (ltb j n) (add (cell s j) (cell k j)) (cell s j))
+
 -- forward of row i: its cells cubed, times M, plus that round's second-step constant; at rows 10 and 20 K_0 is added too, in columns 0 to 3 only
 unfoldable pub forward : List ℕ → List ℕ → ℕ → List ℕ
 forward T t i =
-    choose (entering i) (plus (secondStep T (round i) (row t i)) (take 4 (constant T 0)))
+    choose (entering i) (plusFirst 4 (secondStep T (round i) (row t i)) (initialConstant T))
     (secondStep T (round i) (row t i))
 
 -- a state less another, cell by cell
@@ -45,7 +50,7 @@ minus s k = tab 12 (λ j. sub (cell s j) (cell k j))
 
 -- a middle state's cells less the first-step constant of round r, times the inverse of M, then cubed
 unfoldable pub backStep : List ℕ → ℕ → List ℕ → List ℕ
-backStep T r s = cubes (times (inverseOf T) (minus s (constant T (2 * r + 1))))
+backStep T r s = cubes (times (inverseOf T) (minus s (firstStepConstant T r)))
 
 -- back of row i
 unfoldable pub back : List ℕ → List ℕ → ℕ → List ℕ
@@ -56,6 +61,14 @@ back T t i = backStep T (round i) (row t i)
 abbrev pub between : ℕ → ℕ → ℕ → Bool
 between a b c = leb a c && leb c b
 
+-- the last row of a trace of k batches
+abbrev pub lastRow : ℕ → ℕ → Bool
+lastRow k i = eqb (i + 1) (32 * k)
+
+-- the row that is compared with the claim, which is the last
+abbrev pub claimRow : ℕ → ℕ → Bool
+claimRow k i = lastRow k i
+
 -- whether constraint c applies at row i of a trace of k batches
 unfoldable pub applies : ℕ → ℕ → ℕ → Bool
 applies k i c =
@@ -65,15 +78,15 @@ applies k i c =
     || ((between 21 24 c && between 1 29 (within i))
     || ((between 25 32 c && (between 1 29 (within i) && not (entering i)))
     || ((between 33 44 c && eqb (within i) 30)
-    || ((between 45 48 c && (eqb (within i) 31 && not (eqb (i + 1) (32 * k))))
-    || (between 49 52 c && eqb (i + 1) (32 * k))))))))
+    || ((between 45 48 c && (eqb (within i) 31 && not (lastRow k i)))
+    || (between 49 52 c && claimRow k i)))))))
 
 -- whether constraint c holds at row i, where it applies
 unfoldable pub holds : List ℕ → List ℕ → List ℕ → ℕ → ℕ → Bool
 holds T t claim i c =
     choose (leb c 4) (eqb (cell (row t i) (c + 7)) 0)
-    (choose (leb c 8) (eqb (cell (back T t (i + 1)) (c + 3)) (cell (constant T 0) (c + 3)))
-    (choose (leb c 20) (eqb (add (cell (row t i) (c - 9)) (cell (constant T 0) (c - 9))) (cell (back T t (i + 1)) (c - 9)))
+    (choose (leb c 8) (eqb (cell (back T t (i + 1)) (c + 3)) (cell (initialConstant T) (c + 3)))
+    (choose (leb c 20) (eqb (add (cell (row t i) (c - 9)) (cell (initialConstant T) (c - 9))) (cell (back T t (i + 1)) (c - 9)))
     (choose (leb c 32) (eqb (cell (forward T t i) (c - 21)) (cell (back T t (i + 1)) (c - 21)))
     (choose (leb c 44) (eqb (cell (forward T t i) (c - 33)) (cell (row t (i + 1)) (c - 33)))
     (choose (leb c 48) (eqb (cell (row t i) (c - 45)) (cell (row t (i + 1)) (c - 45)))
@@ -105,12 +118,12 @@ unfoldable pub tests : ℕ → List Test
 tests k = testsFrom k 0 (32 * k)
 
 -- the walk after n tests: it stops at the first test that fails, whose place is counted from 1
-unfoldable pub walk : List ℕ → List ℕ → List ℕ → List Test → ℕ → Checked
-walk T t claim [] n = Accepted n
+unfoldable pub walk : List ℕ → List ℕ → List ℕ → List Test → ℕ → Answer
+walk T t claim [] n = Accepted
 walk T t claim (x ∷ xs) n =
-    choose (holds T t claim (x .at) (x .number)) (walk T t claim xs (n + 1))
-    (Refused (Constraint (record { 0 = x .at }) (x .number) (n + 1)))
+    unless (holds T t claim (x .at) (x .number)) (Constraint (record { 0 = x .at }) (x .number) (n + 1))
+    (walk T t claim xs (n + 1))
 
 -- what the walk through all tests answers
-unfoldable pub verdict : List ℕ → List ℕ → List ℕ → ℕ → Checked
-verdict T t claim k = walk T t claim (tests k) 0
+unfoldable pub constraintTest : List ℕ → List ℕ → List ℕ → ℕ → Answer
+constraintTest T t claim k = walk T t claim (tests k) 0

@@ -5,41 +5,48 @@ use mathlib.Core.Path.{_≡_, refl, sym, ap, subst, _∙_}
 use mathlib.Core.Bool.{Bool, true, false, _||_, true≢false}
 use mathlib.Core.List.{List, [], _∷_, List·Memᴰ}
 use mathlib.Core.Logic.{_⊎_, inl, inr}
-use Prim.Native.Nat.{ℕ, _+_, _*_, _/_}
+use Prim.Native.Nat.{ℕ, _+_, _*_, _^_, _<_}
 use native.Mathlib.Omega.{arith}
 use borrow.Author.Tests.{eqb-true, eq-eqb}
 use lib.Dec.{eqb}
 use lib.ListN.{length}
-use Rattle.lists.proofs.Bools.{or-cases}
+use Rattle.lists.proofs.Bools.{or-cases, and-both}
 use Rattle.words.specs.Words.{AllCanonical}
-use Rattle.counts.specs.Counts.{IsPermitted}
-use Rattle.refusals.specs.Refusals.{digest, answerKept, digestedKept, checkedKept}
+use Rattle.counts.specs.Counts.{tapWordBatches, traceWordBatches}
+use Rattle.refusals.specs.Refusals.{told, indexed, digest, digestWords}
+use Rattle.refusals.specs.Answers.{Refuses as IsRefusal, digestAfter, testsAfter, leaves}
 use Rattle.refusals.specs.declared.Refusal.{Refusal}
 use Rattle.refusals.specs.declared.Refusal.the-variants.{NoInverse, WrongInverse}
 use Rattle.refusals.specs.declared.Answer.{Answer}
 use Rattle.refusals.specs.declared.Answer.the-variants as answer
 use Rattle.refusals.specs.declared.Digest.{Digest}
-use Rattle.refusals.specs.declared.Digested.{Digested}
-use Rattle.refusals.specs.declared.Digested.the-variants as digested
-use Rattle.refusals.specs.declared.Checked.{Checked}
-use Rattle.refusals.specs.declared.Checked.the-variants as checked
-use Rattle.table.specs.Table.{Prepares}
+use Rattle.refusals.proofs.Laws.{passed, both-accepted, digest-refused, tests-refused, AnswerEnds}
+use Rattle.table.specs.Table.{Prepares, tableTest}
 use Rattle.table.proofs.Theorems.{prepares-some, prepares-unique, refused-kept}
 use Rattle.hash.specs.Hash as rescue
+use Rattle.hash.specs.Answers.{hashAnswer, chainAnswer, chainTest}
 use Rattle.hash.proofs.Inputs.{hash-tap, output-tap}
+use Rattle.hash.proofs.Answers.{ChainInputs, chain-inputs}
 use Rattle.trace.specs.Trace.{trace}
-use Rattle.trace.specs.Answers.{buildLeaves}
+use Rattle.trace.specs.Answers.{buildAnswer, buildLeaves, buildTest}
+use Rattle.trace.proofs.Answers.{BuildInputs, build-inputs}
+use Rattle.constraints.specs.Constraints as order
 use Rattle.constraints.specs.ReadOff.{readTaps}
-use Rattle.checker.specs.Answers.{checkAnswer}
-use Rattle.readoff.specs.Answers.{readOffAnswer, readOffLeaves}
-use Rattle.board.specs.Board.{packAnswer, packed, packLeaves, tapsIn, claimIn, unpackLeaves, claimOf}
+use Rattle.constraints.proofs.TestCount.{length-tests}
+use Rattle.checker.specs.Answers.{checkAnswer, checkTest}
+use Rattle.checker.proofs.Answers.{check-inputs}
+use Rattle.readoff.specs.Answers.{readOffAnswer, readOffLeaves, readOffTest}
+use Rattle.readoff.proofs.Answers.{read-off-inputs}
+use Rattle.board.specs.Board.{packTest, packed, packLeaves, unpackAnswer, unpackTest, tapsIn, claimIn, unpackLeaves}
 use Rattle.board.proofs.Round.{claim-is}
-use Rattle.export.specs.Code.{decode, checkedCode, answerTold, digestedTold, checkedTold}
-use Rattle.export.specs.Calls.{written, Told, PrepareCall, hashCall, chainCall, buildCall, BuildCall, ReadOffCall, PackCall, unpackCall, UnpackCall}
+use Rattle.export.specs.Code.{answerCode, digestCode, testsCode, Says}
+use Rattle.export.specs.Calls.{written, HandsOver, PrepareCall, hashCallTest, hashCall, chainCallTest, chainCall, buildCallTest, buildCall, BuildCall, ReadOffCall, PackCall, unpackCallTest, unpackCall, UnpackCall}
+use Rattle.export.proofs.Answers.{chain-room, build-room}
+use Rattle.export.proofs.Bits.{RefusalInBits, says, says-accepted}
 use Rattle.export.proofs.Endings as ends
-use Rattle.export.proofs.Endings.{AnswerEnds, DigestedEnds, CheckedEnds, TableCauses}
-use Rattle.export.proofs.Theorems as told
-use Rattle.demands.specs.Demand1.{Operation, prepare, hash, chain, build, check, read-off, pack, unpack, numbers, callNumbers, OneOf, Refuses, prepare-refuses, hash-refuses, chain-refuses, build-refuses, check-refuses, read-off-refuses, pack-refuses, unpack-refuses, Says, accepted, refused, HashResult, ChainResult, BuildResult, CheckResult, ReadOffResult, Demand1}
+use Rattle.export.proofs.Endings.{TableCauses}
+use Rattle.export.proofs.Theorems as bits
+use Rattle.demands.specs.Demand1.{Operation, prepare, hash, chain, build, check, read-off, pack, unpack, numbers, callNumbers, OneOf, Refuses, prepare-refuses, hash-refuses, chain-refuses, build-refuses, check-refuses, read-off-refuses, pack-refuses, unpack-refuses, Answered, accepted, refused, HashResult, ChainResult, BuildResult, CheckResult, ReadOffResult, Demand1}
 use Rattle.demands.proofs.Returned.{four-words}
 
 -- ---- numbers of a list, by computing
@@ -72,40 +79,40 @@ table-causes ns a b c = record { by-length = one-of 1 ns a; by-word = λ i h. on
 
 -- ---- the operations
 numbered : (o : Operation) (r : Refusal) → Refuses o r → OneOf (numbers o) r
+unfolding hashAnswer chainAnswer buildAnswer checkAnswer readOffAnswer unpackAnswer
 numbered o r (prepare-refuses raw old new q h) =
     let ns = numbers prepare in
     ends.prepare-ends (OneOf ns) (one-of 1 ns refl) (one-of 8 ns refl) (λ i l. one-of 2 ns refl) (one-of 3 ns refl) raw old new (answer.Refused q) h
 numbered o r (hash-refuses T words q e) =
     let ns = numbers hash in
-    subst (DigestedEnds (λ d. Unit) (OneOf ns)) e
-    (ends.hash-ends (OneOf ns) (table-causes ns refl refl refl) (λ d. Unit) T words (λ i h. one-of 6 ns refl) (λ f g. tt))
+    subst (AnswerEnds (OneOf ns)) (digest-refused _ _ q e)
+    (ends.hash-ends (OneOf ns) (table-causes ns refl refl refl) T words (λ i h. one-of 6 ns refl))
 numbered o r (chain-refuses T w q e) =
     let ns = numbers chain in
-    subst (DigestedEnds (λ d. Unit) (OneOf ns)) e
-    (ends.chain-ends (OneOf ns) (table-causes ns refl refl refl) (λ d. Unit) T w (one-of 5 ns refl) (λ k s p i h. one-of 6 ns refl) (λ k f s p g. tt))
+    subst (AnswerEnds (OneOf ns)) (digest-refused _ _ q e)
+    (ends.chain-ends (OneOf ns) (table-causes ns refl refl refl) T w (one-of 5 ns refl) (λ k s p i h. one-of 6 ns refl))
 numbered o r (build-refuses T w size q e) =
     let ns = numbers build in
-    subst (DigestedEnds (λ d. Unit) (OneOf ns)) e
-    (ends.build-ends (OneOf ns) (table-causes ns refl refl refl) (λ d. Unit) T w (one-of 5 ns refl) (λ k s p i h. one-of 6 ns refl) size (one-of 8 ns refl)
-    (λ k f s p g h. tt))
+    subst (AnswerEnds (OneOf ns)) (digest-refused _ _ q e)
+    (ends.build-ends (OneOf ns) (table-causes ns refl refl refl) T w (one-of 5 ns refl) (λ k s p i h. one-of 6 ns refl) size (one-of 8 ns refl))
 numbered o r (check-refuses T t claim q e) =
     let ns = numbers check in
-    subst (CheckedEnds (λ n. Unit) (OneOf ns)) e
-    (ends.check-ends (OneOf ns) (table-causes ns refl refl refl) (λ n. Unit) T t claim (one-of 7 ns refl) (λ i h. one-of 9 ns refl)
-    (λ k s p i h. one-of 10 ns refl) (λ k p i c n f. one-of 11 ns refl) (λ k s p. tt))
+    subst (AnswerEnds (OneOf ns)) (tests-refused _ _ q e)
+    (ends.check-ends (OneOf ns) (table-causes ns refl refl refl) T t claim (one-of 7 ns refl) (λ i h. one-of 9 ns refl)
+    (λ k s p i h. one-of 10 ns refl) (λ k p i c n f. one-of 11 ns refl))
 numbered o r (read-off-refuses T t claim size q e) =
     let ns = numbers read-off in
-    subst (CheckedEnds (λ n. Unit) (OneOf ns)) e
-    (ends.read-off-ends (OneOf ns) (table-causes ns refl refl refl) (λ n. Unit) T t claim (one-of 7 ns refl) (λ i h. one-of 9 ns refl)
-    (λ k s p i h. one-of 10 ns refl) (λ k p i c n f. one-of 11 ns refl) size (one-of 8 ns refl) (λ k s p f. tt))
+    subst (AnswerEnds (OneOf ns)) (tests-refused _ _ q e)
+    (ends.read-off-ends (OneOf ns) (table-causes ns refl refl refl) T t claim (one-of 7 ns refl) (λ i h. one-of 9 ns refl)
+    (λ k s p i h. one-of 10 ns refl) (λ k p i c n f. one-of 11 ns refl) size (one-of 8 ns refl))
 numbered o r (pack-refuses w claim size q e) =
     let ns = numbers pack in
     subst (AnswerEnds (OneOf ns)) e
     (ends.pack-ends (OneOf ns) w claim size (one-of 5 ns refl) (one-of 8 ns refl) (λ i h. one-of 9 ns refl) (λ k s p i h. one-of 6 ns refl))
 numbered o r (unpack-refuses file size q e) =
     let ns = numbers unpack in
-    subst (DigestedEnds (λ d. Unit) (OneOf ns)) e
-    (ends.unpack-ends (OneOf ns) file (one-of 12 ns refl) (one-of 8 ns refl) (λ j h. one-of 13 ns refl) (λ j h. one-of 14 ns refl) (λ d. Unit) size (λ f. tt))
+    subst (AnswerEnds (OneOf ns)) (digest-refused _ _ q e)
+    (ends.unpack-ends (OneOf ns) file (one-of 12 ns refl) (one-of 8 ns refl) (λ j h. one-of 13 ns refl) (λ j h. one-of 14 ns refl) size)
 
 -- Prepare never returns 4, and only it returns 3
 never-4 : (i : ℕ) → Refuses prepare (WrongInverse i) → ⊥
@@ -123,174 +130,189 @@ only-3 unpack h = absurd (not-among 3 (numbers unpack) refl (numbered unpack NoI
 
 -- ---- the calls
 
--- what a word says, from the answer that it is the code of
+-- what a word says, from the tests t that it tells of: they are within its bits, and refuse with these numbers only
 module _ (code : ℕ) (ns : List ℕ) (full : ℕ → Type 0) (kept : Type 0) where
-  answer-says : (a : Answer) → decode code ≡ answerTold a → AnswerEnds (OneOf ns) a
-      → (a ≡ answer.Accepted → full 0) → ((r : Refusal) → a ≡ answer.Refused r → kept) → Says code ns full kept
-  answer-says answer.Accepted t e f k = accepted 0 t (f refl)
-  answer-says (answer.Refused r) t e f k = refused r t e (k r refl)
+  answer-says : (t : Answer) → code ≡ answerCode t → AnswerEnds RefusalInBits t → AnswerEnds (OneOf ns) t
+      → (t ≡ answer.Accepted → full 0) → (IsRefusal t → kept) → Answered code ns full kept
+  unfolding answerCode
+  answer-says answer.Accepted e b o f k = accepted 0 (rw e (record { number = refl; constraint = refl; row = refl; value = refl })) (f refl)
+  answer-says (answer.Refused r) e b o f k = refused r (rw e (says (told r) b)) o (k (r, refl))
 
-  digested-says : (R : Digest → Type 0) (a : Digested) → decode code ≡ digestedTold a → DigestedEnds R (OneOf ns) a
-      → ((d : Digest) → a ≡ digested.Accepted d → R d → full 0) → ((r : Refusal) → a ≡ digested.Refused r → kept) → Says code ns full kept
-  digested-says R (digested.Accepted d) t e f k = accepted 0 t (f d refl e)
-  digested-says R (digested.Refused r) t e f k = refused r t e (k r refl)
+  digest-says : (t : Answer) (d : Digest) → code ≡ digestCode (digestAfter t d) → AnswerEnds RefusalInBits t → AnswerEnds (OneOf ns) t
+      → (t ≡ answer.Accepted → full 0) → (IsRefusal t → kept) → Answered code ns full kept
+  unfolding digestCode
+  digest-says answer.Accepted d e b o f k = accepted 0 (rw e (record { number = refl; constraint = refl; row = refl; value = refl })) (f refl)
+  digest-says (answer.Refused r) d e b o f k = refused r (rw e (says (told r) b)) o (k (r, refl))
 
-  checked-says : (R : ℕ → Type 0) (a : Checked) → decode code ≡ checkedTold a → CheckedEnds R (OneOf ns) a
-      → ((n : ℕ) → a ≡ checked.Accepted n → R n → full n) → ((r : Refusal) → a ≡ checked.Refused r → kept) → Says code ns full kept
-  checked-says R (checked.Accepted n) t e f k = accepted n t (f n refl e)
-  checked-says R (checked.Refused r) t e f k = refused r t e (k r refl)
+  tests-says : (t : Answer) (n : ℕ) → code ≡ testsCode (testsAfter t n) → (t ≡ answer.Accepted → n < 2 ^ 28) → AnswerEnds RefusalInBits t → AnswerEnds (OneOf ns) t
+      → (t ≡ answer.Accepted → full n) → (IsRefusal t → kept) → Answered code ns full kept
+  unfolding testsCode
+  tests-says answer.Accepted n e l b o f k = accepted n (rw e (says-accepted n (l refl))) (f refl)
+  tests-says (answer.Refused r) n e l b o f k = refused r (rw e (says (told r) b)) o (k (r, refl))
 
 prepare-call : (raw table table′ : List ℕ) (code : ℕ) → PrepareCall raw table code table′
-    → Says code (callNumbers prepare) (λ tests. (tests ≡ 0) × Prepares raw table answer.Accepted table′) (table′ ≡ table)
+    → Answered code (callNumbers prepare) (λ tests. (tests ≡ 0) × Prepares raw table answer.Accepted table′) (table′ ≡ table)
 prepare-call raw table table′ code h =
     let ns = callNumbers prepare in
-    answer-says code ns (λ tests. (tests ≡ 0) × Prepares raw table answer.Accepted table′) (table′ ≡ table) (h .answer)
-    (told.prepare-told raw table table′ code h)
+    answer-says code ns (λ tests. (tests ≡ 0) × Prepares raw table answer.Accepted table′) (table′ ≡ table) (h .answer) (h .coded)
+    (bits.prepare-bits raw table table′ (h .answer) (h .prepares))
     (ends.prepare-ends (OneOf ns) (one-of 1 ns refl) (one-of 8 ns refl) (λ i l. one-of 2 ns refl) (one-of 3 ns refl) raw table table′ (h .answer) (h .prepares))
     (λ e. (refl, subst (λ a. Prepares raw table a table′) e (h .prepares)))
-    (λ r e. refused-kept raw table table′ r (subst (λ a. Prepares raw table a table′) e (h .prepares)))
+    (λ r. refused-kept raw table table′ (r .0) (subst (λ a. Prepares raw table a table′) (r .1) (h .prepares)))
 
--- four words that are handed over
-module _ (a : Digested) (code : ℕ) (old new : List ℕ) (h : Told a code old new) where
-  output-new : (d : Digest) → a ≡ digested.Accepted d → new ≡ claimOf d
-  output-new d e = h .output ∙ ap (λ x. written x old) e
+-- four words that are handed over after the tests t
+module _ (t : Answer) (d : Digest) (code : ℕ) (old new : List ℕ) (h : HandsOver (digestAfter t d) code old new) where
+  output-new : t ≡ answer.Accepted → new ≡ digestWords d
+  output-new e = h .output ∙ ap (λ x. written (digestAfter x d) old) e
 
-  output-old : (r : Refusal) → a ≡ digested.Refused r → new ≡ old
-  output-old r e = h .output ∙ ap (λ x. written x old) e
+  output-old : IsRefusal t → new ≡ old
+  output-old r = h .output ∙ ap (λ x. written (digestAfter x d) old) (r .1)
 
 hash-call : (T output output′ : List ℕ) (w0 w1 w2 w3 w4 w5 w6 w7 code : ℕ)
-    → Told (hashCall T (w0 ∷ w1 ∷ w2 ∷ w3 ∷ w4 ∷ w5 ∷ w6 ∷ w7 ∷ []) (length output)) code output output′
-    → Says code (callNumbers hash) (HashResult T (w0 ∷ w1 ∷ w2 ∷ w3 ∷ []) (w4 ∷ w5 ∷ w6 ∷ w7 ∷ []) output′) (output′ ≡ output)
+    → HandsOver (hashCall T (w0 ∷ w1 ∷ w2 ∷ w3 ∷ w4 ∷ w5 ∷ w6 ∷ w7 ∷ []) (length output)) code output output′
+    → Answered code (callNumbers hash) (HashResult T (w0 ∷ w1 ∷ w2 ∷ w3 ∷ []) (w4 ∷ w5 ∷ w6 ∷ w7 ∷ []) output′) (output′ ≡ output)
+unfolding hashCall
 hash-call T output output′ w0 w1 w2 w3 w4 w5 w6 w7 code h =
     let words : List ℕ = w0 ∷ w1 ∷ w2 ∷ w3 ∷ w4 ∷ w5 ∷ w6 ∷ w7 ∷ [] in
     let a : List ℕ = w0 ∷ w1 ∷ w2 ∷ w3 ∷ [] in
     let b : List ℕ = w4 ∷ w5 ∷ w6 ∷ w7 ∷ [] in
     let ns = callNumbers hash in
-    let call = hashCall T words (length output) in
-    digested-says code ns (HashResult T a b output′) (output′ ≡ output) (λ d. claimOf d ≡ rescue.hash T a b) call
-    (ap decode (h .coded) ∙ told.hash-told T words (length output) refl)
-    (ends.hash-call-ends (OneOf ns) (table-causes ns refl refl refl) (λ d. claimOf d ≡ rescue.hash T a b) T words (λ i l. one-of 6 ns refl)
-    (length output) (one-of 8 ns refl) (λ e f g. four-words (rescue.hash T a b) (hash-tap T a b .size)))
-    (λ d e q. record { none = refl; output-is = output-new call code output output′ h d e ∙ q })
-    (output-old call code output output′ h)
+    let t = hashCallTest T words (length output) in
+    let d = digest (rescue.hash T a b) in
+    digest-says code ns (HashResult T a b output′) (output′ ≡ output) t d (h .coded)
+    (bits.hash-bits T words (length output) refl)
+    (ends.hash-call-ends (OneOf ns) (table-causes ns refl refl refl) T words (λ i l. one-of 6 ns refl) (length output) (one-of 8 ns refl))
+    (λ e. record { none = refl; output-is = output-new t d code output output′ h e ∙ four-words (rescue.hash T a b) (hash-tap T a b .size) })
+    (output-old t d code output output′ h)
 
--- what Chain and Build come to where they accept: the chain of a list of 12k + 4 words
-pub record ChainOf (T w : List ℕ) (d : Digest) : Type 0 where
-  pub k : ℕ
-  pub permitted : IsPermitted k
-  pub taps : length w ≡ 12 * k + 4
-  pub output : claimOf d ≡ rescue.chain T w k
-
-chain-of : (T w : List ℕ) (k : ℕ) → length w ≡ 12 * k + 4 → IsPermitted k → AllCanonical w → ChainOf T w (digest (rescue.chain T w k))
+-- the output of a list that passed
+chain-words : (T w : List ℕ) (k : ℕ) → length w ≡ 12 * k + 4 → AllCanonical w → digestWords (digest (rescue.chain T w k)) ≡ rescue.chain T w k
 unfolding rescue.chain
-chain-of T w k s p c = record {
-  k = k;
-  permitted = p;
-  taps = s;
-  output = four-words (rescue.chain T w k) (output-tap T w c (omega arith) (3 * k) .size);
-}
+chain-words T w k s c = four-words (rescue.outputAt T w (3 * k)) (output-tap T w c (omega arith) (3 * k) .size)
 
-chain-call : (T w output output′ : List ℕ) (code : ℕ) → Told (chainCall T w (length output)) code output output′
-    → Says code (callNumbers chain) (ChainResult T w output′) (output′ ≡ output)
+chain-call-inputs : (T w : List ℕ) (size : ℕ) → chainCallTest T w size ≡ answer.Accepted → ChainInputs T w (tapWordBatches (length w))
+unfolding chainCallTest
+chain-call-inputs T w size e =
+    let a = passed _ _ _ (both-accepted (tableTest T) _ e .1) in
+    chain-inputs T w (chain-room T w size (eqb-true size 4 (passed _ _ _ (a .1) .0)) ∙ e)
+
+build-call-inputs : (T w : List ℕ) (rows size : ℕ) → buildCallTest T w rows size ≡ answer.Accepted → BuildInputs T w rows (tapWordBatches (length w))
+unfolding buildCallTest
+build-call-inputs T w rows size e =
+    let a = passed _ _ _ (both-accepted (tableTest T) _ e .1) in
+    let b = and-both (eqb size 4) _ (passed _ _ _ (a .1) .0) in
+    build-inputs T w rows (build-room T w size rows (eqb-true size 4 (b .0)) ∙ e)
+
+chain-call : (T w output output′ : List ℕ) (code : ℕ) → HandsOver (chainCall T w (length output)) code output output′
+    → Answered code (callNumbers chain) (ChainResult T w output′) (output′ ≡ output)
+unfolding chainCall
 chain-call T w output output′ code h =
     let ns = callNumbers chain in
-    let call = chainCall T w (length output) in
-    digested-says code ns (ChainResult T w output′) (output′ ≡ output) (ChainOf T w) call
-    (ap decode (h .coded) ∙ told.chain-told T w (length output))
-    (ends.chain-call-ends (OneOf ns) (table-causes ns refl refl refl) (ChainOf T w) T w (one-of 5 ns refl) (λ k s p i l. one-of 6 ns refl)
-    (length output) (one-of 8 ns refl) (λ k e f s p c. chain-of T w k s p c))
-    (λ d e q. record { none = refl; k = q .k; permitted = q .permitted; taps = q .taps; output-is = output-new call code output output′ h d e ∙ q .output })
-    (output-old call code output output′ h)
+    let k = tapWordBatches (length w) in
+    let t = chainCallTest T w (length output) in
+    let d = digest (rescue.chain T w k) in
+    digest-says code ns (ChainResult T w output′) (output′ ≡ output) t d (h .coded)
+    (bits.chain-bits T w (length output))
+    (ends.chain-call-ends (OneOf ns) (table-causes ns refl refl refl) T w (one-of 5 ns refl) (λ k s p i l. one-of 6 ns refl) (length output) (one-of 8 ns refl))
+    (λ e. (let i = chain-call-inputs T w (length output) e in record {
+      none = refl;
+      k = k;
+      permitted = i .permitted;
+      taps = i .size;
+      output-is = output-new t d code output output′ h e ∙ chain-words T w k (i .size) (i .canonical);
+    }))
+    (output-old t d code output output′ h)
 
 build-call : (T w rows rows′ output output′ : List ℕ) (code : ℕ) → BuildCall T w code rows rows′ output output′
-    → Says code (callNumbers build) (BuildResult T w rows′ output′) ((rows′ ≡ rows) × (output′ ≡ output))
+    → Answered code (callNumbers build) (BuildResult T w rows′ output′) ((rows′ ≡ rows) × (output′ ≡ output))
+unfolding buildCall
 build-call T w rows rows′ output output′ code h =
     let ns = callNumbers build in
-    let call = buildCall T w (length rows) (length output) in
-    digested-says code ns (BuildResult T w rows′ output′) ((rows′ ≡ rows) × (output′ ≡ output)) (ChainOf T w) call
-    (ap decode (h .told .coded) ∙ told.build-told T w (length rows) (length output))
-    (ends.build-call-ends (OneOf ns) (table-causes ns refl refl refl) (ChainOf T w) T w (one-of 5 ns refl) (λ k s p i l. one-of 6 ns refl)
-    (length rows) (one-of 8 ns refl) (length output) (λ k e f s p r c. chain-of T w k s p c))
-    (λ d e q. full d e q)
-    (λ r e. (h .rows ∙ ap (λ x. digestedKept x (trace T w (length w / 12)) rows) e, output-old call code output output′ (h .told) r e))
-  where
-    full : (d : Digest) → buildCall T w (length rows) (length output) ≡ digested.Accepted d → ChainOf T w d → BuildResult T w rows′ output′ 0
-    full d e q =
-        let batches : length w / 12 ≡ q .k = omega (arith, q .taps) in
-        record {
-          none = refl;
-          k = q .k;
-          permitted = q .permitted;
-          taps = q .taps;
-          output-is = output-new (buildCall T w (length rows) (length output)) code output output′ (h .told) d e ∙ q .output;
-          rows-are = h .rows ∙ ap (λ x. digestedKept x (trace T w (length w / 12)) rows) e ∙ ap (trace T w) batches;
-        }
+    let k = tapWordBatches (length w) in
+    let t = buildCallTest T w (length rows) (length output) in
+    let d = digest (rescue.chain T w k) in
+    digest-says code ns (BuildResult T w rows′ output′) ((rows′ ≡ rows) × (output′ ≡ output)) t d (h .four .coded)
+    (bits.build-bits T w (length rows) (length output))
+    (ends.build-call-ends (OneOf ns) (table-causes ns refl refl refl) T w (one-of 5 ns refl) (λ k s p i l. one-of 6 ns refl)
+    (length rows) (length output) (one-of 8 ns refl))
+    (λ e. (let i = build-call-inputs T w (length rows) (length output) e in record {
+      none = refl;
+      k = k;
+      permitted = i .permitted;
+      taps = i .taps;
+      output-is = output-new t d code output output′ (h .four) e ∙ chain-words T w k (i .taps) (i .canonical);
+      rows-are = h .rows ∙ ap (λ x. leaves x (trace T w k) rows) e;
+    }))
+    (λ r. (h .rows ∙ ap (λ x. leaves x (trace T w k) rows) (r .1), output-old t d code output output′ (h .four) r))
 
 module _ (T t : List ℕ) (c0 c1 c2 c3 : ℕ) where
-  check-call : (code : ℕ) → code ≡ checkedCode (checkAnswer T t (c0 ∷ c1 ∷ c2 ∷ c3 ∷ [])) → Says code (callNumbers check) (CheckResult t) Unit
+  check-call : (code : ℕ) → code ≡ testsCode (checkAnswer T t (c0 ∷ c1 ∷ c2 ∷ c3 ∷ [])) → Answered code (callNumbers check) (CheckResult t) Unit
+  unfolding checkAnswer
   check-call code h =
       let ns = callNumbers check in
-      checked-says code ns (CheckResult t) Unit (CheckResult t) (checkAnswer T t (c0 ∷ c1 ∷ c2 ∷ c3 ∷ []))
-      (ap decode h ∙ told.check-told T t (c0 ∷ c1 ∷ c2 ∷ c3 ∷ []) refl)
-      (ends.check-ends (OneOf ns) (table-causes ns refl refl refl) (CheckResult t) T t (c0 ∷ c1 ∷ c2 ∷ c3 ∷ []) (one-of 7 ns refl) (λ i l. one-of 9 ns refl)
-      (λ k s p i l. one-of 10 ns refl) (λ k p i c n f. one-of 11 ns refl)
-      (λ k s p. record { k = k; permitted = p; rows = s; all = refl }))
-      (λ n e q. q)
-      (λ r e. tt)
+      let claim : List ℕ = c0 ∷ c1 ∷ c2 ∷ c3 ∷ [] in
+      let k = traceWordBatches (length t) in
+      tests-says code ns (CheckResult t) Unit (checkTest T t claim) (length (order.tests k)) h
+      (λ e. bits.tests-bits k (check-inputs T t claim e .0 .permitted))
+      (bits.check-bits T t claim refl)
+      (ends.check-ends (OneOf ns) (table-causes ns refl refl refl) T t claim (one-of 7 ns refl) (λ i l. one-of 9 ns refl)
+      (λ k s p i l. one-of 10 ns refl) (λ k p i c n f. one-of 11 ns refl))
+      (λ e. (let i = check-inputs T t claim e .0 in record { k = k; permitted = i .permitted; rows = i .size; all = length-tests k }))
+      (λ r. tt)
 
   read-off-call : (taps taps′ : List ℕ) (code : ℕ) → ReadOffCall T t (c0 ∷ c1 ∷ c2 ∷ c3 ∷ []) code taps taps′
-      → Says code (callNumbers read-off) (ReadOffResult T t taps′) (taps′ ≡ taps)
-  unfolding readOffLeaves
+      → Answered code (callNumbers read-off) (ReadOffResult T t taps′) (taps′ ≡ taps)
+  unfolding readOffAnswer readOffLeaves
   read-off-call taps taps′ code h =
       let ns = callNumbers read-off in
-      checked-says code ns (ReadOffResult T t taps′) (taps′ ≡ taps) (CheckResult t) (readOffAnswer T t (c0 ∷ c1 ∷ c2 ∷ c3 ∷ []) (length taps))
-      (ap decode (h .coded) ∙ told.read-off-told T t (c0 ∷ c1 ∷ c2 ∷ c3 ∷ []) refl (length taps))
-      (ends.read-off-ends (OneOf ns) (table-causes ns refl refl refl) (CheckResult t) T t (c0 ∷ c1 ∷ c2 ∷ c3 ∷ []) (one-of 7 ns refl) (λ i l. one-of 9 ns refl)
-      (λ k s p i l. one-of 10 ns refl) (λ k p i c n f. one-of 11 ns refl) (length taps) (one-of 8 ns refl)
-      (λ k s p e. record { k = k; permitted = p; rows = s; all = refl }))
-      (λ n e q. full n e q)
-      (λ r e. h .list ∙ ap (λ x. checkedKept x (readTaps T t (length t / 384)) taps) e)
-    where
-      full : (n : ℕ) → readOffAnswer T t (c0 ∷ c1 ∷ c2 ∷ c3 ∷ []) (length taps) ≡ checked.Accepted n → CheckResult t n → ReadOffResult T t taps′ n
-      full n e q =
-          let batches : length t / 384 ≡ q .k = omega (arith, q .rows) in
-          record {
-            k = q .k;
-            permitted = q .permitted;
-            rows = q .rows;
-            all = q .all;
-            taps-are = h .list ∙ ap (λ x. checkedKept x (readTaps T t (length t / 384)) taps) e ∙ ap (readTaps T t) batches;
-          }
+      let claim : List ℕ = c0 ∷ c1 ∷ c2 ∷ c3 ∷ [] in
+      let k = traceWordBatches (length t) in
+      tests-says code ns (ReadOffResult T t taps′) (taps′ ≡ taps) (readOffTest T t claim (length taps)) (length (order.tests k)) (h .coded)
+      (λ e. bits.tests-bits k (read-off-inputs T t claim (length taps) e .permitted))
+      (bits.read-off-bits T t claim refl (length taps))
+      (ends.read-off-ends (OneOf ns) (table-causes ns refl refl refl) T t claim (one-of 7 ns refl) (λ i l. one-of 9 ns refl)
+      (λ k s p i l. one-of 10 ns refl) (λ k p i c n f. one-of 11 ns refl) (length taps) (one-of 8 ns refl))
+      (λ e. (let i = read-off-inputs T t claim (length taps) e in record {
+        k = k;
+        permitted = i .permitted;
+        rows = i .size;
+        all = length-tests k;
+        taps-are = h .list ∙ ap (λ x. leaves x (readTaps T t k) taps) e;
+      }))
+      (λ r. h .list ∙ ap (λ x. leaves x (readTaps T t k) taps) (r .1))
 
 pack-call : (w file file′ : List ℕ) (c0 c1 c2 c3 code : ℕ) → PackCall w (c0 ∷ c1 ∷ c2 ∷ c3 ∷ []) file code file′
-    → Says code (callNumbers pack) (λ tests. (tests ≡ 0) × (file′ ≡ packed w (c0 ∷ c1 ∷ c2 ∷ c3 ∷ []))) (file′ ≡ file)
+    → Answered code (callNumbers pack) (λ tests. (tests ≡ 0) × (file′ ≡ packed w (c0 ∷ c1 ∷ c2 ∷ c3 ∷ []))) (file′ ≡ file)
 unfolding packLeaves
 pack-call w file file′ c0 c1 c2 c3 code h =
     let ns = callNumbers pack in
     let claim : List ℕ = c0 ∷ c1 ∷ c2 ∷ c3 ∷ [] in
-    answer-says code ns (λ tests. (tests ≡ 0) × (file′ ≡ packed w claim)) (file′ ≡ file) (packAnswer w claim (length file))
-    (ap decode (h .coded) ∙ told.pack-told w claim (length file) refl)
+    answer-says code ns (λ tests. (tests ≡ 0) × (file′ ≡ packed w claim)) (file′ ≡ file) (packTest w claim (length file)) (h .coded)
+    (bits.pack-bits w claim (length file) refl)
     (ends.pack-ends (OneOf ns) w claim (length file) (one-of 5 ns refl) (one-of 8 ns refl) (λ i l. one-of 9 ns refl) (λ k s p i l. one-of 6 ns refl))
-    (λ e. (refl, h .file ∙ ap (λ x. answerKept x (packed w claim) file) e))
-    (λ r e. h .file ∙ ap (λ x. answerKept x (packed w claim) file) e)
+    (λ e. (refl, h .file ∙ ap (λ x. leaves x (packed w claim) file) e))
+    (λ r. h .file ∙ ap (λ x. leaves x (packed w claim) file) (r .1))
 
 unpack-call : (file taps taps′ claim claim′ : List ℕ) (code : ℕ) → UnpackCall file code taps taps′ claim claim′
-    → Says code (callNumbers unpack) (λ tests. (tests ≡ 0) × (taps′ ≡ tapsIn file) × (claim′ ≡ claimIn file)) ((taps′ ≡ taps) × (claim′ ≡ claim))
+    → Answered code (callNumbers unpack) (λ tests. (tests ≡ 0) × (taps′ ≡ tapsIn file) × (claim′ ≡ claimIn file)) ((taps′ ≡ taps) × (claim′ ≡ claim))
+unfolding unpackCall
 unpack-call file taps taps′ claim claim′ code h =
     let ns = callNumbers unpack in
-    let call = unpackCall file (length taps) (length claim) in
-    let same = claim-is file (digest (claimIn file)) refl in
-    digested-says code ns (λ tests. (tests ≡ 0) × (taps′ ≡ tapsIn file) × (claim′ ≡ claimIn file)) ((taps′ ≡ taps) × (claim′ ≡ claim))
-    (λ d. claimIn file ≡ claimOf d) call
-    (ap decode (h .told .coded) ∙ told.unpack-told file (length taps) (length claim))
-    (ends.unpack-call-ends (OneOf ns) file (one-of 12 ns refl) (one-of 8 ns refl) (λ j l. one-of 13 ns refl) (λ j l. one-of 14 ns refl)
-    (λ d. claimIn file ≡ claimOf d) (length taps) (length claim) (λ e f. same) (λ e. same))
-    (λ d e q. (refl, h .list ∙ ap (λ x. digestedKept x (tapsIn file) taps) e, output-new call code claim claim′ (h .told) d e ∙ sym q))
-    (λ r e. (h .list ∙ ap (λ x. digestedKept x (tapsIn file) taps) e, output-old call code claim claim′ (h .told) r e))
+    let t = unpackCallTest file (length taps) (length claim) in
+    let d = digest (claimIn file) in
+    digest-says code ns (λ tests. (tests ≡ 0) × (taps′ ≡ tapsIn file) × (claim′ ≡ claimIn file)) ((taps′ ≡ taps) × (claim′ ≡ claim)) t d (h .four .coded)
+    (bits.unpack-bits file (length taps) (length claim))
+    (ends.unpack-call-ends (OneOf ns) file (one-of 12 ns refl) (one-of 8 ns refl) (λ j l. one-of 13 ns refl) (λ j l. one-of 14 ns refl) (length taps) (length claim))
+    (λ e. (
+      refl,
+      h .list ∙ ap (λ x. leaves x (tapsIn file) taps) e,
+      output-new t d code claim claim′ (h .four) e ∙ sym (claim-is file d refl),
+    ))
+    (λ r. (h .list ∙ ap (λ x. leaves x (tapsIn file) taps) (r .1), output-old t d code claim claim′ (h .four) r))
 
 -- ---- the demand
 pub demand-1 : Demand1
-unfolding buildLeaves readOffLeaves packLeaves unpackLeaves
+unfolding buildAnswer buildLeaves readOffAnswer readOffLeaves packLeaves unpackAnswer unpackLeaves
 demand-1 = record {
   numbered = numbered;
   prepare-never-4 = never-4;
@@ -298,10 +320,10 @@ demand-1 = record {
   prepare-answers = prepares-some;
   prepare-answers-once = prepares-unique;
   prepare-keeps = refused-kept;
-  build-keeps = λ T w old r e. ap (λ (a : Digested). digestedKept a (trace T w (length w / 12)) old) e;
-  read-off-keeps = λ T t claim old r e. ap (λ (a : Checked). checkedKept a (readTaps T t (length t / 384)) old) e;
-  pack-keeps = λ w claim old r e. ap (λ (a : Answer). answerKept a (packed w claim) old) e;
-  unpack-keeps = λ file old r e. ap (λ (a : Digested). digestedKept a (tapsIn file) old) e;
+  build-keeps = λ T w old r e. ap (λ a. leaves a (trace T w (tapWordBatches (length w))) old) (digest-refused (buildTest T w (length old)) _ r e);
+  read-off-keeps = λ T t claim old r e. ap (λ a. leaves a (readTaps T t (traceWordBatches (length t))) old) (tests-refused (readOffTest T t claim (length old)) _ r e);
+  pack-keeps = λ w claim old r e. ap (λ a. leaves a (packed w claim) old) e;
+  unpack-keeps = λ file old r e. ap (λ a. leaves a (tapsIn file) old) (digest-refused (unpackTest file (length old)) _ r e);
   prepare-call = prepare-call;
   hash-call = hash-call;
   chain-call = chain-call;

@@ -6,14 +6,13 @@ use Prim.Native.Nat.{ℕ, zero, suc, _<_}
 use native.Mathlib.Omega.{arith}
 use lib.ListN.{length}
 use Rattle.lists.specs.Lists.{cell}
-use Rattle.refusals.specs.Refusals.{digest}
+use Rattle.refusals.specs.Refusals.{digest, digestWords}
 use Rattle.hash.proofs.States.{same-cells}
-use Rattle.board.specs.Board.{claimOf}
 
-pub four-words : (s : List ℕ) → length s ≡ 4 → claimOf (digest s) ≡ s
-four-words s e = same-cells 4 (claimOf (digest s)) s refl e each
+pub four-words : (s : List ℕ) → length s ≡ 4 → digestWords (digest s) ≡ s
+four-words s e = same-cells 4 (digestWords (digest s)) s refl e each
   where
-    each : (j : ℕ) → j < 4 → cell (claimOf (digest s)) j ≡ cell s j
+    each : (j : ℕ) → j < 4 → cell (digestWords (digest s)) j ≡ cell s j
     each zero h = refl
     each (suc zero) h = refl
     each (suc (suc zero)) h = refl

@@ -6,15 +6,14 @@ use mathlib.Core.Path.{_≡_}
 use mathlib.Core.List.{List, [], _∷_, List·Memᴰ}
 use Prim.Native.Nat.{ℕ, _+_, _*_}
 use lib.ListN.{length}
-use Rattle.lists.specs.Lists.{cell}
 use Rattle.counts.specs.Counts.{IsPermitted}
-use Rattle.refusals.specs.Refusals.{told}
+use Rattle.refusals.specs.Refusals.{told, indexed}
 use Rattle.refusals.specs.declared.Refusal.{Refusal}
 use Rattle.refusals.specs.declared.Refusal.the-variants.{NoInverse, WrongInverse}
 use Rattle.refusals.specs.declared.Answer.{Answer}
 use Rattle.refusals.specs.declared.Answer.the-variants as answer
-use Rattle.refusals.specs.declared.Digested.the-variants as digested
-use Rattle.refusals.specs.declared.Checked.the-variants as checked
+use Rattle.refusals.specs.declared.DigestAnswer.the-variants as digest
+use Rattle.refusals.specs.declared.TestsAnswer.the-variants as tests
 use Rattle.table.specs.Table.{Prepares}
 use Rattle.hash.specs.Hash as rescue
 use Rattle.hash.specs.Answers.{hashAnswer, chainAnswer}
@@ -23,9 +22,9 @@ use Rattle.trace.specs.Answers.{buildAnswer, buildLeaves}
 use Rattle.constraints.specs.ReadOff.{readTaps}
 use Rattle.checker.specs.Answers.{checkAnswer}
 use Rattle.readoff.specs.Answers.{readOffAnswer, readOffLeaves}
-use Rattle.board.specs.Board.{packAnswer, packed, packLeaves, unpackAnswer, tapsIn, claimIn, unpackLeaves}
-use Rattle.export.specs.Code.{decode, checkedCode}
-use Rattle.export.specs.Calls.{Told, PrepareCall, hashCall, chainCall, BuildCall, ReadOffCall, PackCall, UnpackCall}
+use Rattle.board.specs.Board.{packTest, packed, packLeaves, unpackAnswer, tapsIn, claimIn, unpackLeaves}
+use Rattle.export.specs.Code.{Says, testsCode}
+use Rattle.export.specs.Calls.{HandsOver, PrepareCall, hashCall, chainCall, BuildCall, ReadOffCall, PackCall, UnpackCall}
 
 -- ---- the operations, and the numbers that each can return, in the order of their tests (document 01, "What is turned back")
 
@@ -62,25 +61,25 @@ callNumbers unpack = numbers unpack
 
 -- the refusal's number is one of these
 abbrev pub OneOf : List ℕ → Refusal → Type 0
-OneOf ns r = List·Memᴰ (cell (told r) 0) ns
+OneOf ns r = List·Memᴰ (told r .number) ns
 
 -- the operation, lent something, answers this refusal
 pub data Refuses : Operation → Refusal → Type 0 where
   prepare-refuses : (raw old new : List ℕ) (r : Refusal) → Prepares raw old (answer.Refused r) new → Refuses prepare r
-  hash-refuses : (T words : List ℕ) (r : Refusal) → hashAnswer T words ≡ digested.Refused r → Refuses hash r
-  chain-refuses : (T w : List ℕ) (r : Refusal) → chainAnswer T w ≡ digested.Refused r → Refuses chain r
-  build-refuses : (T w : List ℕ) (size : ℕ) (r : Refusal) → buildAnswer T w size ≡ digested.Refused r → Refuses build r
-  check-refuses : (T t claim : List ℕ) (r : Refusal) → checkAnswer T t claim ≡ checked.Refused r → Refuses check r
-  read-off-refuses : (T t claim : List ℕ) (size : ℕ) (r : Refusal) → readOffAnswer T t claim size ≡ checked.Refused r → Refuses read-off r
-  pack-refuses : (w claim : List ℕ) (size : ℕ) (r : Refusal) → packAnswer w claim size ≡ answer.Refused r → Refuses pack r
-  unpack-refuses : (file : List ℕ) (size : ℕ) (r : Refusal) → unpackAnswer file size ≡ digested.Refused r → Refuses unpack r
+  hash-refuses : (T words : List ℕ) (r : Refusal) → hashAnswer T words ≡ digest.Refused r → Refuses hash r
+  chain-refuses : (T w : List ℕ) (r : Refusal) → chainAnswer T w ≡ digest.Refused r → Refuses chain r
+  build-refuses : (T w : List ℕ) (size : ℕ) (r : Refusal) → buildAnswer T w size ≡ digest.Refused r → Refuses build r
+  check-refuses : (T t claim : List ℕ) (r : Refusal) → checkAnswer T t claim ≡ tests.Refused r → Refuses check r
+  read-off-refuses : (T t claim : List ℕ) (size : ℕ) (r : Refusal) → readOffAnswer T t claim size ≡ tests.Refused r → Refuses read-off r
+  pack-refuses : (w claim : List ℕ) (size : ℕ) (r : Refusal) → packTest w claim size ≡ answer.Refused r → Refuses pack r
+  unpack-refuses : (file : List ℕ) (size : ℕ) (r : Refusal) → unpackAnswer file size ≡ digest.Refused r → Refuses unpack r
 
 -- ---- a call from another language: what the word says that it returns
 
 -- a full result, with the tests walked where the operation counts them; or one of these refusals, and what was lent is as it was
-pub data Says (code : ℕ) (ns : List ℕ) (full : ℕ → Type 0) (kept : Type 0) : Type 0 where
-  accepted : (tests : ℕ) → decode code ≡ 0 ∷ tests ∷ [] → full tests → Says code ns full kept
-  refused : (r : Refusal) → decode code ≡ told r → OneOf ns r → kept → Says code ns full kept
+pub data Answered (code : ℕ) (ns : List ℕ) (full : ℕ → Type 0) (kept : Type 0) : Type 0 where
+  accepted : (tests : ℕ) → Says code (indexed 0 tests) → full tests → Answered code ns full kept
+  refused : (r : Refusal) → Says code (told r) → OneOf ns r → kept → Answered code ns full kept
 
 -- the full results: each destination holds all of what it is for. Operations without tests report 0 of them
 pub record HashResult (T a b output : List ℕ) (tests : ℕ) : Type 0 where
@@ -128,26 +127,26 @@ pub record Demand1 : Type 0 where
   pub prepare-answers-once : (raw old : List ℕ) (a b : Answer) (s t : List ℕ) → Prepares raw old a s → Prepares raw old b t → (a ≡ b) × (s ≡ t)
   -- what each operation that writes leaves after a refusal
   pub prepare-keeps : (raw old new : List ℕ) (r : Refusal) → Prepares raw old (answer.Refused r) new → new ≡ old
-  pub build-keeps : (T w old : List ℕ) (r : Refusal) → buildAnswer T w (length old) ≡ digested.Refused r → buildLeaves T w old ≡ old
-  pub read-off-keeps : (T t claim old : List ℕ) (r : Refusal) → readOffAnswer T t claim (length old) ≡ checked.Refused r
+  pub build-keeps : (T w old : List ℕ) (r : Refusal) → buildAnswer T w (length old) ≡ digest.Refused r → buildLeaves T w old ≡ old
+  pub read-off-keeps : (T t claim old : List ℕ) (r : Refusal) → readOffAnswer T t claim (length old) ≡ tests.Refused r
       → readOffLeaves T t claim old ≡ old
-  pub pack-keeps : (w claim old : List ℕ) (r : Refusal) → packAnswer w claim (length old) ≡ answer.Refused r → packLeaves w claim old ≡ old
-  pub unpack-keeps : (file old : List ℕ) (r : Refusal) → unpackAnswer file (length old) ≡ digested.Refused r → unpackLeaves file old ≡ old
+  pub pack-keeps : (w claim old : List ℕ) (r : Refusal) → packTest w claim (length old) ≡ answer.Refused r → packLeaves w claim old ≡ old
+  pub unpack-keeps : (file old : List ℕ) (r : Refusal) → unpackAnswer file (length old) ≡ digest.Refused r → unpackLeaves file old ≡ old
   -- the calls: whatever words and lengths are lent, with `′` on what a buffer holds afterwards
   pub prepare-call : (raw table table′ : List ℕ) (code : ℕ) → PrepareCall raw table code table′
-      → Says code (callNumbers prepare) (λ tests. (tests ≡ 0) × Prepares raw table answer.Accepted table′) (table′ ≡ table)
+      → Answered code (callNumbers prepare) (λ tests. (tests ≡ 0) × Prepares raw table answer.Accepted table′) (table′ ≡ table)
   pub hash-call : (T output output′ : List ℕ) (w0 w1 w2 w3 w4 w5 w6 w7 code : ℕ)
-      → Told (hashCall T (w0 ∷ w1 ∷ w2 ∷ w3 ∷ w4 ∷ w5 ∷ w6 ∷ w7 ∷ []) (length output)) code output output′
-      → Says code (callNumbers hash) (HashResult T (w0 ∷ w1 ∷ w2 ∷ w3 ∷ []) (w4 ∷ w5 ∷ w6 ∷ w7 ∷ []) output′) (output′ ≡ output)
-  pub chain-call : (T w output output′ : List ℕ) (code : ℕ) → Told (chainCall T w (length output)) code output output′
-      → Says code (callNumbers chain) (ChainResult T w output′) (output′ ≡ output)
+      → HandsOver (hashCall T (w0 ∷ w1 ∷ w2 ∷ w3 ∷ w4 ∷ w5 ∷ w6 ∷ w7 ∷ []) (length output)) code output output′
+      → Answered code (callNumbers hash) (HashResult T (w0 ∷ w1 ∷ w2 ∷ w3 ∷ []) (w4 ∷ w5 ∷ w6 ∷ w7 ∷ []) output′) (output′ ≡ output)
+  pub chain-call : (T w output output′ : List ℕ) (code : ℕ) → HandsOver (chainCall T w (length output)) code output output′
+      → Answered code (callNumbers chain) (ChainResult T w output′) (output′ ≡ output)
   pub build-call : (T w rows rows′ output output′ : List ℕ) (code : ℕ) → BuildCall T w code rows rows′ output output′
-      → Says code (callNumbers build) (BuildResult T w rows′ output′) ((rows′ ≡ rows) × (output′ ≡ output))
-  pub check-call : (T t : List ℕ) (c0 c1 c2 c3 code : ℕ) → code ≡ checkedCode (checkAnswer T t (c0 ∷ c1 ∷ c2 ∷ c3 ∷ []))
-      → Says code (callNumbers check) (CheckResult t) Unit
+      → Answered code (callNumbers build) (BuildResult T w rows′ output′) ((rows′ ≡ rows) × (output′ ≡ output))
+  pub check-call : (T t : List ℕ) (c0 c1 c2 c3 code : ℕ) → code ≡ testsCode (checkAnswer T t (c0 ∷ c1 ∷ c2 ∷ c3 ∷ []))
+      → Answered code (callNumbers check) (CheckResult t) Unit
   pub read-off-call : (T t taps taps′ : List ℕ) (c0 c1 c2 c3 code : ℕ) → ReadOffCall T t (c0 ∷ c1 ∷ c2 ∷ c3 ∷ []) code taps taps′
-      → Says code (callNumbers read-off) (ReadOffResult T t taps′) (taps′ ≡ taps)
+      → Answered code (callNumbers read-off) (ReadOffResult T t taps′) (taps′ ≡ taps)
   pub pack-call : (w file file′ : List ℕ) (c0 c1 c2 c3 code : ℕ) → PackCall w (c0 ∷ c1 ∷ c2 ∷ c3 ∷ []) file code file′
-      → Says code (callNumbers pack) (λ tests. (tests ≡ 0) × (file′ ≡ packed w (c0 ∷ c1 ∷ c2 ∷ c3 ∷ []))) (file′ ≡ file)
+      → Answered code (callNumbers pack) (λ tests. (tests ≡ 0) × (file′ ≡ packed w (c0 ∷ c1 ∷ c2 ∷ c3 ∷ []))) (file′ ≡ file)
   pub unpack-call : (file taps taps′ claim claim′ : List ℕ) (code : ℕ) → UnpackCall file code taps taps′ claim claim′
-      → Says code (callNumbers unpack) (λ tests. (tests ≡ 0) × (taps′ ≡ tapsIn file) × (claim′ ≡ claimIn file)) ((taps′ ≡ taps) × (claim′ ≡ claim))
+      → Answered code (callNumbers unpack) (λ tests. (tests ≡ 0) × (taps′ ≡ tapsIn file) × (claim′ ≡ claimIn file)) ((taps′ ≡ taps) × (claim′ ≡ claim))

@@ -4,23 +4,23 @@
 -- Assumes nothing.
 use mathlib.Core.Path.{_≡_}
 use mathlib.Core.List.{List, _++_}
-use Prim.Native.Nat.{ℕ, _+_, _*_, _/_}
+use Prim.Native.Nat.{ℕ, _+_, _*_}
 use lib.ListN.{length}
 use Rattle.words.specs.Words.{AllCanonical}
-use Rattle.counts.specs.Counts.{IsPermitted}
-use Rattle.refusals.specs.Refusals.{digest}
+use Rattle.counts.specs.Counts.{IsPermitted, tapWordBatches}
+use Rattle.refusals.specs.Refusals.{digest, digestWords}
 use Rattle.refusals.specs.declared.Answer.the-variants as answer
 use Rattle.refusals.specs.declared.Digest.{Digest}
-use Rattle.refusals.specs.declared.Digested.the-variants.{Accepted}
-use Rattle.refusals.specs.declared.Checked.the-variants as checked
+use Rattle.refusals.specs.declared.DigestAnswer.the-variants.{Accepted}
+use Rattle.refusals.specs.declared.TestsAnswer.the-variants as tests
 use Rattle.table.specs.Table.{tableTest}
 use Rattle.hash.specs.Hash.{hash, chain}
 use Rattle.hash.specs.Answers.{hashAnswer, chainAnswer}
 use Rattle.trace.specs.Trace.{trace}
 use Rattle.trace.specs.Answers.{buildAnswer, buildLeaves}
 use Rattle.readoff.specs.Answers.{readOffAnswer, readOffLeaves}
-use Rattle.fileword.specs.Words.{AllBytes}
-use Rattle.board.specs.Board.{packAnswer, packLeaves, unpackAnswer, unpackLeaves, claimOf}
+use Rattle.elements.specs.Words.{AllBytes}
+use Rattle.board.specs.Board.{packTest, packLeaves, unpackTest, unpackLeaves}
 
 pub record Demand2 : Type 0 where
   -- for every accepted table and permitted k, hash, chain and trace of canonical words are those of the definitions
@@ -32,11 +32,11 @@ pub record Demand2 : Type 0 where
       → (buildAnswer T w (length old) ≡ Accepted (digest (chain T w k))) × (buildLeaves T w old ≡ trace T w k)
   -- a trace that Build wrote into old, read off under the output d that it returned
   pub reads-back : (T w old room : List ℕ) (d : Digest) → buildAnswer T w (length old) ≡ Accepted d → length room ≡ length w
-      → (readOffAnswer T (buildLeaves T w old) (claimOf d) (length room) ≡ checked.Accepted (372 * (length w / 12)))
-      × (readOffLeaves T (buildLeaves T w old) (claimOf d) room ≡ w)
+      → (readOffAnswer T (buildLeaves T w old) (digestWords d) (length room) ≡ tests.Accepted (372 * tapWordBatches (length w)))
+      × (readOffLeaves T (buildLeaves T w old) (digestWords d) room ≡ w)
   -- a file that Pack wrote into old, unpacked
-  pub unpacks : (w claim old room : List ℕ) → length claim ≡ 4 → packAnswer w claim (length old) ≡ answer.Accepted → length room ≡ length w
-      → (unpackAnswer (packLeaves w claim old) (length room) ≡ Accepted (digest claim)) × (unpackLeaves (packLeaves w claim old) room ≡ w)
+  pub unpacks : (w claim old room : List ℕ) → length claim ≡ 4 → packTest w claim (length old) ≡ answer.Accepted → length room ≡ length w
+      → (unpackTest (packLeaves w claim old) (length room) ≡ Accepted (digest claim)) × (unpackLeaves (packLeaves w claim old) room ≡ w)
   -- a file that Unpack accepted with the claim d, packed from the taps that it left in old
-  pub packs : (file old room : List ℕ) (d : Digest) → AllBytes file → unpackAnswer file (length old) ≡ Accepted d → length room ≡ length file
-      → (packAnswer (unpackLeaves file old) (claimOf d) (length room) ≡ answer.Accepted) × (packLeaves (unpackLeaves file old) (claimOf d) room ≡ file)
+  pub packs : (file old room : List ℕ) (d : Digest) → AllBytes file → unpackTest file (length old) ≡ Accepted d → length room ≡ length file
+      → (packTest (unpackLeaves file old) (digestWords d) (length room) ≡ answer.Accepted) × (packLeaves (unpackLeaves file old) (digestWords d) room ≡ file)

@@ -12,9 +12,9 @@ use lib.ListN.{length}
 use Rattle.lists.specs.Lists.{cell}
 use Rattle.field.specs.Field.{P, add}
 use Rattle.words.specs.Words.{AllCanonical}
-use Rattle.table.specs.Table.{IsTable, constant}
+use Rattle.table.specs.Table.{IsTable, initialConstant}
 use Rattle.hash.specs.Hash.{plus, secondStep, chain, stateAt, middleState, finalState}
-use Rattle.hash.proofs.States.{state-cell, same-cells, cell-plus, stateAt-zero, stateAt-suc, stateAt-state, constant-state}
+use Rattle.hash.proofs.States.{state-cell, same-cells, cell-plus, stateAt-zero, stateAt-suc, stateAt-state, initial-state}
 use Rattle.hash.proofs.Inputs.{cell-take, cell-tap, output-zero}
 use Rattle.trace.specs.Trace.{hashInput, traceRow, trace}
 use Rattle.trace.proofs.RowKinds.{row-start, row-middle, row-end}
@@ -27,8 +27,8 @@ use Rattle.constraints.proofs.ForwardBack.{enters-not, entering-hash, round-has
 use Rattle.exact.proofs.ReadList.{length-read, first-tap-read, next-tap-read, row-of-trace}
 
 module _ (T w : List ℕ) (k : ℕ) (accepted : IsTable T) (size : length w ≡ 12 * k + 4) (canonical : AllCanonical w) where
-  K₀-cell : (j : ℕ) → cell (constant T 0) j < P
-  K₀-cell j = state-cell (constant-state T accepted 0 (omega arith)) j
+  K₀-cell : (j : ℕ) → cell (initialConstant T) j < P
+  K₀-cell j = state-cell (initial-state T accepted) j
 
   -- ---- the rows of the trace, and what goes forward and back from them
   start-row : (b : ℕ) → b < k → row (trace T w k) (32 * b) ≡ hashInput T w (3 * b)
@@ -52,7 +52,7 @@ module _ (T w : List ℕ) (k : ℕ) (accepted : IsTable T) (size : length w ≡ 
     second-round j m = ap (secondStep T j) (middle-row j m) ∙ sym (stateAt-suc T (hashInput T w h) j)
 
     -- back of the first row is the input plus K_0
-    back-start : back T (trace T w k) (firstRow h) ≡ plus (hashInput T w h) (constant T 0)
+    back-start : back T (trace T w k) (firstRow h) ≡ plus (hashInput T w h) (initialConstant T)
     back-start = ap (back T (trace T w k)) (sym (add-zero (firstRow h))) ∙ back-round 0 (omega arith) ∙ stateAt-zero T (hashInput T w h)
 
   -- ---- every input is read off
@@ -66,8 +66,8 @@ module _ (T w : List ℕ) (k : ℕ) (accepted : IsTable T) (size : length w ≡ 
           rw (eq-eqb (h % 3) 0 e) (start-row (h / 3) (omega arith) ∙ ap (hashInput T w) x)
       go (no e) =
           rw (ne-eqb (h % 3) 0 e)
-          (ap (λ s. minus s (constant T 0)) (back-start h l)
-          ∙ minus-plus (hashInput-state T w k size canonical h l) (constant-state T accepted 0 (omega arith)))
+          (ap (λ s. minus s (initialConstant T)) (back-start h l)
+          ∙ minus-plus (hashInput-state T w k size canonical h l) (initial-state T accepted))
 
   pub reads-back : 1 ≤ k → readTaps T (trace T w k) k ≡ w
   reads-back some = same-cells (12 * k + 4) (readTaps T (trace T w k) k) w (length-read T (trace T w k) k) size word
@@ -105,26 +105,26 @@ module _ (T w : List ℕ) (k : ℕ) (accepted : IsTable T) (size : length w ≡ 
       ap (λ s. cell s (8 + j)) (ap (row (trace T w k)) e ∙ start-row (i / 32) (omega arith))
       ∙ input-zeros T w k size canonical (3 * (i / 32)) j (omega arith) m
 
-  new-zeros : (i j : ℕ) → i < 32 * k → entering i ≡ true → j < 4 → cell (back T (trace T w k) (i + 1)) (8 + j) ≡ cell (constant T 0) (8 + j)
+  new-zeros : (i j : ℕ) → i < 32 * k → entering i ≡ true → j < 4 → cell (back T (trace T w k) (i + 1)) (8 + j) ≡ cell (initialConstant T) (8 + j)
   new-zeros i j l r m = go (entering-hash i r)
     where
-      go : (h : ℕ) × (h % 3 ≡ 2 → ⊥) × (i ≡ firstRow h + 9) → cell (back T (trace T w k) (i + 1)) (8 + j) ≡ cell (constant T 0) (8 + j)
+      go : (h : ℕ) × (h % 3 ≡ 2 → ⊥) × (i ≡ firstRow h + 9) → cell (back T (trace T w k) (i + 1)) (8 + j) ≡ cell (initialConstant T) (8 + j)
       go s =
           let h = s .0 in
           let e : i + 1 ≡ firstRow (h + 1) = omega arith in
           let z = input-zeros T w k size canonical (h + 1) j (omega arith) m in
-          let c = cell-plus (hashInput T w (h + 1)) (constant T 0) (8 + j) (omega arith) in
+          let c = cell-plus (hashInput T w (h + 1)) (initialConstant T) (8 + j) (omega arith) in
           ap (λ x. cell (back T (trace T w k) x) (8 + j)) e
           ∙ ap (λ x. cell x (8 + j)) (back-start (h + 1) (omega arith))
           ∙ c
           ∙ omega (arith, z, K₀-cell (8 + j))
 
-  starts : (i j : ℕ) → i < 32 * k → within i ≡ 0 → j < 12 → add (cell (row (trace T w k) i) j) (cell (constant T 0) j) ≡ cell (back T (trace T w k) (i + 1)) j
+  starts : (i j : ℕ) → i < 32 * k → within i ≡ 0 → j < 12 → add (cell (row (trace T w k) i) j) (cell (initialConstant T) j) ≡ cell (back T (trace T w k) (i + 1)) j
   starts i j l r m =
       let e : i ≡ 32 * (i / 32) = omega arith in
       let f : firstRow (3 * (i / 32)) ≡ i + 1 = omega arith in
-      ap (λ s. add (cell s j) (cell (constant T 0) j)) (ap (row (trace T w k)) e ∙ start-row (i / 32) (omega arith))
-      ∙ sym (cell-plus (hashInput T w (3 * (i / 32))) (constant T 0) j m)
+      ap (λ s. add (cell s j) (cell (initialConstant T) j)) (ap (row (trace T w k)) e ∙ start-row (i / 32) (omega arith))
+      ∙ sym (cell-plus (hashInput T w (3 * (i / 32))) (initialConstant T) j m)
       ∙ ap (λ s. cell s j) (sym (back-start (3 * (i / 32)) (omega arith)) ∙ ap (back T (trace T w k)) f)
 
   goes-on : (i j : ℕ) → i < 32 * k → 1 ≤ within i → within i ≤ 29 → entering i ≡ false → j < 12 → cell (forward T (trace T w k) i) j ≡ cell (back T (trace T w k) (i + 1)) j
@@ -153,8 +153,8 @@ module _ (T w : List ℕ) (k : ℕ) (accepted : IsTable T) (size : length w ≡ 
           let f : firstRow (h + 1) ≡ i + 1 = omega arith in
           ap (λ y. cell (forward T (trace T w k) y) j) e
           ∙ forward-enters T (trace T w k) h 9 (omega arith) (ap entering (sym e) ∙ n) j m
-          ∙ ap (λ y. add y (cell (constant T 0) j)) (ap (λ y. cell y j) (second-round h (omega arith) 9 (omega arith)) ∙ sym (next-output-cell h j (omega arith) m))
-          ∙ sym (cell-plus (hashInput T w (h + 1)) (constant T 0) j (omega arith))
+          ∙ ap (λ y. add y (cell (initialConstant T) j)) (ap (λ y. cell y j) (second-round h (omega arith) 9 (omega arith)) ∙ sym (next-output-cell h j (omega arith) m))
+          ∙ sym (cell-plus (hashInput T w (h + 1)) (initialConstant T) j (omega arith))
           ∙ ap (λ y. cell y j) (sym (back-start (h + 1) (omega arith)) ∙ ap (back T (trace T w k)) f)
 
       go : (b : Bool) → entering i ≡ b → cell (forward T (trace T w k) i) j ≡ cell (back T (trace T w k) (i + 1)) j

@@ -9,11 +9,14 @@ use lib.ListN.{length}
 use Rattle.words.specs.Words.{AllCanonical}
 use Rattle.counts.specs.Counts.{IsPermitted}
 use Rattle.refusals.specs.declared.Refusal.the-variants.{Constraint}
-use Rattle.refusals.specs.declared.Checked.the-variants.{Accepted, Refused}
+use Rattle.refusals.specs.declared.Answer.the-variants.{Accepted, Refused}
+use Rattle.refusals.specs.declared.TestsAnswer.the-variants as counted
+use Rattle.refusals.specs.Answers.{testsAfter}
+use Rattle.refusals.proofs.Laws.{tests-accepted}
 use Rattle.table.specs.Table.{IsTable}
 use Rattle.hash.specs.Hash.{chain}
 use Rattle.trace.specs.Trace.{trace}
-use Rattle.constraints.specs.Constraints.{tests, verdict}
+use Rattle.constraints.specs.Constraints.{tests, constraintTest}
 use Rattle.constraints.specs.FirstFailing.{AllHold, IsFirstFailing}
 use Rattle.constraints.specs.ReadOff.{readTaps}
 use Rattle.constraints.proofs.Equations.{Equations, equations-hold, hold-equations}
@@ -35,10 +38,10 @@ tests-say T t claim k = (
 module _ (T : List ℕ) (k : ℕ) (table : IsTable T) (permitted : IsPermitted k) where
   -- a built trace is accepted under the output its building returned, and reading it off yields the taps that it was built from
   pub reading-off-a-built-trace : (w : List ℕ) → length w ≡ 12 * k + 4 → AllCanonical w
-      → (verdict T (trace T w k) (chain T w k) k ≡ Accepted (372 * k)) × (readTaps T (trace T w k) k ≡ w)
+      → (constraintTest T (trace T w k) (chain T w k) k ≡ Accepted) × (readTaps T (trace T w k) k ≡ w)
   reading-off-a-built-trace w size canonical = (
-    walks.all-hold-accepted T (trace T w k) (chain T w k) k (tests-say T (trace T w k) (chain T w k) k .1 (meets-equations T w k table size canonical))
-        ∙ ap Accepted (length-tests k),
+    walks.all-hold-accepted T (trace T w k) (chain T w k) k
+        (tests-say T (trace T w k) (chain T w k) k .1 (meets-equations T w k table size canonical)),
     reads-back T w k table size canonical (permitted .low),
   )
 
@@ -50,23 +53,26 @@ module _ (T : List ℕ) (k : ℕ) (table : IsTable T) (permitted : IsPermitted k
 -- ---- any trace and any claim
 module _ (T t claim : List ℕ) (k : ℕ) (table : IsTable T) (permitted : IsPermitted k) (size : length t ≡ 384 * k) (canonical : AllCanonical t) (four : length claim ≡ 4) where
   -- an accepted trace reports the whole of the order, which is 372 × k tests
-  pub whole-order : (n : ℕ) → verdict T t claim k ≡ Accepted n → (n ≡ length (tests k)) × (n ≡ 372 * k)
+  pub whole-order : (n : ℕ) → testsAfter (constraintTest T t claim k) (length (tests k)) ≡ counted.Accepted n
+      → (n ≡ length (tests k)) × (n ≡ 372 * k)
   whole-order n e =
-      let c = walks.accepted-count T t claim k n e in
+      let c = sym (tests-accepted (constraintTest T t claim k) (length (tests k)) n e .1) in
       (c, c ∙ length-tests k)
 
   -- reading off an accepted trace yields a list that chains to the claim and has this trace
-  pub reads-that-list : (n : ℕ) → verdict T t claim k ≡ Accepted n → IsListFor T t claim k (readTaps T t k)
-  reads-that-list n e = is-list-for T t claim k table (permitted .low) size canonical four (tests-say T t claim k .0 (walks.accepted-all-hold T t claim k n e))
+  pub reads-that-list : constraintTest T t claim k ≡ Accepted → IsListFor T t claim k (readTaps T t k)
+  reads-that-list e =
+      is-list-for T t claim k table (permitted .low) size canonical four
+      (tests-say T t claim k .0 (walks.accepted-all-hold T t claim k e))
 
   -- accepted exactly when some list of 3k + 1 taps chains to the claim and has this trace
-  pub accepts-exactly : (verdict T t claim k ≡ Accepted (372 * k)) ↔ ((w : List ℕ) × IsListFor T t claim k w)
-  accepts-exactly = (λ e. (readTaps T t k, reads-that-list (372 * k) e), λ s. from (s .0) (s .1))
+  pub accepts-exactly : (constraintTest T t claim k ≡ Accepted) ↔ ((w : List ℕ) × IsListFor T t claim k w)
+  accepts-exactly = (λ e. (readTaps T t k, reads-that-list e), λ s. from (s .0) (s .1))
     where
-      from : (w : List ℕ) → IsListFor T t claim k w → verdict T t claim k ≡ Accepted (372 * k)
+      from : (w : List ℕ) → IsListFor T t claim k w → constraintTest T t claim k ≡ Accepted
       from w l =
-          sym (ap (λ x. verdict T x claim k) (l .traced))
-          ∙ sym (ap (λ x. verdict T (trace T w k) x k) (l .chains))
+          sym (ap (λ x. constraintTest T x claim k) (l .traced))
+          ∙ sym (ap (λ x. constraintTest T (trace T w k) x k) (l .chains))
           ∙ reading-off-a-built-trace T k table permitted w (l .size) (l .canonical) .0
 
   -- and no other list has it
@@ -74,11 +80,12 @@ module _ (T t claim : List ℕ) (k : ℕ) (table : IsTable T) (permitted : IsPer
   only-one w v l m = one-list-a-trace T k table permitted w v (l .size) (l .canonical) (m .size) (m .canonical) (l .traced ∙ sym (m .traced))
 
   -- a trace that is not accepted is refused with 11, and with row, constraint and place of the first test of the order that fails
-  pub first-failing : (verdict T t claim k ≡ Accepted (372 * k) → ⊥)
-      → (i : ℕ) × (c : ℕ) × (n : ℕ) × (verdict T t claim k ≡ Refused (Constraint (record { 0 = i }) c n)) × IsFirstFailing T t claim (tests k) i c n
+  pub first-failing : (constraintTest T t claim k ≡ Accepted → ⊥)
+      → (i : ℕ) × (c : ℕ) × (n : ℕ)
+      × (constraintTest T t claim k ≡ Refused (Constraint (record { 0 = i }) c n)) × IsFirstFailing T t claim (tests k) i c n
   first-failing never =
-      let r = walks.else-first-failing T t claim k (λ n e. never (e ∙ ap Accepted (whole-order n e .1))) in
+      let r = walks.else-first-failing T t claim k never in
       (r .0, r .1, r .2, r .3, walks.refused-first-failing T t claim k (r .0) (r .1) (r .2) (r .3))
 
-  pub refuses-exactly : (i c n : ℕ) → (verdict T t claim k ≡ Refused (Constraint (record { 0 = i }) c n)) ↔ IsFirstFailing T t claim (tests k) i c n
+  pub refuses-exactly : (i c n : ℕ) → (constraintTest T t claim k ≡ Refused (Constraint (record { 0 = i }) c n)) ↔ IsFirstFailing T t claim (tests k) i c n
   refuses-exactly i c n = (walks.refused-first-failing T t claim k i c n, walks.first-failing-refused T t claim k i c n)

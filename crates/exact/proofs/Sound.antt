@@ -13,9 +13,9 @@ use Rattle.lists.specs.Lists.{cell}
 use Rattle.field.specs.Field.{add, sub}
 use Rattle.field.proofs.Ring.{add-sub, sub-self}
 use Rattle.words.specs.Words.{AllCanonical}
-use Rattle.table.specs.Table.{IsTable, constant}
+use Rattle.table.specs.Table.{IsTable, initialConstant}
 use Rattle.hash.specs.Hash.{plus, firstStep, secondStep, stateAt, middleState, finalState}
-use Rattle.hash.proofs.States.{IsState, state-cell, same-state, cell-plus, plus-state, secondStep-state, stateAt-zero, stateAt-suc, finalState-state, constant-state}
+use Rattle.hash.proofs.States.{IsState, state-cell, same-state, cell-plus, plus-state, secondStep-state, stateAt-zero, stateAt-suc, finalState-state, initial-state}
 use Rattle.constraints.specs.Constraints.{row, within, entering, forward, minus, back}
 use Rattle.constraints.specs.ReadOff.{firstRow, readInput}
 use Rattle.constraints.proofs.OneRound.{minus-state, cell-minus, plus-minus}
@@ -27,15 +27,15 @@ module _ (T t claim : List ℕ) (k : ℕ) (accepted : IsTable T) (size : length 
   pub row-is-state : (i : ℕ) → i < 32 * k → IsState (row t i)
   row-is-state i l = row-state t canonical i (omega arith)
 
-  K₀-state : IsState (constant T 0)
-  K₀-state = constant-state T accepted 0 (omega arith)
+  K₀-state : IsState (initialConstant T)
+  K₀-state = initial-state T accepted
 
   -- ---- the input of hash h as it is read off: for every hash, back of its first row less K_0
   pub start-read : (h : ℕ) → h % 3 ≡ 0 → readInput T t h ≡ row t (32 * (h / 3))
   unfolding readInput
   start-read h e = rw (eq-eqb (h % 3) 0 e)
 
-  enter-read : (h : ℕ) → (h % 3 ≡ 0 → ⊥) → readInput T t h ≡ minus (back T t (firstRow h)) (constant T 0)
+  enter-read : (h : ℕ) → (h % 3 ≡ 0 → ⊥) → readInput T t h ≡ minus (back T t (firstRow h)) (initialConstant T)
   unfolding readInput
   enter-read h e = rw (ne-eqb (h % 3) 0 e)
 
@@ -46,17 +46,17 @@ module _ (T t claim : List ℕ) (k : ℕ) (accepted : IsTable T) (size : length 
       go (yes e) = subst IsState (sym (start-read h e)) (row-is-state (32 * (h / 3)) (omega arith))
       go (no e) = subst IsState (sym (enter-read h e)) (minus-state _ _)
 
-  read-back : (h : ℕ) → h < 3 * k → plus (readInput T t h) (constant T 0) ≡ back T t (firstRow h)
+  read-back : (h : ℕ) → h < 3 * k → plus (readInput T t h) (initialConstant T) ≡ back T t (firstRow h)
   read-back h l = go (ℕ-discrete (h % 3) 0)
     where
-      go : Dec (h % 3 ≡ 0) → plus (readInput T t h) (constant T 0) ≡ back T t (firstRow h)
+      go : Dec (h % 3 ≡ 0) → plus (readInput T t h) (initialConstant T) ≡ back T t (firstRow h)
       go (yes e) =
           let i : 32 * (h / 3) + 1 ≡ firstRow h = omega arith in
-          ap (λ s. plus s (constant T 0)) (start-read h e)
+          ap (λ s. plus s (initialConstant T)) (start-read h e)
           ∙ same-state (plus-state _ _) (back-state T t (32 * (h / 3) + 1))
-          (λ j b. cell-plus (row t (32 * (h / 3))) (constant T 0) j b ∙ q .starts (32 * (h / 3)) j (omega arith) (omega arith) b)
+          (λ j b. cell-plus (row t (32 * (h / 3))) (initialConstant T) j b ∙ q .starts (32 * (h / 3)) j (omega arith) (omega arith) b)
           ∙ ap (back T t) i
-      go (no e) = ap (λ s. plus s (constant T 0)) (enter-read h e) ∙ plus-minus (back-state T t (firstRow h)) K₀-state
+      go (no e) = ap (λ s. plus s (initialConstant T)) (enter-read h e) ∙ plus-minus (back-state T t (firstRow h)) K₀-state
 
   -- ---- the rounds: back of row `firstRow h + j` is the state before round j
   module _ (h : ℕ) (l : h < 3 * k) where
@@ -134,13 +134,13 @@ module _ (T t claim : List ℕ) (k : ℕ) (accepted : IsTable T) (size : length 
           let x : firstRow (h + 1) ≡ firstRow h + 9 + 1 = omega arith in
           let w = within-of h 9 (omega arith) in
           ap (λ s. cell s j) (enter-read (h + 1) (λ z. omega arith))
-          ∙ cell-minus (back T t (firstRow (h + 1))) (constant T 0) j (omega arith)
-          ∙ ap (λ n. sub n (cell (constant T 0) j))
+          ∙ cell-minus (back T t (firstRow (h + 1))) (initialConstant T) j (omega arith)
+          ∙ ap (λ n. sub n (cell (initialConstant T) j))
           (ap (λ i. cell (back T t i) j) x
           ∙ sym (q .output-kept (firstRow h + 9) j (omega arith) (omega (arith, w)) (omega (arith, w)) m)
           ∙ forward-enters T t h 9 (omega arith) (entering-row h e) j m
-          ∙ ap (λ s. add (cell s j) (cell (constant T 0) j)) (last-round h (omega arith)))
-          ∙ add-sub (cell (finalState T (readInput T t h)) j) (cell (constant T 0) j) (state-cell (finalState-state T _) j) (state-cell K₀-state j)
+          ∙ ap (λ s. add (cell s j) (cell (initialConstant T) j)) (last-round h (omega arith)))
+          ∙ add-sub (cell (finalState T (readInput T t h)) j) (cell (initialConstant T) j) (state-cell (finalState-state T _) j) (state-cell K₀-state j)
 
   -- columns 8 to 11 are zeros
   pub zeros-read : (h j : ℕ) → h < 3 * k → j < 4 → cell (readInput T t h) (8 + j) ≡ 0
@@ -151,10 +151,10 @@ module _ (T t claim : List ℕ) (k : ℕ) (accepted : IsTable T) (size : length 
       go (no e) =
           let x : firstRow h ≡ firstRow (h - 1) + 9 + 1 = omega arith in
           ap (λ s. cell s (8 + j)) (enter-read h e)
-          ∙ cell-minus (back T t (firstRow h)) (constant T 0) (8 + j) (omega arith)
-          ∙ ap (λ n. sub n (cell (constant T 0) (8 + j)))
+          ∙ cell-minus (back T t (firstRow h)) (initialConstant T) (8 + j) (omega arith)
+          ∙ ap (λ n. sub n (cell (initialConstant T) (8 + j)))
           (ap (λ i. cell (back T t i) (8 + j)) x ∙ q .new-zeros (firstRow (h - 1) + 9) j (omega arith) (entering-row (h - 1) (λ z. omega arith)) m)
-          ∙ sub-self (cell (constant T 0) (8 + j)) (state-cell K₀-state (8 + j))
+          ∙ sub-self (cell (initialConstant T) (8 + j)) (state-cell K₀-state (8 + j))
 
   -- the claim is the output of the last hash
   pub claim-read : (j : ℕ) → 1 ≤ k → j < 4 → cell claim j ≡ cell (finalState T (readInput T t (3 * k - 1))) j

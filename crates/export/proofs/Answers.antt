@@ -1,57 +1,56 @@
--- How the calls answer: a digest handed over, a refusal passed on, and a digest's destination of another length than 4.
+-- How the calls answer: four words handed over, a refusal passed on, and a destination of another length than 4.
 -- Assumes nothing.
-use mathlib.Core.Path.{_≡_, refl, sym, _∙_}
+use mathlib.Core.Path.{_≡_, refl, sym, ap, _∙_}
+use mathlib.Core.Bool.{Bool, true, false}
 use mathlib.Core.List.{List, [], _∷_, _++_}
-use Prim.Native.Nat.{ℕ, _+_}
+use Prim.Native.Nat.{ℕ, _+_, _*_}
 use native.Mathlib.Omega.{arith}
 use borrow.Author.Tests.{eq-eqb, ne-eqb}
 use lib.ListN.{length, set}
-use Rattle.counts.specs.Counts.{tapBatches}
-use Rattle.counts.specs.declared.BatchCount.{BatchCount}
-use Rattle.counts.specs.declared.BatchCount.the-variants as count
+use Rattle.refusals.specs.Refusals.{digestWords}
+use Rattle.refusals.specs.Answers.{unless, after, Refuses, digestAfter, leaves}
 use Rattle.refusals.specs.declared.Refusal.{Refusal}
 use Rattle.refusals.specs.declared.Refusal.the-variants.{TapLength, DestinationLength}
 use Rattle.refusals.specs.declared.Answer.{Answer}
 use Rattle.refusals.specs.declared.Answer.the-variants as answer
 use Rattle.refusals.specs.declared.Digest.{Digest}
-use Rattle.refusals.specs.declared.Digested.{Digested}
-use Rattle.refusals.specs.declared.Digested.the-variants.{Accepted, Refused}
-use Rattle.refusals.specs.declared.Checked.{Checked}
-use Rattle.refusals.specs.declared.Checked.the-variants as checked
-use Rattle.refusals.specs.Refusals.{digestedAfter, digestedKept}
+use Rattle.refusals.specs.declared.DigestAnswer.{DigestAnswer}
+use Rattle.refusals.specs.declared.DigestAnswer.the-variants.{Accepted, Refused}
+use Rattle.refusals.specs.declared.TestsAnswer.{TestsAnswer}
+use Rattle.refusals.specs.declared.TestsAnswer.the-variants as tests
 use Rattle.table.specs.Table.{tableTest}
-use Rattle.hash.specs.Answers.{forBatches}
-use Rattle.board.specs.Board.{unpackAnswer}
-use Rattle.board.proofs.Cases.{unpack-accepted, returned}
-use Rattle.export.specs.Code.{code, codeOf, answerCode, digestedCode, checkedCode}
-use Rattle.export.specs.Calls.{intoFour, Told, noRoom}
+use Rattle.hash.specs.Answers.{hashTest, chainTest}
+use Rattle.trace.specs.Answers.{buildTest}
+use Rattle.board.specs.Board.{batchesIn, unpackTest}
+use Rattle.export.specs.Code.{code, refusalCode, answerCode, digestCode, testsCode}
+use Rattle.export.specs.Calls.{HandsOver, hashCallTest, hashNoRoom, chainCallTest, chainNoRoom, buildCallTest, unpackCallTest}
 
 -- ---- the code of an answer that was found to be one or the other
 pub answer-accepted : (a : Answer) → a ≡ answer.Accepted → 0 ≡ answerCode a
 unfolding answerCode
 answer-accepted a e = rw e
 
-pub answer-refused : (a : Answer) (r : Refusal) → a ≡ answer.Refused r → codeOf r ≡ answerCode a
+pub answer-refused : (a : Answer) (r : Refusal) → a ≡ answer.Refused r → refusalCode r ≡ answerCode a
 unfolding answerCode
 answer-refused a r e = rw e
 
-pub digested-accepted : (a : Digested) (d : Digest) → a ≡ Accepted d → 0 ≡ digestedCode a
-unfolding digestedCode
-digested-accepted a d e = rw e
+pub digest-accepted : (a : DigestAnswer) (d : Digest) → a ≡ Accepted d → 0 ≡ digestCode a
+unfolding digestCode
+digest-accepted a d e = rw e
 
-pub digested-refused : (a : Digested) (r : Refusal) → a ≡ Refused r → codeOf r ≡ digestedCode a
-unfolding digestedCode
-digested-refused a r e = rw e
+pub digest-refused : (a : DigestAnswer) (r : Refusal) → a ≡ Refused r → refusalCode r ≡ digestCode a
+unfolding digestCode
+digest-refused a r e = rw e
 
-pub checked-accepted : (a : Checked) (tests : ℕ) → a ≡ checked.Accepted tests → code 0 0 0 tests ≡ checkedCode a
-unfolding checkedCode
-checked-accepted a tests e = rw e
+pub tests-accepted : (a : TestsAnswer) (n : ℕ) → a ≡ tests.Accepted n → code 0 0 0 n ≡ testsCode a
+unfolding testsCode
+tests-accepted a n e = rw e
 
-pub checked-refused : (a : Checked) (r : Refusal) → a ≡ checked.Refused r → codeOf r ≡ checkedCode a
-unfolding checkedCode
-checked-refused a r e = rw e
+pub tests-refused : (a : TestsAnswer) (r : Refusal) → a ≡ tests.Refused r → refusalCode r ≡ testsCode a
+unfolding testsCode
+tests-refused a r e = rw e
 
--- ---- a digest and its destination
+-- ---- four words and their destination
 pub four-words : (old : List ℕ) (a b c d : ℕ) → length old ≡ 4 → set (set (set (set old 0 a) 1 b) 2 c) 3 d ≡ a ∷ b ∷ c ∷ d ∷ []
 four-words [] a b c d h = absurd (omega arith)
 four-words (p ∷ []) a b c d h = absurd (omega arith)
@@ -60,64 +59,82 @@ four-words (p ∷ q ∷ r ∷ []) a b c d h = absurd (omega arith)
 four-words (p ∷ q ∷ r ∷ s ∷ []) a b c d h = refl
 four-words (p ∷ q ∷ r ∷ s ∷ t ∷ old) a b c d h = absurd (omega arith)
 
-pub told-accepted : (a : Digested) (d : Digest) (old : List ℕ) → length old ≡ 4 → a ≡ Accepted d → Told a 0 old (set (set (set (set old 0 (d .0)) 1 (d .1)) 2 (d .2)) 3 (d .3))
-told-accepted a d old four e = record { coded = digested-accepted a d e; output = rw e (four-words old _ _ _ _ four) }
+pub handed-accepted : (a : DigestAnswer) (d : Digest) (old : List ℕ) → length old ≡ 4 → a ≡ Accepted d
+    → HandsOver a 0 old (set (set (set (set old 0 (d .0)) 1 (d .1)) 2 (d .2)) 3 (d .3))
+handed-accepted a d old four e = record { coded = digest-accepted a d e; output = rw e (four-words old _ _ _ _ four) }
 
-pub told-refused : (a : Digested) (r : Refusal) (code : ℕ) (old : List ℕ) → a ≡ Refused r → code ≡ codeOf r → Told a code old old
-told-refused a r code old e f = record { coded = f ∙ digested-refused a r e; output = rw e }
+pub handed-refused : (a : DigestAnswer) (r : Refusal) (code : ℕ) (old : List ℕ) → a ≡ Refused r → code ≡ refusalCode r → HandsOver a code old old
+handed-refused a r code old e f = record { coded = f ∙ digest-refused a r e; output = rw e }
 
--- an answer that can only be a refusal
-abbrev pub Refuses : Digested → Type 0
-Refuses a = (r : Refusal) × (a ≡ Refused r)
+pub handed-as : (a b : DigestAnswer) (code : ℕ) (old new : List ℕ) → b ≡ a → HandsOver b code old new → HandsOver a code old new
+handed-as a b code old new e t = rw e at t
 
-pub told-stopped : (a b : Digested) (code : ℕ) (old : List ℕ) → a ≡ b → Refuses b → code ≡ digestedCode b → Told a code old old
-told-stopped a b code old e f g = told-refused a (f .0) code old (e ∙ f .1) (g ∙ sym (digested-refused b (f .0) (f .1)))
+-- tests t that can only refuse, as those of a call have become where its four words find no room
+module _ (t called : Answer) (same : called ≡ t) (refuses : Refuses t) where
+  pub stopped : (d : Digest) (code : ℕ) (old : List ℕ) → code ≡ answerCode t → HandsOver (digestAfter called d) code old old
+  stopped d code old e =
+      handed-refused (digestAfter called d) (refuses .0) code old
+      (ap (λ a. digestAfter a d) (same ∙ refuses .1))
+      (e ∙ sym (answer-refused t (refuses .0) (refuses .1)))
 
-pub told-as : (a b : Digested) (code : ℕ) (old new : List ℕ) → b ≡ a → Told b code old new → Told a code old new
-told-as a b code old new e t = rw e at t
+  pub kept : {A : Type 0} (new old : A) → old ≡ leaves called new old
+  kept new old = sym (ap (λ a. leaves a new old) (same ∙ refuses .1))
 
-pub into-four : (size : ℕ) (a b : Digested) → size ≡ 4 → a ≡ intoFour size a b
-into-four size a b e = rw (eq-eqb size 4 e)
+-- ---- the calls' tests, by the length of that destination
+module _ (T words : List ℕ) (size : ℕ) where
+  pub hash-room : size ≡ 4 → hashTest T words ≡ hashCallTest T words size
+  unfolding hashTest hashCallTest
+  hash-room e = rw (eq-eqb size 4 e)
 
-pub not-into-four : (size : ℕ) (a b : Digested) → (size ≡ 4 → ⊥) → intoFour size a b ≡ b
-not-into-four size a b e = rw (ne-eqb size 4 e)
+  pub hash-short : (size ≡ 4 → ⊥) → hashCallTest T words size ≡ hashNoRoom T
+  unfolding hashCallTest hashNoRoom
+  hash-short e = rw (ne-eqb size 4 e)
 
--- ---- the table's refusal, or what follows
-pub after-refused : (t : Answer) (r : Refusal) (next : Digested) → t ≡ answer.Refused r → digestedAfter t next ≡ Refused r
-after-refused t r next e = rw e
+module _ (T w : List ℕ) (size : ℕ) where
+  pub chain-room : size ≡ 4 → chainTest T w ≡ chainCallTest T w size
+  unfolding chainTest chainCallTest
+  chain-room e = rw (eq-eqb size 4 e)
 
-pub after-accepted : (t : Answer) (next : Digested) → t ≡ answer.Accepted → digestedAfter t next ≡ next
-after-accepted t next e = rw e
+  pub chain-short : (size ≡ 4 → ⊥) → chainCallTest T w size ≡ chainNoRoom T w
+  unfolding chainCallTest chainNoRoom
+  chain-short e = rw (ne-eqb size 4 e)
 
--- 5, or what follows
-pub batches-refused : (b : BatchCount) (next : ℕ → Digested) → b ≡ count.Refused → forBatches b next ≡ Refused TapLength
-batches-refused b next e = rw e
+  pub build-room : (rows : ℕ) → size ≡ 4 → buildTest T w rows ≡ buildCallTest T w rows size
+  unfolding buildTest buildCallTest
+  build-room rows e = rw (eq-eqb size 4 e)
 
-pub batches-accepted : (b : BatchCount) (k : ℕ) (next : ℕ → Digested) → b ≡ count.Permitted k → forBatches b next ≡ next k
-batches-accepted b k next e = rw e
+  pub build-short : (rows : ℕ) → (size ≡ 4 → ⊥) → buildCallTest T w rows size ≡ chainNoRoom T w
+  unfolding buildCallTest chainNoRoom
+  build-short rows e = rw (ne-eqb size 4 e)
 
-pub no-room-refuses : (T w : List ℕ) → Refuses (noRoom T w)
-unfolding noRoom
-no-room-refuses T w = go (tableTest T) (tapBatches (length w))
+pub hash-no-room-refuses : (T : List ℕ) → Refuses (hashNoRoom T)
+unfolding hashNoRoom
+hash-no-room-refuses T = go (tableTest T)
   where
-    go : (t : Answer) (k : BatchCount) → Refuses (digestedAfter t (forBatches k (λ n. Refused DestinationLength)))
-    go (answer.Refused r) k = (r, refl)
-    go answer.Accepted count.Refused = (TapLength, refl)
-    go answer.Accepted (count.Permitted n) = (DestinationLength, refl)
+    go : (t : Answer) → Refuses (after t (answer.Refused DestinationLength))
+    go (answer.Refused r) = (r, refl)
+    go answer.Accepted = (DestinationLength, refl)
+
+pub chain-no-room-refuses : (T w : List ℕ) → Refuses (chainNoRoom T w)
+unfolding chainNoRoom
+chain-no-room-refuses T w = go (tableTest T) _
+  where
+    go : (t : Answer) (b : Bool) → Refuses (after t (unless b TapLength (answer.Refused DestinationLength)))
+    go (answer.Refused r) b = (r, refl)
+    go answer.Accepted true = (DestinationLength, refl)
+    go answer.Accepted false = (TapLength, refl)
 
 -- no list of taps has 0 words
-pub no-list-refuses : (file : List ℕ) → Refuses (unpackAnswer file 0)
-no-list-refuses file = go (unpackAnswer file 0) refl
-  where
-    go : (a : Digested) → unpackAnswer file 0 ≡ a → Refuses a
-    go (Refused r) e = (r, refl)
-    go (Accepted d) e = absurd (omega (arith, unpack-accepted file 0 (returned file 0 d e .0) .1))
+module _ (file : List ℕ) (taps size : ℕ) where
+  pub unpack-room : size ≡ 4 → unpackTest file taps ≡ unpackCallTest file taps size
+  unfolding unpackTest unpackCallTest
+  unpack-room e = rw (eq-eqb size 4 e)
 
--- a refusal keeps what was there
-pub kept : (a b : Digested) (new old : List ℕ) → a ≡ b → Refuses b → old ≡ digestedKept a new old
-kept a b new old e f = rw (e ∙ f .1)
+  pub unpack-short : (size ≡ 4 → ⊥) → unpackCallTest file taps size ≡ unpackTest file 0
+  unfolding unpackTest unpackCallTest
+  unpack-short e = rw (ne-eqb size 4 e, ne-eqb 0 (12 * batchesIn file + 4) (λ q. omega arith))
 
--- also where no word of it was lent
-pub list-kept : (a b : Digested) (new part old : List ℕ) → a ≡ b → Refuses b → length part ≡ 0 → part ++ old ≡ digestedKept a new old
-list-kept a b new [] old e f h = kept a b new old e f
-list-kept a b new (x ∷ part) old e f h = absurd (omega arith)
+-- where no word of a destination was lent
+pub list-kept : (part old : List ℕ) → length part ≡ 0 → part ++ old ≡ old
+list-kept [] old h = refl
+list-kept (x ∷ part) old h = absurd (omega arith)

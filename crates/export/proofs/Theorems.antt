@@ -4,90 +4,103 @@ use mathlib.Core.Path.{_≡_, refl, sym, ap, subst, _∙_}
 use mathlib.Core.List.{List, _∷_, List·Memᴰ, Memᴰ·append-right}
 use Prim.Native.Nat.{ℕ, _+_, _*_, _^_, _<_}
 use native.Mathlib.Omega.{arith}
+use lib.Dec.{lit<}
 use lib.ListN.{length, length-append}
 use Rattle.counts.specs.Counts.{IsPermitted}
+use Rattle.refusals.specs.Refusals.{indexed, alone}
 use Rattle.constraints.specs.Constraints.{Test, tests}
 use Rattle.constraints.specs.FirstFailing.{IsFirstFailing}
 use Rattle.constraints.proofs.Families.{applies-cases}
 use Rattle.constraints.proofs.TestList.{number-range, test-list}
 use Rattle.constraints.proofs.TestCount.{length-tests}
-use Rattle.checker.specs.Answers.{checkAnswer}
-use Rattle.readoff.specs.Answers.{readOffAnswer}
-use Rattle.board.specs.Board.{packAnswer, batchesIn}
-use Rattle.export.specs.Code.{decode, answerCode, digestedCode, checkedCode, answerTold, digestedTold, checkedTold}
-use Rattle.export.specs.Calls.{PrepareCall, hashCall, chainCall, buildCall, unpackCall}
-use Rattle.export.proofs.Bits.{InBits, decode-answer, decode-digested, decode-checked}
-use Rattle.export.proofs.Endings.{TableCauses, prepare-ends, hash-call-ends, chain-call-ends, build-call-ends, check-ends, read-off-ends, pack-ends, unpack-call-ends}
+use Rattle.refusals.specs.declared.Answer.{Answer}
+use Rattle.refusals.proofs.Laws.{AnswerEnds}
+use Rattle.table.specs.Table.{Prepares}
+use Rattle.checker.specs.Answers.{checkTest}
+use Rattle.readoff.specs.Answers.{readOffTest}
+use Rattle.board.specs.Board.{packTest, batchesIn}
+use Rattle.export.specs.Calls.{hashCallTest, chainCallTest, buildCallTest, unpackCallTest}
+use Rattle.export.proofs.Bits.{InBits, RefusalInBits}
+use Rattle.export.proofs.Endings as ends
+use Rattle.export.proofs.Endings.{TableCauses}
 
--- ---- every refusal is within the bits: the indices in a table, a list, a trace and a file
-table-bits : TableCauses InBits
-table-bits = record { by-length = tt; by-word = λ i h. omega arith; by-cell = λ c h. omega arith }
+-- ---- every refusal is within the bits: a number alone, and the indices in a table, a list, a trace and a file
+alone-bits : (n : ℕ) → n < 2 ^ 6 → InBits (alone n)
+alone-bits n h = record { number = h; constraint = lit< tt; row = lit< tt; value = lit< tt }
 
-taps-bits : (w : List ℕ) (k : ℕ) → length w ≡ 12 * k + 4 → IsPermitted k → (i : ℕ) → i < length w → i < 2 ^ 28
-taps-bits w k s p i h = omega (arith, p .high)
+indexed-bits : (n i : ℕ) → n < 2 ^ 6 → i < 2 ^ 28 → InBits (indexed n i)
+indexed-bits n i h l = record { number = h; constraint = lit< tt; row = lit< tt; value = l }
 
-trace-bits : (t : List ℕ) (k : ℕ) → length t ≡ 384 * k → IsPermitted k → (i : ℕ) → i < length t → i < 2 ^ 28
-trace-bits t k s p i h = omega (arith, p .high)
+table-bits : TableCauses RefusalInBits
+table-bits = record {
+  by-length = alone-bits 1 (lit< tt);
+  by-word = λ i h. indexed-bits 2 i (lit< tt) (omega arith);
+  by-cell = λ c h. indexed-bits 4 c (lit< tt) (omega arith);
+}
 
-tests-bits : (k : ℕ) → IsPermitted k → 372 * k < 2 ^ 28
-tests-bits k p = omega (arith, p .high)
+taps-bits : (w : List ℕ) (k : ℕ) → length w ≡ 12 * k + 4 → IsPermitted k → (i : ℕ) → i < length w → InBits (indexed 6 i)
+taps-bits w k s p i h = indexed-bits 6 i (lit< tt) (omega (arith, p .high))
 
-file-bits : (file : List ℕ) (j : ℕ) → j < 36 * batchesIn file + 25 → j < 2 ^ 28
+trace-bits : (t : List ℕ) (k : ℕ) → length t ≡ 384 * k → IsPermitted k → (i : ℕ) → i < length t → InBits (indexed 10 i)
+trace-bits t k s p i h = indexed-bits 10 i (lit< tt) (omega (arith, p .high))
+
+claim-bits : (claim : List ℕ) → length claim ≡ 4 → (i : ℕ) → i < length claim → InBits (indexed 9 i)
+claim-bits claim four i h = indexed-bits 9 i (lit< tt) (omega arith)
+
+file-bits : (file : List ℕ) (n j : ℕ) → n < 2 ^ 6 → j < 36 * batchesIn file + 25 → InBits (indexed n j)
 unfolding batchesIn
-file-bits file j h = omega arith
+file-bits file n j l h = indexed-bits n j l (omega arith)
 
 -- row, constraint and place of a failing test
 failing-bits : (T t claim : List ℕ) (k : ℕ) → IsPermitted k → (i c n : ℕ) → IsFirstFailing T t claim (tests k) i c n
-    → (i < 2 ^ 24) × (c < 2 ^ 6) × (n < 2 ^ 28)
+    → InBits (record { number = 11; values = 3; row = i; constraint = c; value = n })
 failing-bits T t claim k p i c n f =
     let in-list = test-list k x .0 (subst (λ l. List·Memᴰ x l) (sym (f .order)) (Memᴰ·append-right (f .before) (List·Memᴰ.List·Memᴰ·head refl))) in
-    let count = ap length (f .order) ∙ length-append (f .before) (x ∷ f .after) in (
-      omega (arith, in-list .0, p .high),
-      omega (arith, number-range k i c (applies-cases k i c (in-list .1)) .1),
-      omega (arith, f .place, count, length-tests k, p .high),
-    )
+    let count = ap length (f .order) ∙ length-append (f .before) (x ∷ f .after) in
+    record {
+      number = lit< tt;
+      constraint = omega (arith, number-range k i c (applies-cases k i c (in-list .1)) .1);
+      row = omega (arith, in-list .0, p .high);
+      value = omega (arith, f .place, count, length-tests k, p .high);
+    }
   where
     x : Test
     x = record { at = i; number = c }
 
 -- ---- so nothing of an answer is lost
-pub prepare-told : (raw old new : List ℕ) (code : ℕ) (h : PrepareCall raw old code new) → decode code ≡ answerTold (h .answer)
-prepare-told raw old new code h =
-    ap decode (h .coded) ∙ decode-answer (h .answer) (prepare-ends InBits tt tt (λ i l. omega arith) tt raw old new (h .answer) (h .prepares))
+pub prepare-bits : (raw old new : List ℕ) (a : Answer) → Prepares raw old a new → AnswerEnds RefusalInBits a
+prepare-bits raw old new a h =
+    ends.prepare-ends RefusalInBits (alone-bits 1 (lit< tt)) (alone-bits 8 (lit< tt)) (λ i l. indexed-bits 2 i (lit< tt) (omega arith)) (alone-bits 3 (lit< tt))
+    raw old new a h
 
-pub hash-told : (T words : List ℕ) (size : ℕ) → length words ≡ 8 → decode (digestedCode (hashCall T words size)) ≡ digestedTold (hashCall T words size)
-hash-told T words size h =
-    decode-digested (hashCall T words size)
-    (hash-call-ends InBits table-bits (λ d. Unit) T words (λ i l. omega arith) size tt (λ e f g. tt))
+pub hash-bits : (T words : List ℕ) (size : ℕ) → length words ≡ 8 → AnswerEnds RefusalInBits (hashCallTest T words size)
+hash-bits T words size h =
+    ends.hash-call-ends RefusalInBits table-bits T words (λ i l. indexed-bits 6 i (lit< tt) (omega arith)) size (alone-bits 8 (lit< tt))
 
-pub chain-told : (T w : List ℕ) (size : ℕ) → decode (digestedCode (chainCall T w size)) ≡ digestedTold (chainCall T w size)
-chain-told T w size =
-    decode-digested (chainCall T w size)
-    (chain-call-ends InBits table-bits (λ d. Unit) T w tt (taps-bits w) size tt (λ k e f g h i. tt))
+pub chain-bits : (T w : List ℕ) (size : ℕ) → AnswerEnds RefusalInBits (chainCallTest T w size)
+chain-bits T w size = ends.chain-call-ends RefusalInBits table-bits T w (alone-bits 5 (lit< tt)) (taps-bits w) size (alone-bits 8 (lit< tt))
 
-pub build-told : (T w : List ℕ) (rows size : ℕ) → decode (digestedCode (buildCall T w rows size)) ≡ digestedTold (buildCall T w rows size)
-build-told T w rows size =
-    decode-digested (buildCall T w rows size)
-    (build-call-ends InBits table-bits (λ d. Unit) T w tt (taps-bits w) rows tt size (λ k e f g h i j. tt))
+pub build-bits : (T w : List ℕ) (rows size : ℕ) → AnswerEnds RefusalInBits (buildCallTest T w rows size)
+build-bits T w rows size = ends.build-call-ends RefusalInBits table-bits T w (alone-bits 5 (lit< tt)) (taps-bits w) rows size (alone-bits 8 (lit< tt))
 
 module _ (T t claim : List ℕ) (four : length claim ≡ 4) where
-  pub check-told : decode (checkedCode (checkAnswer T t claim)) ≡ checkedTold (checkAnswer T t claim)
-  check-told =
-      decode-checked (checkAnswer T t claim)
-      (check-ends InBits table-bits (λ tests. tests < 2 ^ 28) T t claim tt (λ i h. omega arith) (trace-bits t) (failing-bits T t claim)
-      (λ k s p. tests-bits k p))
+  pub check-bits : AnswerEnds RefusalInBits (checkTest T t claim)
+  check-bits = ends.check-ends RefusalInBits table-bits T t claim (alone-bits 7 (lit< tt)) (claim-bits claim four) (trace-bits t) (failing-bits T t claim)
 
-  pub read-off-told : (size : ℕ) → decode (checkedCode (readOffAnswer T t claim size)) ≡ checkedTold (readOffAnswer T t claim size)
-  read-off-told size =
-      decode-checked (readOffAnswer T t claim size)
-      (read-off-ends InBits table-bits (λ tests. tests < 2 ^ 28) T t claim tt (λ i h. omega arith) (trace-bits t) (failing-bits T t claim)
-      size tt (λ k s p e. tests-bits k p))
+  pub read-off-bits : (size : ℕ) → AnswerEnds RefusalInBits (readOffTest T t claim size)
+  read-off-bits size =
+      ends.read-off-ends RefusalInBits table-bits T t claim (alone-bits 7 (lit< tt)) (claim-bits claim four) (trace-bits t) (failing-bits T t claim)
+      size (alone-bits 8 (lit< tt))
 
-pub pack-told : (taps claim : List ℕ) (size : ℕ) → length claim ≡ 4 → decode (answerCode (packAnswer taps claim size)) ≡ answerTold (packAnswer taps claim size)
-pack-told taps claim size four =
-    decode-answer (packAnswer taps claim size) (pack-ends InBits taps claim size tt tt (λ i h. omega arith) (taps-bits taps))
+-- 372 × k tests, of an acceptance
+pub tests-bits : (k : ℕ) → IsPermitted k → length (tests k) < 2 ^ 28
+tests-bits k p = omega (arith, length-tests k, p .high)
 
-pub unpack-told : (file : List ℕ) (taps size : ℕ) → decode (digestedCode (unpackCall file taps size)) ≡ digestedTold (unpackCall file taps size)
-unpack-told file taps size =
-    decode-digested (unpackCall file taps size)
-    (unpack-call-ends InBits file tt tt (file-bits file) (file-bits file) (λ d. Unit) taps size (λ e f. tt) (λ e. tt))
+pub pack-bits : (taps claim : List ℕ) (size : ℕ) → length claim ≡ 4 → AnswerEnds RefusalInBits (packTest taps claim size)
+pack-bits taps claim size four =
+    ends.pack-ends RefusalInBits taps claim size (alone-bits 5 (lit< tt)) (alone-bits 8 (lit< tt)) (claim-bits claim four) (taps-bits taps)
+
+pub unpack-bits : (file : List ℕ) (taps size : ℕ) → AnswerEnds RefusalInBits (unpackCallTest file taps size)
+unpack-bits file taps size =
+    ends.unpack-call-ends RefusalInBits file (alone-bits 12 (lit< tt)) (alone-bits 8 (lit< tt))
+    (λ j h. file-bits file 13 j (lit< tt) h) (λ j h. file-bits file 14 j (lit< tt) h) taps size

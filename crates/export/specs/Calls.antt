@@ -1,46 +1,46 @@
 -- What each call from another language answers and leaves (document 01, "What is turned back", for the order of the refusals).
--- The four words of a digest go to a destination like any other: a length other than 4 is refused with 8, where 8 stands in the order.
--- size is the length of a destination.
+-- Four words that are returned go to a destination like any other: a length other than 4 is refused with 8, where 8 stands in the order.
+-- T is the lent table, w a list of taps; size is the length of the destination of four words.
 -- Assumes nothing.
-use mathlib.Core.List.{List, [], _∷_}
+use mathlib.Core.Bool.{_&&_}
+use mathlib.Core.List.{List}
 use mathlib.Core.Path.{_≡_}
-use Prim.Native.Nat.{ℕ, _/_}
-use lib.Dec.{eqb}
-use lib.ListN.{length}
-use Rattle.lists.specs.Lists.{choose}
-use Rattle.counts.specs.Counts.{tapBatches}
-use Rattle.refusals.specs.declared.Refusal.the-variants.{DestinationLength}
+use Prim.Native.Nat.{ℕ, _+_, _*_}
+use lib.Dec.{eqb, leb}
+use lib.ListN.{length, take, drop}
+use Rattle.words.specs.Words.{firstBad, canonicalWords}
+use Rattle.counts.specs.Counts.{mostBatches, isTapLength, tapWordBatches}
+use Rattle.refusals.specs.Refusals.{digest, digestWords}
+use Rattle.refusals.specs.Answers.{unless, after, digestAfter, leaves}
+use Rattle.refusals.specs.declared.Refusal.the-variants.{TapLength, TapWord, DestinationLength, FileLength}
 use Rattle.refusals.specs.declared.Answer.{Answer}
-use Rattle.refusals.specs.declared.Digested.{Digested}
-use Rattle.refusals.specs.declared.Digested.the-variants.{Accepted, Refused}
-use Rattle.refusals.specs.Refusals.{digestedAfter, digestedKept}
+use Rattle.refusals.specs.declared.Answer.the-variants as answer
+use Rattle.refusals.specs.declared.DigestAnswer.{DigestAnswer}
+use Rattle.refusals.specs.declared.DigestAnswer.the-variants as four
 use Rattle.table.specs.Table.{tableTest, Prepares}
-use Rattle.hash.specs.Answers.{forBatches, hashAnswer, chainAnswer}
+use Rattle.hash.specs.Hash.{hash, chain}
 use Rattle.trace.specs.Trace.{trace}
-use Rattle.trace.specs.Answers.{buildAnswer}
 use Rattle.readoff.specs.Answers.{readOffAnswer, readOffLeaves}
-use Rattle.board.specs.Board.{packAnswer, packLeaves, unpackAnswer, tapsIn}
-use Rattle.export.specs.Code.{answerCode, digestedCode, checkedCode}
+use Rattle.elements.specs.Words.{wordAt}
+use Rattle.elements.specs.Elements.{elementsTest}
+use Rattle.board.specs.Board.{fileSize, packTest, packLeaves, batchesIn, claimIn, tapsIn, countTest}
+use Rattle.export.specs.Code.{answerCode, digestCode, testsCode}
 
 -- ---- the number of these calls: raised where a call that there was takes other parameters or lengths
 
 abbrev pub interface : ℕ
 interface = 1
 
--- ---- a digest, and its destination
+-- ---- four words, and their destination
 
--- the answer where the digest's destination has four words, else the one that stops at 8
-abbrev pub intoFour : ℕ → Digested → Digested → Digested
-intoFour size answer stopped = choose (eqb size 4) answer stopped
+-- the words of an accepted answer, or what was there
+abbrev pub written : DigestAnswer → List ℕ → List ℕ
+written (four.Accepted d) old = digestWords d
+written (four.Refused r) old = old
 
--- the four words of an accepted digest, or what was there
-abbrev pub written : Digested → List ℕ → List ℕ
-written (Accepted d) old = d .0 ∷ d .1 ∷ d .2 ∷ d .3 ∷ []
-written (Refused r) old = old
-
--- the code that is returned for the answer, and what its digest's destination holds then
-pub record Told (answer : Digested) (code : ℕ) (old new : List ℕ) : Type 0 where
-  pub coded : code ≡ digestedCode answer
+-- the code that is returned for the answer, and what the destination of its four words holds then
+pub record HandsOver (answer : DigestAnswer) (code : ℕ) (old new : List ℕ) : Type 0 where
+  pub coded : code ≡ digestCode answer
   pub output : new ≡ written answer old
 
 -- ---- the calls
@@ -52,40 +52,77 @@ pub record PrepareCall (raw old : List ℕ) (code : ℕ) (new : List ℕ) : Type
   pub coded : code ≡ answerCode answer
 
 -- Hash: 1, 2, 4, 8, 6
-unfoldable pub hashCall : List ℕ → List ℕ → ℕ → Digested
-hashCall T words size = intoFour size (hashAnswer T words) (digestedAfter (tableTest T) (Refused DestinationLength))
+unfoldable pub hashCallTest : List ℕ → List ℕ → ℕ → Answer
+hashCallTest T words size =
+    after (tableTest T)
+    (unless (eqb size 4) DestinationLength
+    (unless (canonicalWords words) (TapWord (firstBad words))
+    answer.Accepted))
 
--- what Chain and Build answer where the digest finds no room: 1, 2, 4, 5, 8
-unfoldable pub noRoom : List ℕ → List ℕ → Digested
-noRoom T w = digestedAfter (tableTest T) (forBatches (tapBatches (length w)) (λ k. Refused DestinationLength))
+-- what is left of it where the four words find no room
+unfoldable pub hashNoRoom : List ℕ → Answer
+hashNoRoom T = after (tableTest T) (answer.Refused DestinationLength)
+
+unfoldable pub hashCall : List ℕ → List ℕ → ℕ → DigestAnswer
+hashCall T words size = digestAfter (hashCallTest T words size) (digest (hash T (take 4 words) (drop 4 words)))
 
 -- Chain: 1, 2, 4, 5, 8, 6
-unfoldable pub chainCall : List ℕ → List ℕ → ℕ → Digested
-chainCall T w size = intoFour size (chainAnswer T w) (noRoom T w)
+unfoldable pub chainCallTest : List ℕ → List ℕ → ℕ → Answer
+chainCallTest T w size =
+    after (tableTest T)
+    (unless (isTapLength mostBatches (length w)) TapLength
+    (unless (eqb size 4) DestinationLength
+    (unless (canonicalWords w) (TapWord (firstBad w))
+    answer.Accepted)))
+
+-- what is left of it, and of Build's, where the four words find no room
+unfoldable pub chainNoRoom : List ℕ → List ℕ → Answer
+chainNoRoom T w =
+    after (tableTest T)
+    (unless (isTapLength mostBatches (length w)) TapLength
+    (answer.Refused DestinationLength))
+
+unfoldable pub chainCall : List ℕ → List ℕ → ℕ → DigestAnswer
+chainCall T w size = digestAfter (chainCallTest T w size) (digest (chain T w (tapWordBatches (length w))))
 
 -- Build: 1, 2, 4, 5, 8, 6; both destinations are tested at 8
-unfoldable pub buildCall : List ℕ → List ℕ → ℕ → ℕ → Digested
-buildCall T w rows size = intoFour size (buildAnswer T w rows) (noRoom T w)
+unfoldable pub buildCallTest : List ℕ → List ℕ → ℕ → ℕ → Answer
+buildCallTest T w rows size =
+    after (tableTest T)
+    (unless (isTapLength mostBatches (length w)) TapLength
+    (unless (eqb size 4 && eqb rows (384 * tapWordBatches (length w))) DestinationLength
+    (unless (canonicalWords w) (TapWord (firstBad w))
+    answer.Accepted)))
+
+unfoldable pub buildCall : List ℕ → List ℕ → ℕ → ℕ → DigestAnswer
+buildCall T w rows size = digestAfter (buildCallTest T w rows size) (digest (chain T w (tapWordBatches (length w))))
 
 pub record BuildCall (T w : List ℕ) (code : ℕ) (old new output output′ : List ℕ) : Type 0 where
-  pub told : Told (buildCall T w (length old) (length output)) code output output′
-  pub rows : new ≡ digestedKept (buildCall T w (length old) (length output)) (trace T w (length w / 12)) old
+  pub four : HandsOver (buildCall T w (length old) (length output)) code output output′
+  pub rows : new ≡ leaves (buildCallTest T w (length old) (length output)) (trace T w (tapWordBatches (length w))) old
 
 -- Read-off: 1, 2, 4, 7, 8, 9, 10, 11
 pub record ReadOffCall (T t claim : List ℕ) (code : ℕ) (taps taps′ : List ℕ) : Type 0 where
-  pub coded : code ≡ checkedCode (readOffAnswer T t claim (length taps))
+  pub coded : code ≡ testsCode (readOffAnswer T t claim (length taps))
   pub list : taps′ ≡ readOffLeaves T t claim taps
 
 -- Pack: 5, 8, 9, 6
 pub record PackCall (taps claim old : List ℕ) (code : ℕ) (new : List ℕ) : Type 0 where
-  pub coded : code ≡ answerCode (packAnswer taps claim (length old))
+  pub coded : code ≡ answerCode (packTest taps claim (length old))
   pub file : new ≡ packLeaves taps claim old
 
--- Unpack: 12 (below 4), word 0's 13 then 14, 12, 8, then each element's three kinds and its value. No list of taps has 0 words,
--- so that the answer for such a destination stops at 8
-unfoldable pub unpackCall : List ℕ → ℕ → ℕ → Digested
-unpackCall file taps size = intoFour size (unpackAnswer file taps) (unpackAnswer file 0)
+-- Unpack: 12 (below 4), word 0's 13 then 14, 12, 8, then each element's three kinds and its value; both destinations are tested at 8
+unfoldable pub unpackCallTest : List ℕ → ℕ → ℕ → Answer
+unpackCallTest file taps size =
+    unless (leb 4 (length file)) FileLength
+    (after (countTest (wordAt file 0))
+    (unless (eqb (length file) (fileSize (batchesIn file))) FileLength
+    (unless (eqb size 4 && eqb taps (12 * batchesIn file + 4)) DestinationLength
+    (elementsTest file 1 (12 * batchesIn file + 8)))))
+
+unfoldable pub unpackCall : List ℕ → ℕ → ℕ → DigestAnswer
+unpackCall file taps size = digestAfter (unpackCallTest file taps size) (digest (claimIn file))
 
 pub record UnpackCall (file : List ℕ) (code : ℕ) (taps taps′ claim claim′ : List ℕ) : Type 0 where
-  pub told : Told (unpackCall file (length taps) (length claim)) code claim claim′
-  pub list : taps′ ≡ digestedKept (unpackCall file (length taps) (length claim)) (tapsIn file) taps
+  pub four : HandsOver (unpackCall file (length taps) (length claim)) code claim claim′
+  pub list : taps′ ≡ leaves (unpackCallTest file (length taps) (length claim)) (tapsIn file) taps

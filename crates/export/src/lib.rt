@@ -4,13 +4,14 @@ ghost use mathlib.Core.Path.{_≡_};
 ghost use mathlib.Core.List.{[], _∷_};
 ghost use lib.ListN.{length};
 ghost use Rattle.checker.specs.Answers.{checkAnswer};
-ghost use Rattle.export.specs.Code.{code, codeOf, answerCode, digestedCode, checkedCode};
-ghost use Rattle.export.specs.Calls.{interface, Told, PrepareCall, hashCall, noRoom, chainCall, BuildCall, ReadOffCall, PackCall, UnpackCall};
+ghost use Rattle.export.specs.Code.{code, refusalCode, answerCode, digestCode, testsCode};
+ghost use Rattle.export.specs.Calls.{interface, HandsOver, PrepareCall, hashNoRoom, hashCall, chainNoRoom, chainCall, BuildCall, ReadOffCall, PackCall, UnpackCall};
 use counts::BatchCount;
+use counts::MOST_BATCHES;
 use refusals::Answer;
-use refusals::Checked;
-use refusals::Digested;
+use refusals::DigestAnswer;
 use refusals::Refusal;
+use refusals::TestsAnswer;
 
 // The parts of a code: 2^6 numbers and 2^6 constraints, 2^24 rows, 2^28 indices or tests, each above the ones before.
 const NUMBERS: u64 = 64;
@@ -30,43 +31,17 @@ fn code(number: u64, constraint: u64, row: u64, value: u64) -> u64
         + NUMBERS * CONSTRAINTS * ROWS * (value % VALUES)
 }
 
-// A number alone, and a number with an index.
-fn alone(number: u64) -> u64
-    ensures { λ r. ⌜ r ≡ code number 0 0 0 ⌝ }
-{
-    code(number, 0, 0, 0)
-}
-
-fn indexed(number: u64, index: usize) -> u64
-    ensures { λ r. ⌜ r ≡ code number 0 0 index ⌝ }
-{
-    code(number, 0, 0, index as u64)
-}
-
 // The code of a refusal: its number, and what is returned with it.
-fn code_of(refusal: Refusal) -> u64
-    ensures { λ r. ⌜ r ≡ codeOf refusal ⌝ }
+fn refusal_code(refusal: Refusal) -> u64
+    ensures { λ r. ⌜ r ≡ refusalCode refusal ⌝ }
 {
-    match refusal {
-        Refusal::TableLength => alone(1),
-        Refusal::TableWord(i) => indexed(2, i),
-        Refusal::NoInverse => alone(3),
-        Refusal::WrongInverse(i) => indexed(4, i),
-        Refusal::TapLength => alone(5),
-        Refusal::TapWord(i) => indexed(6, i),
-        Refusal::TraceLength => alone(7),
-        Refusal::DestinationLength => alone(8),
-        Refusal::ClaimWord(i) => indexed(9, i),
-        Refusal::TraceWord(i) => indexed(10, i),
-        Refusal::Constraint {
-            row,
-            constraint,
-            tests,
-        } => code(11, constraint as u64, row.0 as u64, tests as u64),
-        Refusal::FileLength => alone(12),
-        Refusal::WrongKind(i) => indexed(13, i),
-        Refusal::WrongValue(i) => indexed(14, i),
-    }
+    let told = refusals::told(refusal);
+    code(
+        told.number as u64,
+        told.constraint as u64,
+        told.row as u64,
+        told.value as u64,
+    )
 }
 
 // The code of an answer: 0 for acceptance, with the tests where the operation counts them.
@@ -75,42 +50,42 @@ fn answer_code(answer: Answer) -> u64
 {
     match answer {
         Answer::Accepted => 0,
-        Answer::Refused(r) => code_of(r),
+        Answer::Refused(r) => refusal_code(r),
     }
 }
 
-fn digested_code(answer: Digested) -> u64
-    ensures { λ r. ⌜ r ≡ digestedCode answer ⌝ }
+fn digest_code(answer: DigestAnswer) -> u64
+    ensures { λ r. ⌜ r ≡ digestCode answer ⌝ }
 {
     match answer {
-        Digested::Accepted(_) => 0,
-        Digested::Refused(r) => code_of(r),
+        DigestAnswer::Accepted(_) => 0,
+        DigestAnswer::Refused(r) => refusal_code(r),
     }
 }
 
-fn checked_code(answer: Checked) -> u64
-    ensures { λ r. ⌜ r ≡ checkedCode answer ⌝ }
+fn tests_code(answer: TestsAnswer) -> u64
+    ensures { λ r. ⌜ r ≡ testsCode answer ⌝ }
 {
     match answer {
-        Checked::Accepted(tests) => indexed(0, tests),
-        Checked::Refused(r) => code_of(r),
+        TestsAnswer::Accepted(tests) => code(0, 0, 0, tests as u64),
+        TestsAnswer::Refused(r) => refusal_code(r),
     }
 }
 
-// The code of the answer; an accepted digest is written to the output.
-fn hand_over(answer: Digested, output: &mut [u64]) -> u64
+// The code of the answer; the four words of an acceptance are written to the output.
+fn hand_over(answer: DigestAnswer, output: &mut [u64]) -> u64
     requires { ⌜ length (now output) ≡ 4 ⌝ }
-    ensures { λ r. ⌜ Told answer r (now (output .entry)) (now (output .exit)) ⌝ }
+    ensures { λ r. ⌜ HandsOver answer r (now (output .entry)) (now (output .exit)) ⌝ }
 {
     match answer {
-        Digested::Accepted(digest) => {
+        DigestAnswer::Accepted(digest) => {
             output[0] = digest.0;
             output[1] = digest.1;
             output[2] = digest.2;
             output[3] = digest.3;
             0
         }
-        Digested::Refused(r) => code_of(r),
+        DigestAnswer::Refused(r) => refusal_code(r),
     }
 }
 
@@ -133,6 +108,17 @@ pub extern "C" fn lemoncolumn_prepare(raw: &[u64], destination: &mut [u64]) -> u
     answer_code(table::prepare(raw, destination))
 }
 
+// What Hash refuses where its output finds no room: 1, 2, 4, 8.
+fn hash_no_room(table: &[u64]) -> Answer
+    ensures { λ r. ⌜ r ≡ hashNoRoom (now (table .entry)) ⌝ }
+{
+    let tested = table::test(table);
+    let Answer::Accepted = tested else {
+        return tested;
+    };
+    Answer::Refused(Refusal::DestinationLength)
+}
+
 // Hash: 1, 2, 4, 8, 6.
 #[no_mangle]
 pub extern "C" fn lemoncolumn_hash(
@@ -147,39 +133,35 @@ pub extern "C" fn lemoncolumn_hash(
     w7: u64,
     output: &mut [u64],
 ) -> u64
-    ensures { λ r. ⌜ Told (hashCall (now (table .entry)) (w0 ∷ w1 ∷ w2 ∷ w3 ∷ w4 ∷ w5 ∷ w6 ∷ w7 ∷ []) (length (now (output .entry)))) r (now (output .entry)) (now (output .exit)) ⌝ }
+    ensures { λ r. ⌜ HandsOver (hashCall (now (table .entry)) (w0 ∷ w1 ∷ w2 ∷ w3 ∷ w4 ∷ w5 ∷ w6 ∷ w7 ∷ []) (length (now (output .entry)))) r (now (output .entry)) (now (output .exit)) ⌝ }
 {
     if output.len() != 4 {
-        let tested = table::test(table);
-        let Answer::Accepted = tested else {
-            return answer_code(tested);
-        };
-        return alone(8);
+        return answer_code(hash_no_room(table));
     }
     hand_over(hash::hash(table, [w0, w1, w2, w3, w4, w5, w6, w7]), output)
 }
 
-// What Chain and Build refuse where the digest finds no room: 1, 2, 4, 5, 8.
-fn no_room(table: &[u64], taps: &[u64]) -> u64
-    ensures { λ r. ⌜ r ≡ digestedCode (noRoom (now (table .entry)) (now (taps .entry))) ⌝ }
+// What Chain and Build refuse where their output finds no room: 1, 2, 4, 5, 8.
+fn chain_no_room(table: &[u64], taps: &[u64]) -> Answer
+    ensures { λ r. ⌜ r ≡ chainNoRoom (now (table .entry)) (now (taps .entry)) ⌝ }
 {
     let tested = table::test(table);
     let Answer::Accepted = tested else {
-        return answer_code(tested);
+        return tested;
     };
-    let BatchCount::Permitted(_) = counts::tap_batches(taps.len()) else {
-        return alone(5);
+    let BatchCount::Permitted(_) = counts::tap_batches(MOST_BATCHES, taps.len()) else {
+        return Answer::Refused(Refusal::TapLength);
     };
-    alone(8)
+    Answer::Refused(Refusal::DestinationLength)
 }
 
 // Chain: 1, 2, 4, 5, 8, 6.
 #[no_mangle]
 pub extern "C" fn lemoncolumn_chain(table: &[u64], taps: &[u64], output: &mut [u64]) -> u64
-    ensures { λ r. ⌜ Told (chainCall (now (table .entry)) (now (taps .entry)) (length (now (output .entry)))) r (now (output .entry)) (now (output .exit)) ⌝ }
+    ensures { λ r. ⌜ HandsOver (chainCall (now (table .entry)) (now (taps .entry)) (length (now (output .entry)))) r (now (output .entry)) (now (output .exit)) ⌝ }
 {
     if output.len() != 4 {
-        return no_room(table, taps);
+        return answer_code(chain_no_room(table, taps));
     }
     hand_over(hash::chain(table, taps), output)
 }
@@ -195,7 +177,7 @@ pub extern "C" fn lemoncolumn_build(
     ensures { λ r. ⌜ BuildCall (now (table .entry)) (now (taps .entry)) r (now (trace .entry)) (now (trace .exit)) (now (output .entry)) (now (output .exit)) ⌝ }
 {
     if output.len() != 4 {
-        return no_room(table, taps);
+        return answer_code(chain_no_room(table, taps));
     }
     hand_over(trace::build(table, taps, trace), output)
 }
@@ -210,9 +192,9 @@ pub extern "C" fn lemoncolumn_check(
     c2: u64,
     c3: u64,
 ) -> u64
-    ensures { λ r. ⌜ r ≡ checkedCode (checkAnswer (now (table .entry)) (now (trace .entry)) (c0 ∷ c1 ∷ c2 ∷ c3 ∷ [])) ⌝ }
+    ensures { λ r. ⌜ r ≡ testsCode (checkAnswer (now (table .entry)) (now (trace .entry)) (c0 ∷ c1 ∷ c2 ∷ c3 ∷ [])) ⌝ }
 {
-    checked_code(checker::check(table, trace, [c0, c1, c2, c3]))
+    tests_code(checker::check(table, trace, [c0, c1, c2, c3]))
 }
 
 // Read-off: 1, 2, 4, 7, 8, 9, 10, 11.
@@ -228,7 +210,7 @@ pub extern "C" fn lemoncolumn_read_off(
 ) -> u64
     ensures { λ r. ⌜ ReadOffCall (now (table .entry)) (now (trace .entry)) (c0 ∷ c1 ∷ c2 ∷ c3 ∷ []) r (now (taps .entry)) (now (taps .exit)) ⌝ }
 {
-    checked_code(readoff::read_off(table, trace, [c0, c1, c2, c3], taps))
+    tests_code(readoff::read_off(table, trace, [c0, c1, c2, c3], taps))
 }
 
 // Pack: 5, 8, 9, 6.
@@ -252,7 +234,7 @@ pub extern "C" fn lemoncolumn_unpack(file: &[u8], taps: &mut [u64], claim: &mut 
     ensures { λ r. ⌜ UnpackCall (now (file .entry)) r (now (taps .entry)) (now (taps .exit)) (now (claim .entry)) (now (claim .exit)) ⌝ }
 {
     if claim.len() != 4 {
-        return digested_code(board::unpack(file, &mut taps[..0]));
+        return digest_code(board::unpack(file, &mut taps[..0]));
     }
     hand_over(board::unpack(file, taps), claim)
 }

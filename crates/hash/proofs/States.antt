@@ -14,8 +14,8 @@ use Rattle.field.specs.Field.{P, add, cube, root}
 use Rattle.field.proofs.Fermat.{root-lt}
 use Rattle.words.specs.Words.{AllCanonical}
 use Rattle.matrix.specs.Matrix.{timesColumn, times}
-use Rattle.table.specs.Table.{IsTable, matrixOf, constant}
-use Rattle.table.proofs.Theorems.{constant-length, constant-canonical}
+use Rattle.table.specs.Table.{IsTable, initialConstant, firstStepConstant}
+use Rattle.table.proofs.Theorems.{initial-length, initial-canonical, first-step-length, first-step-canonical}
 use Rattle.hash.specs.Hash.{roots, cubes, plus, mix, firstStep, secondStep, stateAt, middleState, finalState}
 
 -- twelve canonical cells
@@ -66,7 +66,7 @@ times-state m s = tab-state _ (λ j h. mod-lt _ (omega arith))
 
 pub mix-state : (T s : List ℕ) → IsState (mix T s)
 unfolding mix
-mix-state T s = times-state (matrixOf T) s
+mix-state T s = times-state _ _
 
 pub firstStep-state : (T : List ℕ) (r : ℕ) (s : List ℕ) → IsState (firstStep T r s)
 unfolding firstStep
@@ -103,11 +103,14 @@ unfolding plus
 cell-plus s k j h = cell-tab 12 _ j h
 
 -- ---- the constants of an accepted table
-pub constant-state : (T : List ℕ) → IsTable T → (n : ℕ) → n ≤ 20 → IsState (constant T n)
-constant-state T a n h = record { size = constant-length T a n h; canonical = constant-canonical T a n h }
+pub initial-state : (T : List ℕ) → IsTable T → IsState (initialConstant T)
+initial-state T a = record { size = initial-length T a; canonical = initial-canonical T a }
+
+pub first-constant-state : (T : List ℕ) → IsTable T → (r : ℕ) → r < 10 → IsState (firstStepConstant T r)
+first-constant-state T a r h = record { size = first-step-length T a r h; canonical = first-step-canonical T a r h }
 
 -- ---- the middle state of each round, and the state after it
-pub stateAt-zero : (T s : List ℕ) → stateAt T s 0 ≡ plus s (constant T 0)
+pub stateAt-zero : (T s : List ℕ) → stateAt T s 0 ≡ plus s (initialConstant T)
 unfolding stateAt
 stateAt-zero T s = refl
 

@@ -7,7 +7,7 @@ use lib.ListN.{take, drop, replicate}
 use Rattle.lists.specs.Lists.{cell, tab}
 use Rattle.field.specs.Field.{add, cube, root}
 use Rattle.matrix.specs.Matrix.{times}
-use Rattle.table.specs.Table.{matrixOf, constant}
+use Rattle.table.specs.Table.{matrixOf, initialConstant, firstStepConstant, secondStepConstant}
 
 -- every cell rooted, every cell cubed, and two states added cell by cell
 unfoldable pub roots : List ℕ → List ℕ
@@ -23,17 +23,17 @@ plus s k = tab 12 (λ j. add (cell s j) (cell k j))
 unfoldable pub mix : List ℕ → List ℕ → List ℕ
 mix T s = times (matrixOf T) s
 
--- the first step of round r, from the state before it to the middle state: root every cell, multiply by M, add K_(2r+1)
+-- the first step of round r, from the state before it to the middle state: root every cell, multiply by M, add its constant
 unfoldable pub firstStep : List ℕ → ℕ → List ℕ → List ℕ
-firstStep T r s = plus (mix T (roots s)) (constant T (2 * r + 1))
+firstStep T r s = plus (mix T (roots s)) (firstStepConstant T r)
 
--- the second step, from the middle state on: cube every cell, multiply by M, add K_(2r+2)
+-- the second step, from the middle state on: cube every cell, multiply by M, add its constant
 unfoldable pub secondStep : List ℕ → ℕ → List ℕ → List ℕ
-secondStep T r s = plus (mix T (cubes s)) (constant T (2 * r + 2))
+secondStep T r s = plus (mix T (cubes s)) (secondStepConstant T r)
 
 -- the state before round r, from the input (Algorithm 1, State_r): K_0 is added before round 0
 unfoldable pub stateAt : List ℕ → List ℕ → ℕ → List ℕ
-stateAt T s zero = plus s (constant T 0)
+stateAt T s zero = plus s (initialConstant T)
 stateAt T s (suc r) = secondStep T r (firstStep T r (stateAt T s r))
 
 -- the middle state of round r (Algorithm 1, Inter_r)

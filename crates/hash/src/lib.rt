@@ -4,7 +4,7 @@ ghost use mathlib.Core.List.{_++_};
 ghost use Prim.Native.Nat.{_+_, _*_, _<_, _≤_, _^_};
 ghost use lib.ListN.{length, take, replicate};
 ghost use Rattle.words.specs.Words.{AllCanonical, CanonicalTo};
-ghost use Rattle.table.specs.Table.{IsTable, constant};
+ghost use Rattle.table.specs.Table.{IsTable, firstStepConstant, secondStepConstant};
 ghost use Rattle.hash.specs.Hash.{cubes, plus, mix, firstStep, secondStep, stateAt, finalState, input, tap, outputAt};
 ghost use Rattle.hash.specs.Answers.{hashTest, hashAnswer, chainTest, chainAnswer};
 use counts::BatchCount;
@@ -35,22 +35,7 @@ fn mix(table: &[u64], s: [u64; 12]) -> [u64; 12]
     requires { ⌜ IsTable (now table) × CanonicalTo 12 s ⌝ }
     ensures { λ r. ⌜ r ≡ mix (now (table .entry)) s ⌝ }
 {
-    matrix::times(&table[0..144], s)
-}
-
-// s plus K_n.
-fn plus_constant(table: &[u64], n: usize, s: [u64; 12]) -> [u64; 12]
-    requires { ⌜ IsTable (now table) × (n < 21) × CanonicalTo 12 s ⌝ }
-    ensures { λ r. ⌜ r ≡ plus s (constant (now (table .entry)) n) ⌝ }
-{
-    let start = table::CONSTANTS + 12 * n;
-    let mut out = [0u64; 12];
-    let mut j: usize = 0;
-    while j < 12 {
-        out[j] = Fp(s[j]).add(Fp(table[start + j])).0;
-        j += 1;
-    }
-    out
+    matrix::times(table::matrix(table), s)
 }
 
 // The state before round 0: the input plus K_0.
@@ -58,7 +43,43 @@ pub fn opening(table: &[u64], input: [u64; 12]) -> [u64; 12]
     requires { ⌜ IsTable (now table) × CanonicalTo 12 input ⌝ }
     ensures { λ r. ⌜ r ≡ stateAt (now (table .entry)) input 0 ⌝ }
 {
-    plus_constant(table, 0, input)
+    let mut out = [0u64; 12];
+    let mut j: usize = 0;
+    while j < 12 {
+        out[j] = Fp(input[j]).add(Fp(table::initial_constant(table, j))).0;
+        j += 1;
+    }
+    out
+}
+
+// s plus the first-step constant of the round.
+fn plus_first(table: &[u64], round: usize, s: [u64; 12]) -> [u64; 12]
+    requires { ⌜ IsTable (now table) × (round < 10) × CanonicalTo 12 s ⌝ }
+    ensures { λ r. ⌜ r ≡ plus s (firstStepConstant (now (table .entry)) round) ⌝ }
+{
+    let mut out = [0u64; 12];
+    let mut j: usize = 0;
+    while j < 12 {
+        out[j] = Fp(s[j]).add(Fp(table::first_step_constant(table, round, j)))
+            .0;
+        j += 1;
+    }
+    out
+}
+
+// s plus the second-step constant of the round.
+fn plus_second(table: &[u64], round: usize, s: [u64; 12]) -> [u64; 12]
+    requires { ⌜ IsTable (now table) × (round < 10) × CanonicalTo 12 s ⌝ }
+    ensures { λ r. ⌜ r ≡ plus s (secondStepConstant (now (table .entry)) round) ⌝ }
+{
+    let mut out = [0u64; 12];
+    let mut j: usize = 0;
+    while j < 12 {
+        out[j] = Fp(s[j]).add(Fp(table::second_step_constant(table, round, j)))
+            .0;
+        j += 1;
+    }
+    out
 }
 
 // The first step of the round, to its middle state.
@@ -67,7 +88,7 @@ pub fn first_step(table: &[u64], round: usize, s: [u64; 12]) -> [u64; 12]
     ensures { λ r. ⌜ r ≡ firstStep (now (table .entry)) round s ⌝ }
 {
     let mixed = mix(table, roots::roots(s));
-    plus_constant(table, 2 * round + 1, mixed)
+    plus_first(table, round, mixed)
 }
 
 // The second step of the round, from its middle state.
@@ -76,7 +97,7 @@ pub fn second_step(table: &[u64], round: usize, s: [u64; 12]) -> [u64; 12]
     ensures { λ r. ⌜ r ≡ secondStep (now (table .entry)) round s ⌝ }
 {
     let mixed = mix(table, cubes(s));
-    plus_constant(table, 2 * round + 2, mixed)
+    plus_second(table, round, mixed)
 }
 
 // The state after the ten rounds.

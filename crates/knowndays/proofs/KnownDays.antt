@@ -9,26 +9,31 @@ use lib.Count.{ones}
 use lib.ListN.{length, take, drop, replicate}
 use lib.Seq.{take-at, drop-at}
 use Rattle.lists.specs.Lists.{tab, sum, first}
-use Rattle.words.specs.Words.{AllCanonical, firstBad}
-use Rattle.words.proofs.Laws.{all-good, append-canonical}
+use Rattle.words.specs.Words.{AllCanonical, firstBad, canonicalWords}
+use Rattle.words.proofs.Laws.{append-canonical}
 use Rattle.field.specs.Field.{halving, power, root}
-use Rattle.counts.specs.Counts.{tapBatches, traceBatches}
+use Rattle.counts.specs.Counts.{mostBatches, isTapLength, tapWordBatches, isTraceLength, traceWordBatches}
 use Rattle.matrix.specs.Matrix.{timesColumn, times}
-use Rattle.refusals.specs.Refusals.{digest, digestedAfter, checkedAfter, checkedKept}
+use Rattle.refusals.specs.Refusals.{digest}
+use Rattle.refusals.specs.Answers.{unless, after, digestAfter, testsAfter, leaves}
+use Rattle.refusals.specs.declared.Refusal.the-variants.{TapLength, TapWord, TraceLength, ClaimWord, TraceWord}
+use Rattle.refusals.specs.declared.Answer.{Answer}
 use Rattle.refusals.specs.declared.Answer.the-variants as answer
-use Rattle.refusals.specs.declared.Digested.{Digested}
-use Rattle.refusals.specs.declared.Digested.the-variants.{Accepted}
-use Rattle.refusals.specs.declared.Checked.{Checked}
-use Rattle.refusals.specs.declared.Checked.the-variants as checked
-use Rattle.table.specs.Table.{matrixOf, inverseOf, constant, tableTest}
+use Rattle.refusals.specs.declared.DigestAnswer.{DigestAnswer}
+use Rattle.refusals.specs.declared.DigestAnswer.the-variants.{Accepted}
+use Rattle.refusals.specs.declared.TestsAnswer.{TestsAnswer}
+use Rattle.refusals.specs.declared.TestsAnswer.the-variants as counted
+use Rattle.refusals.proofs.Laws.{tests-accepted}
+use Rattle.table.specs.Table.{matrixOf, inverseOf, constant, initialConstant, firstStepConstant, secondStepConstant, tableTest}
+use Rattle.table.proofs.Theorems.{test-sound}
 use Rattle.hash.specs.Hash.{roots, cubes, plus, mix, firstStep, secondStep, stateAt, finalState, input, hash, tap, outputAt, chain}
-use Rattle.hash.specs.Answers.{forBatches, forTaps, hashAnswer, chainAnswer}
-use Rattle.hash.proofs.Answers.{taps-accepted}
+use Rattle.hash.specs.Answers.{hashTest, hashAnswer, chainTest, chainAnswer}
+use Rattle.hash.proofs.Answers.{hash-passes}
 use Rattle.hash.proofs.Inputs.{IsTap}
-use Rattle.constraints.specs.Constraints.{row, forward, minus, backStep, back, applies, holds, rowTests, testsFrom, tests, walk, verdict}
+use Rattle.constraints.specs.Constraints.{row, plusFirst, forward, minus, backStep, back, applies, holds, rowTests, testsFrom, tests, walk, constraintTest}
 use Rattle.constraints.specs.ReadOff.{readInput, readWord, readTaps}
-use Rattle.checker.specs.Answers.{judged, traceAfter, checkAnswer}
-use Rattle.readoff.specs.Answers.{readOffAnswer, readOffLeaves}
+use Rattle.checker.specs.Answers.{checkTest, checkAnswer}
+use Rattle.readoff.specs.Answers.{readOffTest, readOffAnswer, readOffLeaves}
 use Rattle.readoff.proofs.Theorems.{same-for}
 use Rattle.knowndays.specs.Days.{shifted, Z, A, S, zeroTrace, altered, tapped, zeros, KnownDays}
 use Rattle.knowndays.proofs.Shift.{hash-gives-second}
@@ -36,20 +41,29 @@ use Rattle.knowndays.proofs.Tables.{accepted-Z, accepted-A, accepted-S}
 
 -- ---- what is answered once the table is accepted
 module _ (T : List ℕ) (table : tableTest T ≡ answer.Accepted) where
-  hashed : (words : List ℕ) {d : Digested}
-      → forTaps words (Accepted (digest (hash T (take 4 words) (drop 4 words)))) ≡ d → hashAnswer T words ≡ d
-  unfolding hashAnswer
-  hashed words {d} e = ap₂ digestedAfter table e
+  accepted : (rest : Answer) → after (tableTest T) rest ≡ rest
+  accepted rest = ap (λ a. after a rest) table
 
-  chained : (w : List ℕ) {d : Digested}
-      → forBatches (tapBatches (length w)) (λ k. forTaps w (Accepted (digest (chain T w k)))) ≡ d → chainAnswer T w ≡ d
-  unfolding chainAnswer
-  chained w {d} e = ap₂ digestedAfter table e
+  hashed : (words : List ℕ) {a : DigestAnswer} → let d = digest (hash T (take 4 words) (drop 4 words)) in
+      digestAfter (unless (canonicalWords words) (TapWord (firstBad words)) answer.Accepted) d ≡ a → hashAnswer T words ≡ a
+  unfolding hashTest hashAnswer
+  hashed words e = ap (λ t. digestAfter t (digest (hash T (take 4 words) (drop 4 words)))) (accepted _) ∙ e
 
-  judges : (t claim : List ℕ) {a : Checked}
-      → traceAfter (traceBatches (length t)) (judged T t claim) ≡ a → checkAnswer T t claim ≡ a
-  unfolding checkAnswer
-  judges t claim {a} e = ap₂ checkedAfter table e
+  chained : (w : List ℕ) {a : DigestAnswer} → let d = digest (chain T w (tapWordBatches (length w))) in
+      digestAfter (unless (isTapLength mostBatches (length w)) TapLength (unless (canonicalWords w) (TapWord (firstBad w)) answer.Accepted)) d ≡ a
+      → chainAnswer T w ≡ a
+  unfolding chainTest chainAnswer
+  chained w e = ap (λ t. digestAfter t (digest (chain T w (tapWordBatches (length w))))) (accepted _) ∙ e
+
+  judges : (t claim : List ℕ) {a : TestsAnswer} → let k = traceWordBatches (length t) in
+      testsAfter
+        (unless (isTraceLength mostBatches (length t)) TraceLength
+        (unless (canonicalWords claim) (ClaimWord (firstBad claim))
+        (unless (canonicalWords t) (TraceWord (firstBad t))
+        (constraintTest T t claim k))))
+      (length (tests k)) ≡ a → checkAnswer T t claim ≡ a
+  unfolding checkTest checkAnswer
+  judges t claim e = ap (λ x. testsAfter x (length (tests (traceWordBatches (length t))))) (accepted _) ∙ e
 
 -- ---- S: the second tap comes back, whatever the first is
 abbrev second : List ℕ
@@ -63,11 +77,12 @@ small (suc (suc (suc zero))) h = omega arith
 small (suc (suc (suc (suc i)))) h = absurd (omega arith)
 
 hash-S : (a : List ℕ) → length a ≡ 4 → AllCanonical a → hashAnswer S (a ++ second) ≡ Accepted (digest second)
+unfolding hashAnswer
 hash-S a size h =
-    hashed S accepted-S w
-    (sym (taps-accepted w (firstBad w) refl _ (all-good w (append-canonical a second h small)))
+    ap (λ t. digestAfter t (digest (hash S (take 4 w) (drop 4 w))))
+    (hash-passes S w (record { table = test-sound S accepted-S; canonical = append-canonical a second h small }))
     ∙ ap₂ (λ x y. Accepted (digest (hash S x y))) (take-at a second 4 size) (drop-at a second 4 size)
-    ∙ ap (λ s. Accepted (digest s)) (hash-gives-second a second first-tap second-tap))
+    ∙ ap (λ s. Accepted (digest s)) (hash-gives-second a second first-tap second-tap)
   where
     w : List ℕ
     w = a ++ second
@@ -79,27 +94,27 @@ hash-S a size h =
     second-tap = record { size = refl; canonical = small }
 
 -- ---- the tapped trace
-tapped-accepted : checkAnswer Z tapped zeros ≡ checked.Accepted 372
-unfolding ones tab sum first firstBad timesColumn times matrixOf inverseOf constant cubes plus mix secondStep row forward minus backStep back applies holds rowTests testsFrom tests walk verdict judged shifted Z tapped zeros
+tapped-accepted : checkAnswer Z tapped zeros ≡ counted.Accepted 372
+unfolding ones tab sum first firstBad timesColumn times matrixOf inverseOf constant initialConstant firstStepConstant secondStepConstant cubes plus mix secondStep row plusFirst forward minus backStep back applies holds rowTests testsFrom tests walk constraintTest shifted Z tapped zeros
 tapped-accepted = judges Z accepted-Z tapped zeros refl
 
-tapped-read-off : readOffAnswer Z tapped zeros 16 ≡ checked.Accepted 372
+tapped-read-off : readOffAnswer Z tapped zeros 16 ≡ counted.Accepted 372
 unfolding tab tapped
 tapped-read-off = same-for Z tapped zeros 1 refl ∙ tapped-accepted
 
 tapped-tap : tap (readTaps Z tapped 1) 2 ≡ 0 ∷ 1 ∷ 0 ∷ 0 ∷ []
-unfolding tab sum timesColumn times inverseOf constant cubes tap row minus backStep back readInput readWord readTaps shifted Z tapped
+unfolding tab sum timesColumn times inverseOf constant initialConstant firstStepConstant cubes tap row minus backStep back readInput readWord readTaps shifted Z tapped
 tapped-tap = refl
 
 tapped-read : (old : List ℕ) → length old ≡ 16 → tap (readOffLeaves Z tapped zeros old) 2 ≡ 0 ∷ 1 ∷ 0 ∷ 0 ∷ []
-unfolding tab tapped readOffLeaves
-tapped-read old e = ap (λ x. tap (checkedKept x (readTaps Z tapped 1) old) 2) answered ∙ tapped-tap
+unfolding tab tapped readOffAnswer readOffLeaves
+tapped-read old e = ap (λ x. tap (leaves x (readTaps Z tapped 1) old) 2) (tests-accepted (readOffTest Z tapped zeros (length old)) _ 372 answered .0) ∙ tapped-tap
   where
-    answered : readOffAnswer Z tapped zeros (length old) ≡ checked.Accepted 372
+    answered : readOffAnswer Z tapped zeros (length old) ≡ counted.Accepted 372
     answered = ap (readOffAnswer Z tapped zeros) e ∙ tapped-read-off
 
 pub known-days : KnownDays
-unfolding ones tab sum first firstBad halving power root timesColumn times matrixOf inverseOf constant roots cubes plus mix firstStep secondStep stateAt finalState input hash tap outputAt chain row forward minus backStep back applies holds rowTests testsFrom tests walk verdict judged shifted Z A zeroTrace altered zeros
+unfolding ones tab sum first firstBad halving power root timesColumn times matrixOf inverseOf constant initialConstant firstStepConstant secondStepConstant roots cubes plus mix firstStep secondStep stateAt finalState input hash tap outputAt chain row plusFirst forward minus backStep back applies holds rowTests testsFrom tests walk constraintTest shifted Z A zeroTrace altered zeros
 known-days = record {
   product-of-negatives = refl;
   product-of-powers = refl;

@@ -16,7 +16,7 @@ use Rattle.field.specs.Field.{P, add, cube, root}
 use Rattle.field.proofs.Fermat.{cube-root}
 use Rattle.matrix.specs.Matrix.{entry, timesColumn}
 use Rattle.matrix.proofs.States.{cell-times}
-use Rattle.table.specs.Table.{matrixOf, constant}
+use Rattle.table.specs.Table.{matrixWords, matrixOf, constant, initialConstant, firstStepConstant, secondStepConstant}
 use Rattle.hash.specs.Hash.{roots, cubes, plus, mix, firstStep, secondStep, stateAt, middleState, finalState, input, hash}
 use Rattle.hash.proofs.States.{IsState, state-cell, same-cells, cell-roots, cell-cubes, cell-plus, roots-state, cubes-state, stateAt-state, stateAt-zero, stateAt-suc}
 use Rattle.hash.proofs.Inputs.{IsTap, cell-take, cell-input-right, input-state, hash-tap}
@@ -40,19 +40,31 @@ zeros-cell zero (suc i) = refl
 zeros-cell (suc m) zero = refl
 zeros-cell (suc m) (suc i) = zeros-cell m i
 
-S-constants : (n : ℕ) → cell S (288 + n) ≡ 0
+S-constants : (n : ℕ) → cell S (2 * matrixWords + n) ≡ 0
 unfolding S
 S-constants n = ap (λ k. cell (shifted 11 ++ shifted 1 ++ replicate 252 0) k) e ∙ getD-append-add (shifted 11 ++ shifted 1) (replicate 252 0) n 0 ∙ zeros-cell 252 n
   where
-    e : 288 + n ≡ length (shifted 11 ++ shifted 1) + n
+    e : 2 * matrixWords + n ≡ length (shifted 11 ++ shifted 1) + n
     e = omega (arith, length-append (shifted 11) (shifted 1), length-shifted 11, length-shifted 1)
 
 constant-zero : (n j : ℕ) → j < 12 → cell (constant S n) j ≡ 0
 unfolding constant
-constant-zero n j h = getD-take 12 (drop (288 + 12 * n) S) j 0 h ∙ getD-drop (288 + 12 * n) S j 0 ∙ ap (cell S) e ∙ S-constants (12 * n + j)
+constant-zero n j h = getD-take 12 (drop (2 * matrixWords + 12 * n) S) j 0 h ∙ getD-drop (2 * matrixWords + 12 * n) S j 0 ∙ ap (cell S) e ∙ S-constants (12 * n + j)
   where
-    e : 288 + 12 * n + j ≡ 288 + (12 * n + j)
+    e : 2 * matrixWords + 12 * n + j ≡ 2 * matrixWords + (12 * n + j)
     e = omega arith
+
+initial-zero : (j : ℕ) → j < 12 → cell (initialConstant S) j ≡ 0
+unfolding initialConstant
+initial-zero = constant-zero 0
+
+first-zero : (r j : ℕ) → j < 12 → cell (firstStepConstant S r) j ≡ 0
+unfolding firstStepConstant
+first-zero r = constant-zero (2 * r + 1)
+
+second-zero : (r j : ℕ) → j < 12 → cell (secondStepConstant S r) j ≡ 0
+unfolding secondStepConstant
+second-zero r = constant-zero (2 * r + 2)
 
 S-entry : (i j : ℕ) → i < 12 → j < 12 → entry (matrixOf S) i j ≡ choose (eqb j ((i + 11) % 12)) 1 0
 unfolding matrixOf
@@ -92,19 +104,19 @@ add-zero-constant x k h e = ap (λ y. (x + y) % P) e ∙ ap (λ y. y % P) z ∙ 
     z = omega arith
 
 -- one step: a cell function that gives canonical words, then M, then a constant of zeros
-step-cell : (s : List ℕ) (n i : ℕ) → IsState s → i < 12 → cell (plus (mix S s) (constant S n)) i ≡ cell s ((i + 11) % 12)
-step-cell s n i st h =
-    cell-plus (mix S s) (constant S n) i h
-    ∙ ap (λ x. add x (cell (constant S n) i)) (mix-cell s i h ∙ mod-eq-of-lt (state-cell st ((i + 11) % 12)))
-    ∙ add-zero-constant (cell s ((i + 11) % 12)) (cell (constant S n) i) (state-cell st ((i + 11) % 12)) (constant-zero n i h)
+step-cell : (s k : List ℕ) (i : ℕ) → IsState s → i < 12 → cell k i ≡ 0 → cell (plus (mix S s) k) i ≡ cell s ((i + 11) % 12)
+step-cell s k i st h z =
+    cell-plus (mix S s) k i h
+    ∙ ap (λ x. add x (cell k i)) (mix-cell s i h ∙ mod-eq-of-lt (state-cell st ((i + 11) % 12)))
+    ∙ add-zero-constant (cell s ((i + 11) % 12)) (cell k i) (state-cell st ((i + 11) % 12)) z
 
 -- ---- a round moves each cell two places on
 round-cell : (s : List ℕ) (r i : ℕ) → IsState s → i < 12 → cell (secondStep S r (firstStep S r s)) i ≡ cell s ((i + 10) % 12)
 unfolding firstStep secondStep
 round-cell s r i st h =
-    step-cell (cubes (firstStep S r s)) (2 * r + 2) i (cubes-state (firstStep S r s)) h
+    step-cell (cubes (firstStep S r s)) (secondStepConstant S r) i (cubes-state (firstStep S r s)) h (second-zero r i h)
     ∙ cell-cubes (firstStep S r s) j hj
-    ∙ ap cube (step-cell (roots s) (2 * r + 1) j (roots-state s) hj ∙ cell-roots s ((j + 11) % 12) (mod-lt (j + 11) (omega arith)) ∙ ap (λ k. root (cell s k)) e)
+    ∙ ap cube (step-cell (roots s) (firstStepConstant S r) j (roots-state s) hj (first-zero r j hj) ∙ cell-roots s ((j + 11) % 12) (mod-lt (j + 11) (omega arith)) ∙ ap (λ k. root (cell s k)) e)
     ∙ cube-root (cell s ((i + 10) % 12)) (state-cell st ((i + 10) % 12))
   where
     j : ℕ
@@ -120,8 +132,8 @@ state-moved : (s : List ℕ) → IsState s → (r i : ℕ) → i < 12 → cell (
 unfolding middleState
 state-moved s st zero i h =
     ap (λ t. cell t i) (stateAt-zero S s)
-    ∙ cell-plus s (constant S 0) i h
-    ∙ add-zero-constant (cell s i) (cell (constant S 0) i) (state-cell st i) (constant-zero 0 i h)
+    ∙ cell-plus s (initialConstant S) i h
+    ∙ add-zero-constant (cell s i) (cell (initialConstant S) i) (state-cell st i) (initial-zero i h)
     ∙ ap (cell s) e
   where
     e : i ≡ (i + 10 * 0) % 12

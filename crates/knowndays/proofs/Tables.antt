@@ -4,14 +4,14 @@ use mathlib.Core.Path.{_≡_, refl, ap, _∙_, subst}
 use mathlib.Core.List.{List}
 use Prim.Native.Nat.{ℕ, _+_, _*_, _%_, _<_}
 use native.Mathlib.Omega.{arith}
-use lib.ListN.{length, take, replicate, getD-replicate}
+use lib.ListN.{length, replicate, getD-replicate}
 use Rattle.lists.specs.Lists.{tab, sum, first}
 use Rattle.lists.proofs.Sum.{all-0}
 use Rattle.field.specs.Field.{P}
 use Rattle.words.specs.Words.{firstBad}
 use Rattle.matrix.specs.Matrix.{entry, timesColumn, product, Inverse, Kernel}
 use Rattle.refusals.specs.declared.Answer.the-variants.{Accepted}
-use Rattle.table.specs.Table.{matrixOf, inverseOf, unlike, firstUnlike, tableTest, IsTable, RawInverse, prepared, rawTest, Prepares, accepts, no-inverse}
+use Rattle.table.specs.Table.{tableWords, matrixOf, inverseOf, unlike, firstUnlike, tableTest, IsTable, rawMatrix, RawInverse, prepared, rawTest, Prepares, accepts, no-inverse}
 use Rattle.table.proofs.Theorems.{test-sound, inverse-length, inverse-canonical}
 use Rattle.knowndays.specs.Days.{shifted, rawZ, rawA, rawS, rawZeros, Z, A, S, KnownTables}
 
@@ -29,8 +29,8 @@ unfolding tab sum first firstBad product matrixOf inverseOf unlike firstUnlike t
 accepted-S = refl
 
 -- ---- a table that passes it is what Prepare writes for the raw one with its M and K
-module _ (raw T : List ℕ) (tested : rawTest raw 540 ≡ Accepted) (table : tableTest T ≡ Accepted)
-    (matrix : matrixOf T ≡ take 144 raw) (whole : prepared raw (inverseOf T) ≡ T) where
+module _ (raw T : List ℕ) (tested : rawTest raw tableWords ≡ Accepted) (table : tableTest T ≡ Accepted)
+    (matrix : matrixOf T ≡ rawMatrix raw) (whole : prepared raw (inverseOf T) ≡ T) where
   is-table : IsTable T
   is-table = test-sound T table
 
@@ -41,7 +41,7 @@ module _ (raw T : List ℕ) (tested : rawTest raw 540 ≡ Accepted) (table : tab
     inverse = subst (λ m. Inverse 12 (entry m) (entry (inverseOf T))) matrix (is-table .inverse);
   }
 
-  prepare : (old : List ℕ) → length old ≡ 540 → Prepares raw old Accepted T
+  prepare : (old : List ℕ) → length old ≡ tableWords → Prepares raw old Accepted T
   prepare old size =
       subst (Prepares raw old Accepted) whole
       (accepts (inverseOf T) (ap (rawTest raw) size ∙ tested) inverse)

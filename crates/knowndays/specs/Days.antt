@@ -11,9 +11,9 @@ use Rattle.field.specs.Field.{P, mul, root}
 use Rattle.refusals.specs.Refusals.{digest}
 use Rattle.refusals.specs.declared.Refusal.the-variants.{NoInverse, Constraint}
 use Rattle.refusals.specs.declared.Answer.the-variants as answer
-use Rattle.refusals.specs.declared.Digested.the-variants as digested
-use Rattle.refusals.specs.declared.Checked.the-variants as checked
-use Rattle.table.specs.Table.{tableTest, Prepares}
+use Rattle.refusals.specs.declared.DigestAnswer.the-variants as output
+use Rattle.refusals.specs.declared.TestsAnswer.the-variants as tests
+use Rattle.table.specs.Table.{rawWords, tableWords, tableTest, Prepares}
 use Rattle.hash.specs.Hash.{tap}
 use Rattle.hash.specs.Answers.{hashAnswer, chainAnswer}
 use Rattle.checker.specs.Answers.{checkAnswer}
@@ -39,7 +39,7 @@ rawS = shifted 11 ++ replicate 252 0
 
 -- zero M, K zero
 unfoldable pub rawZeros : List ℕ
-rawZeros = replicate 396 0
+rawZeros = replicate rawWords 0
 
 -- ---- Z, A and S as Prepare writes them: M, its inverse, K
 
@@ -56,10 +56,10 @@ S = shifted 11 ++ shifted 1 ++ replicate 252 0
 -- what Prepare answers for each raw table and leaves in any destination of 540 words, and no other (`prepares-unique`);
 -- with what it wrote the later operations go on
 pub record KnownTables : Type 0 where
-  pub prepare-Z : (old : List ℕ) → length old ≡ 540 → Prepares rawZ old answer.Accepted Z
-  pub prepare-A : (old : List ℕ) → length old ≡ 540 → Prepares rawA old answer.Accepted A
-  pub prepare-S : (old : List ℕ) → length old ≡ 540 → Prepares rawS old answer.Accepted S
-  pub prepare-zeros : (old : List ℕ) → length old ≡ 540 → Prepares rawZeros old (answer.Refused NoInverse) old
+  pub prepare-Z : (old : List ℕ) → length old ≡ tableWords → Prepares rawZ old answer.Accepted Z
+  pub prepare-A : (old : List ℕ) → length old ≡ tableWords → Prepares rawA old answer.Accepted A
+  pub prepare-S : (old : List ℕ) → length old ≡ tableWords → Prepares rawS old answer.Accepted S
+  pub prepare-zeros : (old : List ℕ) → length old ≡ tableWords → Prepares rawZeros old (answer.Refused NoInverse) old
   pub accepted-Z : tableTest Z ≡ answer.Accepted
   pub accepted-A : tableTest A ≡ answer.Accepted
   pub accepted-S : tableTest S ≡ answer.Accepted
@@ -87,17 +87,17 @@ pub record KnownDays : Type 0 where
   pub root-of-0 : root 0 ≡ 0
   pub root-of-8 : root 8 ≡ 2
   pub root-of-negative : root (P - 1) ≡ P - 1
-  pub hash-Z : hashAnswer Z ((8 ∷ 27 ∷ 1 ∷ 0 ∷ []) ++ zeros) ≡ digested.Accepted (digest (8 ∷ 27 ∷ 1 ∷ 0 ∷ []))
-  pub hash-A : hashAnswer A (zeros ++ zeros) ≡ digested.Accepted (digest (1 ∷ 0 ∷ 0 ∷ 0 ∷ []))
+  pub hash-Z : hashAnswer Z ((8 ∷ 27 ∷ 1 ∷ 0 ∷ []) ++ zeros) ≡ output.Accepted (digest (8 ∷ 27 ∷ 1 ∷ 0 ∷ []))
+  pub hash-A : hashAnswer A (zeros ++ zeros) ≡ output.Accepted (digest (1 ∷ 0 ∷ 0 ∷ 0 ∷ []))
   pub hash-S : (a : List ℕ) → length a ≡ 4 → AllCanonical a
-      → hashAnswer S (a ++ (5 ∷ 6 ∷ 7 ∷ 9 ∷ [])) ≡ digested.Accepted (digest (5 ∷ 6 ∷ 7 ∷ 9 ∷ []))
-  pub chain-A : chainAnswer A (replicate 16 0) ≡ digested.Accepted (digest (3 ∷ 0 ∷ 0 ∷ 0 ∷ []))
-  pub zero-accepted : checkAnswer Z zeroTrace zeros ≡ checked.Accepted 372
+      → hashAnswer S (a ++ (5 ∷ 6 ∷ 7 ∷ 9 ∷ [])) ≡ output.Accepted (digest (5 ∷ 6 ∷ 7 ∷ 9 ∷ []))
+  pub chain-A : chainAnswer A (replicate 16 0) ≡ output.Accepted (digest (3 ∷ 0 ∷ 0 ∷ 0 ∷ []))
+  pub zero-accepted : checkAnswer Z zeroTrace zeros ≡ tests.Accepted 372
   pub zero-claim : checkAnswer Z zeroTrace (1 ∷ 0 ∷ 0 ∷ 0 ∷ [])
-      ≡ checked.Refused (Constraint (record { 0 = 31 }) 49 369)
-  pub altered-0-8 : checkAnswer Z (altered 0 8) zeros ≡ checked.Refused (Constraint (record { 0 = 0 }) 1 1)
-  pub altered-31-5 : checkAnswer Z (altered 31 5) zeros ≡ checked.Refused (Constraint (record { 0 = 30 }) 38 362)
-  pub altered-11-5 : checkAnswer Z (altered 11 5) zeros ≡ checked.Refused (Constraint (record { 0 = 11 }) 26 138)
-  pub tapped-accepted : checkAnswer Z tapped zeros ≡ checked.Accepted 372
-  pub tapped-read-off : readOffAnswer Z tapped zeros 16 ≡ checked.Accepted 372
+      ≡ tests.Refused (Constraint (record { 0 = 31 }) 49 369)
+  pub altered-0-8 : checkAnswer Z (altered 0 8) zeros ≡ tests.Refused (Constraint (record { 0 = 0 }) 1 1)
+  pub altered-31-5 : checkAnswer Z (altered 31 5) zeros ≡ tests.Refused (Constraint (record { 0 = 30 }) 38 362)
+  pub altered-11-5 : checkAnswer Z (altered 11 5) zeros ≡ tests.Refused (Constraint (record { 0 = 11 }) 26 138)
+  pub tapped-accepted : checkAnswer Z tapped zeros ≡ tests.Accepted 372
+  pub tapped-read-off : readOffAnswer Z tapped zeros 16 ≡ tests.Accepted 372
   pub tapped-read : (old : List ℕ) → length old ≡ 16 → tap (readOffLeaves Z tapped zeros old) 2 ≡ 0 ∷ 1 ∷ 0 ∷ 0 ∷ []

@@ -10,7 +10,7 @@ use Rattle.lists.specs.Lists.{cell, tab}
 use Rattle.lists.proofs.Tab.{filled, filled-more, filled-all, cell-tab}
 use Rattle.field.specs.Field.{Canonical}
 use Rattle.words.specs.Words.{CanonicalTo}
-use Rattle.table.specs.Table.{constant}
+use Rattle.table.specs.Table.{initialConstant}
 use Rattle.hash.proofs.States.{state-cell}
 use Rattle.constraints.specs.Constraints.{row, round, minus, back}
 use Rattle.constraints.specs.ReadOff.{firstRow, readInput, readWord, readTaps}
@@ -31,11 +31,11 @@ module _ (T t : List ℕ) (h i : ℕ) where
       let n : i ≡ 32 * (h / 3) = omega arith in
       rw (eq-eqb (h % 3) 0 z) (q ∙ ap (row t) n)
 
-  pub back-read : (h % 3 ≡ 0 → ⊥) → i ≡ 32 * (h / 3) + (10 * (h % 3) + 1) → {b s : List ℕ} → b ≡ back T t i → s ≡ minus b (constant T 0) → s ≡ readInput T t h
+  pub back-read : (h % 3 ≡ 0 → ⊥) → i ≡ 32 * (h / 3) + (10 * (h % 3) + 1) → {b s : List ℕ} → b ≡ back T t i → s ≡ minus b (initialConstant T) → s ≡ readInput T t h
   unfolding readInput
   back-read z e q f =
       let n : i ≡ firstRow h = omega arith in
-      rw (ne-eqb (h % 3) 0 z) (f ∙ ap (λ x. minus x (constant T 0)) (q ∙ ap (back T t) n))
+      rw (ne-eqb (h % 3) 0 z) (f ∙ ap (λ x. minus x (initialConstant T)) (q ∙ ap (back T t) n))
 
 pub back-canonical : (T t : List ℕ) (i : ℕ) {b : List ℕ} → b ≡ back T t i → CanonicalTo 12 b
 unfolding back

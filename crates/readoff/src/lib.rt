@@ -28,7 +28,7 @@ fn read_input(inverse: &[u64], table: &[u64], trace: &[u64], hash: HashNumber) -
         return rows::cells(trace, batch.row(0));
     }
     let back = rows::back(inverse, table, trace, batch.row(10 * within + 1));
-    steps::less_constant(table, 0, back)
+    steps::less_initial(table, back)
 }
 
 // w_i: columns 0 to 3 of the first row 0 for w_0, columns 4 to 7 of the input of the hash that takes it in for the others.

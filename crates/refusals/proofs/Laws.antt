@@ -45,6 +45,10 @@ tests-refused Accepted n r q = absurd (let z : _≡_ {A = ℕ} 0 1 = cc in omega
 tests-refused (Refused s) n r q = cc
 
 -- ---- what a function answers, from what it found: an answer o is that of the tests, one after the other
+one-test : (b : Bool) (r : Refusal) (rest : Answer) → after (unless b r Accepted) rest ≡ unless b r rest
+one-test true r rest = refl
+one-test false r rest = refl
+
 module _ {o : Answer} where
   pub unless-refused : {b : Bool} {r : Refusal} (rest : Answer) → b ≡ false → o ≡ Refused r → o ≡ unless b r rest
   unless-refused {b} {r} rest e q = q ∙ sym (ap (λ x. unless x r rest) e)
@@ -58,6 +62,14 @@ module _ {o : Answer} where
 
   pub after-accepted : {a t rest : Answer} → a ≡ t → a ≡ Accepted → o ≡ rest → o ≡ after t rest
   after-accepted {a} {t} {rest} e q p = p ∙ sym (ap (λ x. after x rest) (sym e ∙ q))
+
+  -- a is what one test alone answered
+  module _ (b : Bool) (r : Refusal) {a : Answer} (e : a ≡ unless b r Accepted) where
+    pub one-test-refused : {s : Refusal} (rest : Answer) → a ≡ Refused s → o ≡ Refused s → o ≡ unless b r rest
+    one-test-refused rest q p = after-refused rest (p ∙ sym q ∙ e) p ∙ one-test b r rest
+
+    pub one-test-passed : {rest : Answer} → a ≡ Accepted → o ≡ rest → o ≡ unless b r rest
+    one-test-passed {rest} q p = after-accepted e q p ∙ one-test b r rest
 
 -- and what follows from a, which is what the tests t answered
 module _ {a t : Answer} (e : a ≡ t) where

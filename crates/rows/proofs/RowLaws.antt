@@ -6,22 +6,21 @@ use mathlib.Core.List.{List}
 use Prim.Native.Nat.{ℕ, _+_, _*_, _<_}
 use native.Mathlib.Omega.{arith}
 use native.Mathlib.Decide.{decLt}
-use lib.ListN.{length, take, length-take, List·getD-eq-default}
+use lib.ListN.{length}
 use lib.Dec.{ltb}
-use lib.Seq.{getD-take}
 use borrow.Author.Tests.{lt-ltb, le-ltb}
 use Rattle.lists.specs.Lists.{choose, cell}
-use Rattle.lists.proofs.Tab.{filled, filled-before, filled-after, length-filled, cell-tab, tab-ext, tab-unique}
+use Rattle.lists.proofs.Tab.{filled, filled-before, filled-after, length-filled, tab-unique}
 use Rattle.field.specs.Field.{Canonical, add}
 use Rattle.words.specs.Words.{CanonicalTo}
-use Rattle.table.specs.Table.{constant}
-use Rattle.table.proofs.Parts.{cell-constant}
-use Rattle.hash.specs.Hash.{plus, secondStep}
-use Rattle.hash.proofs.States.{state-cell, secondStep-state}
-use Rattle.constraints.specs.Constraints.{row, round, entering, forward, backStep, back}
+use Rattle.table.specs.Table.{initialConstant}
+use Rattle.hash.specs.Hash.{secondStep}
+use Rattle.hash.proofs.States.{state-cell, same-cells, secondStep-state}
+use Rattle.constraints.specs.Constraints.{row, round, entering, plusFirst, forward, backStep, back}
 use Rattle.constraints.proofs.RowCells.{cell-row}
+use Rattle.constraints.proofs.ForwardBack.{length-first, cell-plus-first, cell-plus-kept}
 use Rattle.steps.specs.Steps.{columns, tested}
-use Rattle.steps.proofs.Made.{cell-columns, cell-before}
+use Rattle.steps.proofs.Made.{length-columns, cell-columns, cell-before, cell-beyond}
 use Rattle.rows.specs.Lent.{HasRow}
 
 module _ (t : List ℕ) (i : ℕ) (h : HasRow t i) where
@@ -34,35 +33,34 @@ module _ (t : List ℕ) (i : ℕ) (h : HasRow t i) where
     h .canonical (start + j) (omega (arith, h .inside)),
   )
 
--- K_0 added in columns 0 to 3 only: the others are as they were
-pub entering-filled : (T s : List ℕ) → length s ≡ 12 → CanonicalTo 12 s → (out : List ℕ) (m : ℕ) → m ≡ 4 → out ≡ filled m (λ j. add (cell s j) (cell T (288 + j))) s → out ≡ plus s (take 4 (constant T 0))
-unfolding plus
-entering-filled T s size low out m q f =
+-- the loop's first four columns are the sums, the others as they were
+pub entering-filled : (s k : List ℕ) → length s ≡ 12 → (out : List ℕ) (m : ℕ) → m ≡ 4 → out ≡ filled m (λ j. add (cell s j) (cell k j)) s → out ≡ plusFirst 4 s k
+unfolding plusFirst
+entering-filled s k size out m q f =
     f
     ∙ ap (λ x. filled x sum s) q
-    ∙ tab-unique 12 (filled 4 sum s) (λ j. add (cell s j) (cell (take 4 (constant T 0)) j)) (length-filled 4 sum s (omega arith) ∙ size) (λ j l. same j l (decLt j 4))
+    ∙ tab-unique 12 (filled 4 sum s) (λ j. choose (ltb j 4) (sum j) (cell s j)) (length-filled 4 sum s (omega arith) ∙ size) (λ j l. same j (decLt j 4))
   where
     sum : ℕ → ℕ
-    sum j = add (cell s j) (cell T (288 + j))
+    sum j = add (cell s j) (cell k j)
 
-    same : (j : ℕ) → j < 12 → Dec (j < 4) → cell (filled 4 sum s) j ≡ add (cell s j) (cell (take 4 (constant T 0)) j)
-    same j l (yes h) =
-        filled-before 4 sum s j h ∙ ap (add (cell s j)) (sym (getD-take 4 (constant T 0) j 0 h ∙ cell-constant T 0 j l))
-    same j l (no h) =
-        let z : cell (take 4 (constant T 0)) j ≡ 0 = List·getD-eq-default (take 4 (constant T 0)) 0 {n = j} (omega (arith, length-take 4 (constant T 0))) in
-        filled-after 4 sum s j (omega arith) ∙ omega (arith, z, low j l)
+    same : (j : ℕ) → Dec (j < 4) → cell (filled 4 sum s) j ≡ choose (ltb j 4) (sum j) (cell s j)
+    same j (yes h) = filled-before 4 sum s j h ∙ rw (lt-ltb j 4 h)
+    same j (no h) = filled-after 4 sum s j (omega arith) ∙ rw (le-ltb j 4 (omega arith))
 
--- K_0 in the first four columns, of a state of which only these are there
-plus-columns : (s k : List ℕ) → plus (columns 4 s) (take 4 k) ≡ columns 4 (plus s (take 4 k))
-unfolding plus columns
-plus-columns s k = tab-ext 12 (λ j. add (cell (columns 4 s) j) (cell (take 4 k) j)) (λ j. choose (ltb j 4) (cell (plus s (take 4 k)) j) 0) (λ j h. go j h (decLt j 4))
+-- they can be added where only these columns were computed
+plus-columns : (s k : List ℕ) → plusFirst 4 (columns 4 s) k ≡ columns 4 (plusFirst 4 s k)
+plus-columns s k = same-cells 12 (plusFirst 4 (columns 4 s) k) (columns 4 (plusFirst 4 s k)) (length-first 4 (columns 4 s) k) (length-columns 4 (plusFirst 4 s k)) (λ j h. go j h (decLt j 4))
   where
-    go : (j : ℕ) → j < 12 → Dec (j < 4) → add (cell (columns 4 s) j) (cell (take 4 k) j) ≡ choose (ltb j 4) (cell (plus s (take 4 k)) j) 0
-    go j h (yes l) = ap (λ x. add x (cell (take 4 k) j)) (cell-before 4 s j h l) ∙ sym (cell-tab 12 (λ n. add (cell s n) (cell (take 4 k) n)) j h) ∙ rw (lt-ltb j 4 l) refl
+    go : (j : ℕ) → j < 12 → Dec (j < 4) → cell (plusFirst 4 (columns 4 s) k) j ≡ cell (columns 4 (plusFirst 4 s k)) j
+    go j h (yes l) =
+        cell-plus-first 4 (columns 4 s) k j h l
+        ∙ ap (λ x. add x (cell k j)) (cell-before 4 s j h l)
+        ∙ sym (cell-before 4 (plusFirst 4 s k) j h l ∙ cell-plus-first 4 s k j h l)
     go j h (no l) =
-        let z : cell (take 4 k) j ≡ 0 = List·getD-eq-default (take 4 k) 0 {n = j} (omega (arith, length-take 4 k)) in
-        let y : cell (columns 4 s) j ≡ 0 = cell-columns 4 s j h ∙ rw (le-ltb j 4 (omega arith)) refl in
-        ap₂ add y z ∙ rw (le-ltb j 4 (omega arith)) refl
+        cell-plus-kept 4 (columns 4 s) k j h (omega arith)
+        ∙ cell-beyond 4 s j h (omega arith)
+        ∙ sym (cell-beyond 4 (plusFirst 4 s k) j h (omega arith))
 
 -- ---- forward and back from their parts
 module _ (T t : List ℕ) (i : ℕ) {r : ℕ} (q : r ≡ round i) {s : List ℕ} (at-row : s ≡ row t i) where
@@ -73,9 +71,9 @@ module _ (T t : List ℕ) (i : ℕ) {r : ℕ} (q : r ≡ round i) {s : List ℕ}
   unfolding forward
   forward-plain b e = rw b (second-made 12 e)
 
-  pub forward-entering : entering i ≡ true → {n : List ℕ} → n ≡ columns 4 (secondStep T r s) → {out : List ℕ} → out ≡ plus n (take 4 (constant T 0)) → out ≡ columns (tested i) (forward T t i)
+  pub forward-entering : entering i ≡ true → {n : List ℕ} → n ≡ columns 4 (secondStep T r s) → {out : List ℕ} → out ≡ plusFirst 4 n (initialConstant T) → out ≡ columns (tested i) (forward T t i)
   unfolding forward
-  forward-entering b e f = rw b (f ∙ ap (λ x. plus x (take 4 (constant T 0))) (second-made 4 e) ∙ plus-columns (secondStep T (round i) (row t i)) (constant T 0))
+  forward-entering b e f = rw b (f ∙ ap (λ x. plusFirst 4 x (initialConstant T)) (second-made 4 e) ∙ plus-columns (secondStep T (round i) (row t i)) (initialConstant T))
 
   pub back-made : {out : List ℕ} → out ≡ backStep T r s → out ≡ back T t i
   unfolding back

@@ -4,12 +4,10 @@ ghost use Prim.Native.Nat.{_<_, _≤_};
 ghost use Rattle.lists.specs.Lists.{cell};
 ghost use Rattle.field.specs.Field.{Canonical};
 ghost use Rattle.words.specs.Words.{CanonicalTo};
-ghost use Rattle.table.specs.Table.{IsTable, constant};
-ghost use Rattle.constraints.specs.Constraints.{row as cells-of, within, round, entering, forward, back};
+ghost use Rattle.table.specs.Table.{IsTable, initialConstant};
+ghost use Rattle.constraints.specs.Constraints.{row as cells-of, within, round, entering, plusFirst, forward, back};
 ghost use Rattle.steps.specs.Steps.{forwardReady, backReady, columns, tested};
 ghost use Rattle.rows.specs.Lent.{HasRow};
-ghost use lib.ListN.{take};
-ghost use Rattle.hash.specs.Hash.{plus};
 use counts::RowNumber;
 use field::Fp;
 
@@ -28,14 +26,6 @@ pub fn cell(trace: &[u64], row: RowNumber, column: usize) -> u64
 {
     let start = row.start();
     trace[start + column]
-}
-
-// One cell of K_0.
-pub fn opening(table: &[u64], column: usize) -> u64
-    requires { ⌜ IsTable (now table) × (column < 12) ⌝ }
-    ensures { λ r. ⌜ (r ≡ cell (constant (now (table .entry)) 0) column) × Canonical r ⌝ }
-{
-    table[table::CONSTANTS + column]
 }
 
 // The round whose middle state the row holds: rows 1 to 10, 11 to 20, 21 to 30 are rounds 0 to 9.
@@ -57,12 +47,12 @@ pub fn is_entering(row: RowNumber) -> bool
 // The state plus K_0 in columns 0 to 3 only, as at rows 10 and 20.
 fn plus_entering(table: &[u64], s: [u64; 12]) -> [u64; 12]
     requires { ⌜ IsTable (now table) × CanonicalTo 12 s ⌝ }
-    ensures { λ r. ⌜ r ≡ plus s (take 4 (constant (now (table .entry)) 0)) ⌝ }
+    ensures { λ r. ⌜ r ≡ plusFirst 4 s (initialConstant (now (table .entry))) ⌝ }
 {
     let mut out = s;
     let mut j: usize = 0;
     while j < 4 {
-        out[j] = Fp(s[j]).add(Fp(table[table::CONSTANTS + j])).0;
+        out[j] = Fp(s[j]).add(Fp(table::initial_constant(table, j))).0;
         j += 1;
     }
     out

@@ -11,7 +11,7 @@ use lib.Dec.{eqb}
 use lib.ListN.{replicate}
 use Rattle.lists.specs.Lists.{choose, cell}
 use Rattle.field.specs.Field.{add}
-use Rattle.table.specs.Table.{constant}
+use Rattle.table.specs.Table.{initialConstant}
 use Rattle.constraints.specs.Constraints.{within, entering, row, forward, back, holds}
 use Rattle.constraints.proofs.Families.{Applies, zero-columns, new-zeros, starts, output-kept, goes-on, ends, joins, claims, applies-cases}
 use Rattle.constraints.proofs.ForwardBack.{enters-at}
@@ -120,11 +120,11 @@ module _ (T t claim : List ℕ) {f b : List ℕ} {i c : ℕ} (h : Tested t i c) 
   unfolding holds
   holds-1 q e = rw (le-leb c 4 q) (ap (λ x. eqb x 0) e)
 
-  pub holds-5 : 4 < c → c ≤ 8 → {x : ℕ} → x ≡ cell (constant T 0) (c + 3) → eqb (cell b (c + 3)) x ≡ holds T t claim i c
+  pub holds-5 : 4 < c → c ≤ 8 → {x : ℕ} → x ≡ cell (initialConstant T) (c + 3) → eqb (cell b (c + 3)) x ≡ holds T t claim i c
   unfolding holds
   holds-5 l q e = rw (lt-leb c 4 l, le-leb c 8 q) (ap₂ eqb (ap (λ x. cell x (c + 3)) (is-back T t h at-back l (omega arith))) e)
 
-  pub holds-9 : 8 < c → c ≤ 20 → {x k s : ℕ} → x ≡ cell (row t i) (c - 9) → k ≡ cell (constant T 0) (c - 9) → s ≡ add x k → eqb s (cell b (c - 9)) ≡ holds T t claim i c
+  pub holds-9 : 8 < c → c ≤ 20 → {x k s : ℕ} → x ≡ cell (row t i) (c - 9) → k ≡ cell (initialConstant T) (c - 9) → s ≡ add x k → eqb s (cell b (c - 9)) ≡ holds T t claim i c
   unfolding holds
   holds-9 l q x k s =
       rw (lt-leb c 4 (omega arith), lt-leb c 8 l, le-leb c 20 q)

@@ -6,7 +6,7 @@ use Prim.Native.Nat.{ℕ, _+_, _*_, _≤_, _<_}
 use native.Mathlib.Omega.{arith}
 use borrow.Author.Tests.{lt-leb}
 use lib.Dec.{eqb}
-use Rattle.constraints.specs.Constraints.{within, entering, between, applies}
+use Rattle.constraints.specs.Constraints.{within, entering, between, lastRow, claimRow, applies}
 use Rattle.constraints.proofs.Families.{in-range}
 
 or-none : (a : Bool) → (a || false) ≡ a
@@ -54,12 +54,12 @@ module _ (k i c : ℕ) where
   line-33 p q =
       simp (over 1 4 c (omega arith), over 5 8 c (omega arith), over 9 20 c (omega arith), over 21 24 c (omega arith), over 25 32 c (omega arith), in-range 33 44 c p (omega arith), under 45 48 c (omega arith), under 49 52 c (omega arith), or-none)
 
-  pub line-45 : 45 ≤ c → c < 49 → applies k i c ≡ (eqb (within i) 31 && not (eqb (i + 1) (32 * k)))
+  pub line-45 : 45 ≤ c → c < 49 → applies k i c ≡ (eqb (within i) 31 && not (lastRow k i))
   unfolding applies
   line-45 p q =
       simp (over 1 4 c (omega arith), over 5 8 c (omega arith), over 9 20 c (omega arith), over 21 24 c (omega arith), over 25 32 c (omega arith), over 33 44 c (omega arith), in-range 45 48 c p (omega arith), under 49 52 c (omega arith), or-none)
 
-  pub line-49 : 49 ≤ c → c < 53 → applies k i c ≡ eqb (i + 1) (32 * k)
+  pub line-49 : 49 ≤ c → c < 53 → applies k i c ≡ claimRow k i
   unfolding applies
   line-49 p q =
       simp (over 1 4 c (omega arith), over 5 8 c (omega arith), over 9 20 c (omega arith), over 21 24 c (omega arith), over 25 32 c (omega arith), over 33 44 c (omega arith), over 45 48 c (omega arith), in-range 49 52 c p (omega arith))

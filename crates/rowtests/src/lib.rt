@@ -1,9 +1,8 @@
 // The tests of one row: which constraints apply there, what they compare, and whether they hold (document 01, "The 52 constraints").
 ghost use mathlib.Core.Path.{_≡_};
-ghost use Prim.Native.Nat.{_+_, _*_, _<_, _^_};
-ghost use lib.Dec.{eqb};
+ghost use Prim.Native.Nat.{_<_, _^_};
 ghost use Rattle.table.specs.Table.{IsTable};
-ghost use Rattle.constraints.specs.Constraints.{applies, between, within, holds};
+ghost use Rattle.constraints.specs.Constraints.{between, within, lastRow, claimRow, applies, holds};
 ghost use Rattle.steps.specs.Steps.{forwardReady, backReady};
 ghost use Rattle.rowtests.specs.RowTests.{forwardOf, backAfter, lowest, highest, InTrace, Tested};
 use counts::RowNumber;
@@ -17,12 +16,20 @@ fn is_middle(row: RowNumber) -> bool
     1 <= within && within <= 29
 }
 
-// The row that is compared with the claim: the last of the trace.
-fn is_claim_row(k: usize, row: RowNumber) -> bool
+// The last row of a trace of k batches, after which no batch follows.
+fn is_last_row(k: usize, row: RowNumber) -> bool
     requires { ⌜ (k < 2 ^ 32) × (row .0 < 2 ^ 40) ⌝ }
-    ensures { λ r. ⌜ r ≡ eqb (row .0 + 1) (32 * k) ⌝ }
+    ensures { λ r. ⌜ r ≡ lastRow k (row .0) ⌝ }
 {
     row.0 + 1 == 32 * k
+}
+
+// The row that is compared with the claim, which is the last.
+fn is_claim_row(k: usize, row: RowNumber) -> bool
+    requires { ⌜ (k < 2 ^ 32) × (row .0 < 2 ^ 40) ⌝ }
+    ensures { λ r. ⌜ r ≡ claimRow k (row .0) ⌝ }
+{
+    is_last_row(k, row)
 }
 
 // Whether the constraint applies at a row of a trace of k batches.
@@ -36,7 +43,7 @@ pub fn applies(k: usize, row: RowNumber, constraint: usize) -> bool
         21..=24 => is_middle(row),
         25..=32 => is_middle(row) && !rows::is_entering(row),
         33..=44 => row.within() == 30,
-        45..=48 => row.within() == 31 && !is_claim_row(k, row),
+        45..=48 => row.within() == 31 && !is_last_row(k, row),
         49..=52 => is_claim_row(k, row),
         _ => false,
     }
@@ -108,11 +115,11 @@ pub fn holds(
     }
     if constraint <= 8 {
         let j = constraint + 3;
-        return back[j] == rows::opening(table, j);
+        return back[j] == table::initial_constant(table, j);
     }
     if constraint <= 20 {
         let j = constraint - 9;
-        let sum = Fp(rows::cell(trace, row, j)).add(Fp(rows::opening(table, j)));
+        let sum = Fp(rows::cell(trace, row, j)).add(Fp(table::initial_constant(table, j)));
         return sum.0 == back[j];
     }
     if constraint <= 32 {

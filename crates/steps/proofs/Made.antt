@@ -8,9 +8,9 @@ use native.Mathlib.Omega.{arith}
 use native.Mathlib.Decide.{decLt}
 use borrow.Author.Tests.{lt-ltb, le-ltb}
 use lib.Dec.{ltb}
-use lib.ListN.{replicate, getD-replicate}
+use lib.ListN.{length, replicate, getD-replicate}
 use Rattle.lists.specs.Lists.{choose, cell, tab, sum}
-use Rattle.lists.proofs.Tab.{cell-tab, tab-ext, tab-unique, filled, filled-before, filled-after, length-filled}
+use Rattle.lists.proofs.Tab.{length-tab, cell-tab, tab-ext, tab-unique, filled, filled-before, filled-after, length-filled}
 use Rattle.field.specs.Field.{P, add, cube}
 use Rattle.field.specs.Montgomery.{element}
 use Rattle.field.proofs.Forms.{element-lt}
@@ -19,8 +19,7 @@ use Rattle.matrix.proofs.Linear.{times-ext}
 use Rattle.matrix.proofs.States.{cell-times}
 use Rattle.winograd.specs.Winograd.{IsReady}
 use Rattle.winograd.proofs.ReadyWords.{cell-ready, ready-is}
-use Rattle.table.specs.Table.{matrixOf, inverseOf, constant}
-use Rattle.table.proofs.Parts.{cell-constant}
+use Rattle.table.specs.Table.{matrixOf, inverseOf, firstStepConstant, secondStepConstant}
 use Rattle.hash.specs.Hash.{cubes, plus, mix, secondStep}
 use Rattle.constraints.specs.Constraints.{minus, backStep}
 use Rattle.steps.specs.Steps.{thinCube, forwardReady, backReady, columns, forwardScale, backScale}
@@ -39,12 +38,19 @@ abbrev pub inner : List ℕ → List ℕ → ℕ → ℕ
 inner ready x i = element (sum 12 (λ j. cell ready (12 * i + j) * cell x j))
 
 -- ---- the first columns of a state
+pub length-columns : (n : ℕ) (s : List ℕ) → length (columns n s) ≡ 12
+unfolding columns
+length-columns n s = length-tab 12 _
+
 pub cell-columns : (n : ℕ) (s : List ℕ) (j : ℕ) → j < 12 → cell (columns n s) j ≡ choose (ltb j n) (cell s j) 0
 unfolding columns
 cell-columns n s j h = cell-tab 12 (λ i. choose (ltb i n) (cell s i) 0) j h
 
 pub cell-before : (n : ℕ) (s : List ℕ) (j : ℕ) → j < 12 → j < n → cell (columns n s) j ≡ cell s j
 cell-before n s j h l = cell-columns n s j h ∙ rw (lt-ltb j n l) refl
+
+pub cell-beyond : (n : ℕ) (s : List ℕ) (j : ℕ) → j < 12 → n ≤ j → cell (columns n s) j ≡ 0
+cell-beyond n s j h l = cell-columns n s j h ∙ rw (le-ltb j n l) refl
 
 -- a loop that stores the first n
 columns-filled : (n : ℕ) → n ≤ 12 → (f : ℕ → ℕ) → filled n f (replicate 12 0) ≡ columns n (tab 12 f)
@@ -56,13 +62,18 @@ columns-filled n hn f = tab-unique 12 (filled n f (replicate 12 0)) (λ j. choos
     go j h (no l) = filled-after n f (replicate 12 0) j (omega arith) ∙ getD-replicate 12 j 0 0 h ∙ rw (le-ltb j n (omega arith)) refl
 
 -- ---- the second step
-pub second-made : (T ready s cubed out : List ℕ) (round start count : ℕ) → count ≤ 12 → ready ≡ forwardReady T → cubed ≡ tab 12 (λ j. thinCube (cell s j)) → start ≡ 288 + 12 * (2 * round + 2)
-    → out ≡ filled count (λ i. add (inner ready cubed i) (cell T (start + i))) (replicate 12 0) → out ≡ columns count (secondStep T round s)
+
+-- a sum modulo p, from the word that was added
+pub plus-word : (w a : ℕ) {k m : ℕ} → w % P ≡ add a k → k ≡ m → w % P ≡ add a m
+plus-word w a e h = e ∙ ap (add a) h
+
+pub second-made : (T ready s cubed out : List ℕ) (round count : ℕ) → count ≤ 12 → ready ≡ forwardReady T → cubed ≡ tab 12 (λ j. thinCube (cell s j))
+    → out ≡ filled count (λ i. add (inner ready cubed i) (cell (secondStepConstant T round) i)) (replicate 12 0) → out ≡ columns count (secondStep T round s)
 unfolding secondStep plus mix cubes forwardReady
-second-made T ready s cubed out round start count hc er ec es e =
+second-made T ready s cubed out round count hc er ec e =
     e
-    ∙ columns-filled count hc (λ i. add (inner ready cubed i) (cell T (start + i)))
-    ∙ ap (columns count) (tab-ext 12 (λ i. add (inner ready cubed i) (cell T (start + i))) (λ i. add (cell (mix T (cubes s)) i) (cell (constant T (2 * round + 2)) i)) (λ i h. ap₂ add (mixed i h) (ap (λ x. cell T (x + i)) es ∙ sym (cell-constant T (2 * round + 2) i h))))
+    ∙ columns-filled count hc (λ i. add (inner ready cubed i) (cell (secondStepConstant T round) i))
+    ∙ ap (columns count) (tab-ext 12 (λ i. add (inner ready cubed i) (cell (secondStepConstant T round) i)) (λ i. add (cell (mix T (cubes s)) i) (cell (secondStepConstant T round) i)) (λ i h. ap (λ x. add x (cell (secondStepConstant T round) i)) (mixed i h)))
   where
     mixed : (i : ℕ) → i < 12 → inner ready cubed i ≡ cell (mix T (cubes s)) i
     mixed i h =
@@ -77,7 +88,7 @@ pub back-word : (T ready less : List ℕ) (i y : ℕ) → i < 12 → ready ≡ b
 unfolding backReady
 back-word T ready less i y h er e = back-cell (inverseOf T) i (λ j. cell ready (12 * i + j)) (cell less) (λ j l. ap (λ x. cell x (12 * i + j)) er ∙ cell-ready (inverseOf T) backScale (12 * i + j) (omega arith)) y (e ∙ ap (λ x. x % P) (add-zero (inner ready less i)) ∙ mod-eq-of-lt (element-lt _))
 
-pub undone-made : (T s less out : List ℕ) (round : ℕ) → less ≡ minus s (constant T (2 * round + 1)) → out ≡ tab 12 (λ i. cube (timesColumn 12 (entry (inverseOf T)) (cell less) i)) → out ≡ backStep T round s
+pub undone-made : (T s less out : List ℕ) (round : ℕ) → less ≡ minus s (firstStepConstant T round) → out ≡ tab 12 (λ i. cube (timesColumn 12 (entry (inverseOf T)) (cell less) i)) → out ≡ backStep T round s
 unfolding backStep cubes
 undone-made T s less out round el e =
     e

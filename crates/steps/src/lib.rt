@@ -6,7 +6,7 @@ ghost use Rattle.lists.specs.Lists.{cell, tab};
 ghost use Rattle.field.specs.Field.{Canonical};
 ghost use Rattle.field.specs.Montgomery.{Short};
 ghost use Rattle.words.specs.Words.{CanonicalTo};
-ghost use Rattle.table.specs.Table.{IsTable, constant};
+ghost use Rattle.table.specs.Table.{IsTable, initialConstant, firstStepConstant};
 ghost use Rattle.hash.specs.Hash.{secondStep};
 ghost use Rattle.constraints.specs.Constraints.{minus, backStep};
 ghost use Rattle.steps.specs.Steps.{thinCube, forwardReady, backReady, columns};
@@ -42,16 +42,30 @@ fn thin_cubes(s: [u64; 12]) -> [u64; 12]
     out
 }
 
-// The cells less K_n.
-pub fn less_constant(table: &[u64], n: usize, s: [u64; 12]) -> [u64; 12]
-    requires { ⌜ IsTable (now table) × (n < 21) × CanonicalTo 12 s ⌝ }
-    ensures { λ r. ⌜ (r ≡ minus s (constant (now (table .entry)) n)) × CanonicalTo 12 r ⌝ }
+// The cells less K_0.
+pub fn less_initial(table: &[u64], s: [u64; 12]) -> [u64; 12]
+    requires { ⌜ IsTable (now table) × CanonicalTo 12 s ⌝ }
+    ensures { λ r. ⌜ r ≡ minus s (initialConstant (now (table .entry))) ⌝ }
 {
-    let start = table::CONSTANTS + 12 * n;
     let mut out = [0u64; 12];
     let mut j: usize = 0;
     while j < 12 {
-        out[j] = Fp(s[j]).sub(Fp(table[start + j])).0;
+        out[j] = Fp(s[j]).sub(Fp(table::initial_constant(table, j))).0;
+        j += 1;
+    }
+    out
+}
+
+// The cells less the first-step constant of the round.
+fn less_first(table: &[u64], round: usize, s: [u64; 12]) -> [u64; 12]
+    requires { ⌜ IsTable (now table) × (round < 10) × CanonicalTo 12 s ⌝ }
+    ensures { λ r. ⌜ (r ≡ minus s (firstStepConstant (now (table .entry)) round)) × CanonicalTo 12 r ⌝ }
+{
+    let mut out = [0u64; 12];
+    let mut j: usize = 0;
+    while j < 12 {
+        out[j] = Fp(s[j]).sub(Fp(table::first_step_constant(table, round, j)))
+            .0;
         j += 1;
     }
     out
@@ -62,7 +76,7 @@ pub fn forward_ready(table: &[u64]) -> [u64; 156]
     requires { ⌜ IsTable (now table) ⌝ }
     ensures { λ r. ⌜ r ≡ forwardReady (now (table .entry)) ⌝ }
 {
-    winograd::ready(&table[0..144], FORWARD)
+    winograd::ready(table::matrix(table), FORWARD)
 }
 
 // The inverse of M made ready for undoing the first steps.
@@ -70,10 +84,10 @@ pub fn back_ready(table: &[u64]) -> [u64; 156]
     requires { ⌜ IsTable (now table) ⌝ }
     ensures { λ r. ⌜ r ≡ backReady (now (table .entry)) ⌝ }
 {
-    winograd::ready(&table[144..288], BACK)
+    winograd::ready(table::inverse(table), BACK)
 }
 
-// The first `count` columns of the second step of the round: the cells cubed, times M, plus K_(2 round + 2).
+// The first `count` columns of the second step of the round: the cells cubed, times M, plus its constant.
 pub fn second_step(
     ready: &[u64],
     table: &[u64],
@@ -86,23 +100,23 @@ pub fn second_step(
 {
     let cubed = thin_cubes(s);
     let excess = winograd::neighbours(&cubed);
-    let start = table::CONSTANTS + 12 * (2 * round + 2);
     let mut out = [0u64; 12];
     let mut i: usize = 0;
     while i < count {
-        let mixed = winograd::cell_plus(ready, i, &cubed, excess, table[start + i]);
+        let constant = table::second_step_constant(table, round, i);
+        let mixed = winograd::cell_plus(ready, i, &cubed, excess, constant);
         out[i] = sums::less_once(mixed, Fp::P);
         i += 1;
     }
     out
 }
 
-// The first step of the round undone: the cells less K_(2 round + 1), times the inverse of M, then cubed.
+// The first step of the round undone: the cells less its constant, times the inverse of M, then cubed.
 pub fn back_step(ready: &[u64], table: &[u64], round: usize, s: [u64; 12]) -> [u64; 12]
     requires { ⌜ IsTable (now table) × (now ready ≡ backReady (now table)) × (round < 10) × CanonicalTo 12 s ⌝ }
     ensures { λ r. ⌜ r ≡ backStep (now (table .entry)) round s ⌝ }
 {
-    let less = less_constant(table, 2 * round + 1, s);
+    let less = less_first(table, round, s);
     let excess = winograd::neighbours(&less);
     let mut out = [0u64; 12];
     let mut i: usize = 0;

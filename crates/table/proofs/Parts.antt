@@ -8,38 +8,38 @@ use lib.ListN.{length, take, drop}
 use Rattle.lists.specs.Lists.{cell}
 use Rattle.lists.proofs.Tab.{length-part, cell-part}
 use Rattle.words.specs.Words.{AllCanonical}
-use Rattle.table.specs.Table.{matrixOf, inverseOf, constant}
+use Rattle.table.specs.Table.{tableWords, matrixWords, matrixOf, inverseOf, constant}
 
 pub part-canonical : (t : List ℕ) (base size : ℕ) → base + size ≤ length t → AllCanonical t → AllCanonical (take size (drop base t))
 part-canonical t base size h c i l = rw (cell-part t base size i (omega (arith, length-part t base size h))) (c (base + i) (omega (arith, length-part t base size h)))
 
 -- ---- M, its inverse and the constants
-module _ (t : List ℕ) (size : length t ≡ 540) where
-  pub length-matrix : length (matrixOf t) ≡ 144
+module _ (t : List ℕ) (size : length t ≡ tableWords) where
+  pub length-matrix : length (matrixOf t) ≡ matrixWords
   unfolding matrixOf
-  length-matrix = length-part t 0 144 (omega arith)
+  length-matrix = length-part t 0 matrixWords (omega arith)
 
-  pub length-inverse : length (inverseOf t) ≡ 144
+  pub length-inverse : length (inverseOf t) ≡ matrixWords
   unfolding inverseOf
-  length-inverse = length-part t 144 144 (omega arith)
+  length-inverse = length-part t matrixWords matrixWords (omega arith)
 
   pub length-constant : (n : ℕ) → n ≤ 20 → length (constant t n) ≡ 12
   unfolding constant
-  length-constant n h = length-part t (288 + 12 * n) 12 (omega arith)
+  length-constant n h = length-part t (2 * matrixWords + 12 * n) 12 (omega arith)
 
   module _ (canonical : AllCanonical t) where
     pub matrix-canonical : AllCanonical (matrixOf t)
     unfolding matrixOf
-    matrix-canonical = part-canonical t 0 144 (omega arith) canonical
+    matrix-canonical = part-canonical t 0 matrixWords (omega arith) canonical
 
     pub inverse-canonical : AllCanonical (inverseOf t)
     unfolding inverseOf
-    inverse-canonical = part-canonical t 144 144 (omega arith) canonical
+    inverse-canonical = part-canonical t matrixWords matrixWords (omega arith) canonical
 
     pub constant-canonical : (n : ℕ) → n ≤ 20 → AllCanonical (constant t n)
     unfolding constant
-    constant-canonical n h = part-canonical t (288 + 12 * n) 12 (omega arith) canonical
+    constant-canonical n h = part-canonical t (2 * matrixWords + 12 * n) 12 (omega arith) canonical
 
-pub cell-constant : (t : List ℕ) (n i : ℕ) → i < 12 → cell (constant t n) i ≡ cell t (288 + 12 * n + i)
+pub cell-constant : (t : List ℕ) (n i : ℕ) → i < 12 → cell (constant t n) i ≡ cell t (2 * matrixWords + 12 * n + i)
 unfolding constant
-cell-constant t n i h = cell-part t (288 + 12 * n) 12 i h
+cell-constant t n i h = cell-part t (2 * matrixWords + 12 * n) 12 i h

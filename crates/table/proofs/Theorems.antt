@@ -23,7 +23,7 @@ use Rattle.refusals.specs.declared.Refusal.{Refusal}
 use Rattle.refusals.specs.declared.Refusal.the-variants.{TableLength, TableWord, NoInverse, WrongInverse, DestinationLength}
 use Rattle.refusals.specs.declared.Answer.{Answer}
 use Rattle.refusals.specs.declared.Answer.the-variants.{Accepted, Refused}
-use Rattle.table.specs.Table.{matrixOf, inverseOf, constant, unlike, firstUnlike, tableTest, IsTable, RawInverse, prepared, rawTest, Prepares, accepts, no-inverse, refuses}
+use Rattle.table.specs.Table.{matrixOf, inverseOf, initialConstant, firstStepConstant, secondStepConstant, unlike, firstUnlike, tableTest, IsTable, RawInverse, prepared, rawTest, Prepares, accepts, no-inverse, refuses}
 use Rattle.table.proofs.Parts as parts
 use Rattle.table.proofs.Tested as tested
 use Rattle.table.proofs.Prepared as prep
@@ -137,15 +137,30 @@ module _ (t : List ℕ) (h : IsTable t) where
   pub inverse-canonical : AllCanonical (inverseOf t)
   inverse-canonical = parts.inverse-canonical t (h .size) (h .canonical)
 
-  -- twelve canonical words for each of K_0 to K_20
-  pub constant-length : (n : ℕ) → n ≤ 20 → length (constant t n) ≡ 12
-  constant-length = parts.length-constant t (h .size)
+  -- twelve canonical words for each constant
+  pub initial-length : length (initialConstant t) ≡ 12
+  unfolding initialConstant
+  initial-length = parts.length-constant t (h .size) 0 (omega arith)
 
-  pub constant-canonical : (n : ℕ) → n ≤ 20 → AllCanonical (constant t n)
-  constant-canonical = parts.constant-canonical t (h .size) (h .canonical)
+  pub initial-canonical : AllCanonical (initialConstant t)
+  unfolding initialConstant
+  initial-canonical = parts.constant-canonical t (h .size) (h .canonical) 0 (omega arith)
 
-  pub constant-cell : (n : ℕ) → n ≤ 20 → (i : ℕ) → i < 12 → Canonical (cell (constant t n) i)
-  constant-cell n l i k = constant-canonical n l i (omega (arith, constant-length n l))
+  pub first-step-length : (r : ℕ) → r < 10 → length (firstStepConstant t r) ≡ 12
+  unfolding firstStepConstant
+  first-step-length r l = parts.length-constant t (h .size) (2 * r + 1) (omega arith)
+
+  pub first-step-canonical : (r : ℕ) → r < 10 → AllCanonical (firstStepConstant t r)
+  unfolding firstStepConstant
+  first-step-canonical r l = parts.constant-canonical t (h .size) (h .canonical) (2 * r + 1) (omega arith)
+
+  pub second-step-length : (r : ℕ) → r < 10 → length (secondStepConstant t r) ≡ 12
+  unfolding secondStepConstant
+  second-step-length r l = parts.length-constant t (h .size) (2 * r + 2) (omega arith)
+
+  pub second-step-canonical : (r : ℕ) → r < 10 → AllCanonical (secondStepConstant t r)
+  unfolding secondStepConstant
+  second-step-canonical r l = parts.constant-canonical t (h .size) (h .canonical) (2 * r + 2) (omega arith)
 
   -- the stored inverse times M is the identity too, which the test does not compute
   pub inverse-left : Inverse 12 (entry (inverseOf t)) (entry (matrixOf t))

@@ -6,7 +6,7 @@ use mathlib.Core.List.{List, _++_}
 use Prim.Native.Nat.{ℕ, _+_, _*_, _/_, _%_}
 use lib.Dec.{eqb}
 use lib.ListN.{length, take, drop}
-use Rattle.lists.specs.Lists.{choose, first}
+use Rattle.lists.specs.Lists.{first}
 use Rattle.words.specs.Words.{AllCanonical, firstBad}
 use Rattle.matrix.specs.Matrix.{entry, product, identity, Inverse, Kernel}
 use Rattle.inverse.specs.Inversion.{IsInverse}
@@ -14,17 +14,40 @@ use Rattle.refusals.specs.declared.Refusal.{Refusal}
 use Rattle.refusals.specs.declared.Refusal.the-variants.{TableLength, TableWord, NoInverse, WrongInverse, DestinationLength}
 use Rattle.refusals.specs.declared.Answer.{Answer}
 use Rattle.refusals.specs.declared.Answer.the-variants.{Accepted, Refused}
+use Rattle.refusals.specs.Answers.{unless}
 
--- ---- the prepared table: 540 words, M, its inverse, then K_0 to K_20, twelve each
+-- ---- how many words: M, 12 × 12, and so its inverse; the raw table; the prepared one
+abbrev pub matrixWords : ℕ
+matrixWords = 144
+
+abbrev pub rawWords : ℕ
+rawWords = 396
+
+abbrev pub tableWords : ℕ
+tableWords = 540
+
+-- ---- the prepared table: M, its inverse, then K_0 to K_20, twelve words each
 unfoldable pub matrixOf : List ℕ → List ℕ
-matrixOf t = take 144 t
+matrixOf t = take matrixWords t
 
 unfoldable pub inverseOf : List ℕ → List ℕ
-inverseOf t = take 144 (drop 144 t)
+inverseOf t = take matrixWords (drop matrixWords t)
 
 -- K_n
 unfoldable pub constant : List ℕ → ℕ → List ℕ
-constant t n = take 12 (drop (288 + 12 * n) t)
+constant t n = take 12 (drop (2 * matrixWords + 12 * n) t)
+
+-- the constants by what adds them: K_0 before round 0, K_(2r+1) in the first step of round r, K_(2r+2) in its second
+unfoldable pub initialConstant : List ℕ → List ℕ
+initialConstant t = constant t 0
+
+unfoldable pub firstStepConstant : List ℕ → ℕ → List ℕ
+firstStepConstant t r = constant t (2 * r + 1)
+
+unfoldable pub secondStepConstant : List ℕ → ℕ → List ℕ
+secondStepConstant t r = constant t (2 * r + 2)
+
+-- ---- the table test
 
 -- whether cell 12 × row + column of M times the stored inverse is unlike the identity
 unfoldable pub unlike : List ℕ → ℕ → Bool
@@ -32,44 +55,44 @@ unlike t c = not (eqb (product 12 (entry (matrixOf t)) (entry (inverseOf t)) (c 
 
 -- the first such cell, or 144
 unfoldable pub firstUnlike : List ℕ → ℕ
-firstUnlike t = first 144 (unlike t)
+firstUnlike t = first matrixWords (unlike t)
 
 -- the table test of every operation but Prepare: 1, 2, 4
 unfoldable pub tableTest : List ℕ → Answer
 tableTest t =
-    choose (eqb (length t) 540)
-    (choose (eqb (firstBad t) 540)
-    (choose (eqb (firstUnlike t) 144) Accepted (Refused (WrongInverse (firstUnlike t))))
-    (Refused (TableWord (firstBad t))))
-    (Refused TableLength)
+    unless (eqb (length t) tableWords) TableLength
+    (unless (eqb (firstBad t) tableWords) (TableWord (firstBad t))
+    (unless (eqb (firstUnlike t) matrixWords) (WrongInverse (firstUnlike t))
+    Accepted))
 
 -- an accepted table: all words canonical, and M times the stored inverse the identity
 pub record IsTable (t : List ℕ) : Type 0 where
-  pub size : length t ≡ 540
+  pub size : length t ≡ tableWords
   pub canonical : AllCanonical t
   pub inverse : Inverse 12 (entry (matrixOf t)) (entry (inverseOf t))
 
--- ---- the raw table: 396 words, M, then K_0 to K_20. Prepare: 1, 8, 2, 3
+-- ---- the raw table: M, then K_0 to K_20. Prepare: 1, 8, 2, 3
+abbrev pub rawMatrix : List ℕ → List ℕ
+rawMatrix raw = take matrixWords raw
 
 -- n is the inverse of the raw table's M, which determines it
 abbrev pub RawInverse : List ℕ → List ℕ → Type 0
-RawInverse raw n = IsInverse (take 144 raw) n
+RawInverse raw n = IsInverse (rawMatrix raw) n
 
 -- M, its inverse, then K
 abbrev pub prepared : List ℕ → List ℕ → List ℕ
-prepared raw n = take 144 raw ++ (n ++ drop 144 raw)
+prepared raw n = rawMatrix raw ++ (n ++ drop matrixWords raw)
 
 -- what Prepare refuses before it looks for an inverse
 unfoldable pub rawTest : List ℕ → ℕ → Answer
 rawTest raw size =
-    choose (eqb (length raw) 396)
-    (choose (eqb size 540)
-    (choose (eqb (firstBad raw) 396) Accepted (Refused (TableWord (firstBad raw))))
-    (Refused DestinationLength))
-    (Refused TableLength)
+    unless (eqb (length raw) rawWords) TableLength
+    (unless (eqb size tableWords) DestinationLength
+    (unless (eqb (firstBad raw) rawWords) (TableWord (firstBad raw))
+    Accepted))
 
 -- what Prepare answers and leaves in the destination: the prepared table, 3 where M takes some non-zero column to all zeros, or the refusal of its tests
 pub data Prepares (raw old : List ℕ) : Answer → List ℕ → Type 0 where
   accepts : (n : List ℕ) → rawTest raw (length old) ≡ Accepted → RawInverse raw n → Prepares raw old Accepted (prepared raw n)
-  no-inverse : rawTest raw (length old) ≡ Accepted → Kernel 12 (entry (take 144 raw)) → Prepares raw old (Refused NoInverse) old
+  no-inverse : rawTest raw (length old) ≡ Accepted → Kernel 12 (entry (rawMatrix raw)) → Prepares raw old (Refused NoInverse) old
   refuses : (r : Refusal) → rawTest raw (length old) ≡ Refused r → Prepares raw old (Refused r) old

@@ -3,18 +3,78 @@ ghost use mathlib.Core.Path.{_≡_};
 ghost use Prim.Native.Nat.{_/_, _%_, _<_};
 ghost use lib.ListN.{length};
 ghost use Rattle.lists.specs.Lists.{cell, tab};
+ghost use Rattle.field.specs.Field.{Canonical};
 ghost use Rattle.words.specs.Words.{AllCanonical};
 ghost use Rattle.matrix.specs.Matrix.{entry, product, identity};
-ghost use Rattle.table.specs.Table.{firstUnlike, tableTest, prepared, Prepares};
+ghost use Rattle.table.specs.Table.{matrixWords, rawWords, tableWords, matrixOf, inverseOf};
+ghost use Rattle.table.specs.Table.{constant, initialConstant, firstStepConstant, secondStepConstant};
+ghost use Rattle.table.specs.Table.{firstUnlike, tableTest, IsTable, prepared, Prepares};
 use refusals::Answer;
 use refusals::Refusal;
 
-// Where K_0 stands in a prepared table: after M and its inverse, 144 words each.
-pub const CONSTANTS: usize = 288;
+// M, 12 × 12, and its inverse.
+pub const MATRIX_WORDS: usize = 144;
+
+// A raw table: M, then K_0 to K_20, twelve words each.
+pub const RAW_WORDS: usize = MATRIX_WORDS + 21 * 12;
+
+// A prepared table: M, its inverse, then K_0 to K_20.
+pub const WORDS: usize = RAW_WORDS + MATRIX_WORDS;
+
+// Where K_0 stands in a prepared table.
+const CONSTANTS: usize = 2 * MATRIX_WORDS;
+
+// M. This and the five functions below read the parts of a prepared table, so that no other crate knows where they stand.
+pub fn matrix(table: &[u64]) -> &[u64]
+    requires { ⌜ length (now table) ≡ tableWords ⌝ }
+    ensures { λ r. ⌜ now r ≡ matrixOf (now (table .entry)) ⌝ }
+{
+    &table[0..MATRIX_WORDS]
+}
+
+// The inverse of M.
+pub fn inverse(table: &[u64]) -> &[u64]
+    requires { ⌜ length (now table) ≡ tableWords ⌝ }
+    ensures { λ r. ⌜ now r ≡ inverseOf (now (table .entry)) ⌝ }
+{
+    &table[MATRIX_WORDS..CONSTANTS]
+}
+
+// One cell of K_n.
+fn constant(table: &[u64], n: usize, column: usize) -> u64
+    requires { ⌜ IsTable (now table) × (n < 21) × (column < 12) ⌝ }
+    ensures { λ r. ⌜ (r ≡ cell (constant (now (table .entry)) n) column) × Canonical r ⌝ }
+{
+    table[CONSTANTS + 12 * n + column]
+}
+
+// One cell of K_0, which is added before round 0.
+pub fn initial_constant(table: &[u64], column: usize) -> u64
+    requires { ⌜ IsTable (now table) × (column < 12) ⌝ }
+    ensures { λ r. ⌜ (r ≡ cell (initialConstant (now (table .entry))) column) × Canonical r ⌝ }
+{
+    constant(table, 0, column)
+}
+
+// One cell of the constant that the first step of the round adds.
+pub fn first_step_constant(table: &[u64], round: usize, column: usize) -> u64
+    requires { ⌜ IsTable (now table) × (round < 10) × (column < 12) ⌝ }
+    ensures { λ r. ⌜ (r ≡ cell (firstStepConstant (now (table .entry)) round) column) × Canonical r ⌝ }
+{
+    constant(table, 2 * round + 1, column)
+}
+
+// One cell of the constant that its second step adds.
+pub fn second_step_constant(table: &[u64], round: usize, column: usize) -> u64
+    requires { ⌜ IsTable (now table) × (round < 10) × (column < 12) ⌝ }
+    ensures { λ r. ⌜ (r ≡ cell (secondStepConstant (now (table .entry)) round) column) × Canonical r ⌝ }
+{
+    constant(table, 2 * round + 2, column)
+}
 
 // Column k of a 12 × 12 matrix.
 fn column(n: &[u64], k: usize) -> [u64; 12]
-    requires { ⌜ (length (now n) ≡ 144) × (k < 12) ⌝ }
+    requires { ⌜ (length (now n) ≡ matrixWords) × (k < 12) ⌝ }
     ensures { λ r. ⌜ r ≡ tab 12 (λ j. entry (now (n .entry)) j k) ⌝ }
 {
     let mut out = [0u64; 12];
@@ -27,11 +87,11 @@ fn column(n: &[u64], k: usize) -> [u64; 12]
 }
 
 // m times n, column by column: cell (i, k) stands at 12 * k + i.
-fn product_columns(m: &[u64], n: &[u64]) -> [u64; 144]
-    requires { ⌜ (length (now m) ≡ 144) × AllCanonical (now m) × (length (now n) ≡ 144) × AllCanonical (now n) ⌝ }
-    ensures { λ r. ⌜ r ≡ tab 144 (λ t. product 12 (entry (now (m .entry))) (entry (now (n .entry))) (t % 12) (t / 12)) ⌝ }
+fn product_columns(m: &[u64], n: &[u64]) -> [u64; MATRIX_WORDS]
+    requires { ⌜ (length (now m) ≡ matrixWords) × AllCanonical (now m) × (length (now n) ≡ matrixWords) × AllCanonical (now n) ⌝ }
+    ensures { λ r. ⌜ r ≡ tab matrixWords (λ t. product 12 (entry (now (m .entry))) (entry (now (n .entry))) (t % 12) (t / 12)) ⌝ }
 {
-    let mut out = [0u64; 144];
+    let mut out = [0u64; MATRIX_WORDS];
     let mut k: usize = 0;
     while k < 12 {
         let x = matrix::times(m, column(n, k));
@@ -54,14 +114,14 @@ fn identity(i: usize, k: usize) -> u64
 
 // The first cell, row by row, in which M times the stored inverse is unlike the identity, or 144.
 fn first_unlike(table: &[u64]) -> usize
-    requires { ⌜ (length (now table) ≡ 540) × AllCanonical (now table) ⌝ }
+    requires { ⌜ (length (now table) ≡ tableWords) × AllCanonical (now table) ⌝ }
     ensures { λ r. ⌜ r ≡ firstUnlike (now (table .entry)) ⌝ }
 {
-    let m = &table[0..144];
-    let n = &table[144..288];
+    let m = matrix(table);
+    let n = inverse(table);
     let product = product_columns(m, n);
     let mut c: usize = 0;
-    while c < 144 {
+    while c < MATRIX_WORDS {
         let row = c / 12;
         let k = c % 12;
         if product[12 * k + row] != identity(row, k) {
@@ -76,39 +136,39 @@ fn first_unlike(table: &[u64]) -> usize
 pub fn test(table: &[u64]) -> Answer
     ensures { λ r. ⌜ r ≡ tableTest (now (table .entry)) ⌝ }
 {
-    if table.len() != 540 {
+    if table.len() != WORDS {
         return Answer::Refused(Refusal::TableLength);
     }
     let bad = words::first_bad(table);
-    if bad != 540 {
+    if bad != WORDS {
         return Answer::Refused(Refusal::TableWord(bad));
     }
     let cell = first_unlike(table);
-    if cell != 144 {
+    if cell != MATRIX_WORDS {
         return Answer::Refused(Refusal::WrongInverse(cell));
     }
     Answer::Accepted
 }
 
 // Word t of the prepared table: M, its inverse n, then K.
-fn prepared_word(raw: &[u64], n: &[u64; 144], t: usize) -> u64
-    requires { ⌜ (length (now raw) ≡ 396) × (length (now n) ≡ 144) × (t < 540) ⌝ }
+fn prepared_word(raw: &[u64], n: &[u64; MATRIX_WORDS], t: usize) -> u64
+    requires { ⌜ (length (now raw) ≡ rawWords) × (length (now n) ≡ matrixWords) × (t < tableWords) ⌝ }
     ensures { λ r. ⌜ r ≡ cell (prepared (now (raw .entry)) (now (n .entry))) t ⌝ }
 {
-    if t < 144 {
+    if t < MATRIX_WORDS {
         return raw[t];
     }
-    let u = t - 144;
-    if u < 144 { n[u] } else { raw[u] }
+    let u = t - MATRIX_WORDS;
+    if u < MATRIX_WORDS { n[u] } else { raw[u] }
 }
 
 // The prepared table into the destination.
-fn write(raw: &[u64], n: &[u64; 144], destination: &mut [u64])
-    requires { ⌜ (length (now raw) ≡ 396) × (length (now n) ≡ 144) × (length (now destination) ≡ 540) ⌝ }
+fn write(raw: &[u64], n: &[u64; MATRIX_WORDS], destination: &mut [u64])
+    requires { ⌜ (length (now raw) ≡ rawWords) × (length (now n) ≡ matrixWords) × (length (now destination) ≡ tableWords) ⌝ }
     ensures { λ _. ⌜ now (destination .exit) ≡ prepared (now (raw .entry)) (now (n .entry)) ⌝ }
 {
     let mut t: usize = 0;
-    while t < 540 {
+    while t < WORDS {
         destination[t] = prepared_word(raw, n, t);
         t += 1;
     }
@@ -118,18 +178,18 @@ fn write(raw: &[u64], n: &[u64; 144], destination: &mut [u64])
 pub fn prepare(raw: &[u64], destination: &mut [u64]) -> Answer
     ensures { λ r. ⌜ Prepares (now (raw .entry)) (now (destination .entry)) r (now (destination .exit)) ⌝ }
 {
-    if raw.len() != 396 {
+    if raw.len() != RAW_WORDS {
         return Answer::Refused(Refusal::TableLength);
     }
-    if destination.len() != 540 {
+    if destination.len() != WORDS {
         return Answer::Refused(Refusal::DestinationLength);
     }
     let bad = words::first_bad(raw);
-    if bad != 396 {
+    if bad != RAW_WORDS {
         return Answer::Refused(Refusal::TableWord(bad));
     }
-    let mut n = [0u64; 144];
-    if !inverse::invert(&raw[..144], &mut n) {
+    let mut n = [0u64; MATRIX_WORDS];
+    if !inverse::invert(&raw[..MATRIX_WORDS], &mut n) {
         return Answer::Refused(Refusal::NoInverse);
     }
     write(raw, &n, destination);

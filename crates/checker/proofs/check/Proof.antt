@@ -1,9 +1,15 @@
 -- `checker::check` meets its contract: each return is the case of the definition that the tests before it left.
 -- Assumes nothing.
-use mathlib.Core.Path.{_∙_}
+use mathlib.Core.Path.{_≡_, refl, sym, _∙_}
 use lib.ListN.{length}
-use Rattle.checker.specs.Answers.{judged, checkAnswer}
-use Rattle.checker.proofs.AnswerLaws.{table-refused, table-accepted, is-table, length-refused, length-permitted, batches}
+use Rattle.words.specs.Words.{canonicalWords, firstBad}
+use Rattle.counts.specs.Counts.{mostBatches}
+use Rattle.counts.proofs.Laws.{trace-permitted, trace-refused}
+use Rattle.refusals.specs.declared.Refusal.the-variants.{ClaimWord, TraceWord}
+use Rattle.refusals.specs.declared.Answer.{Answer}
+use Rattle.refusals.proofs.Laws.{unless-refused, unless-passed, after-refused, after-accepted, one-test-refused, one-test-passed, tests-turned-back}
+use Rattle.checker.specs.Answers.{checkTest, checkAnswer}
+use Rattle.checker.proofs.Answers.{fromWords, fromClaim, is-table, batches, canonical-words, walked}
 use borrow.Author.Needs.{needs}
 use Rattle.checker.proofs.check.Statement.{statement}
 use Rattle.checker.proofs.check.Tie as tie
@@ -17,46 +23,130 @@ enum-told c = search needs
 enum-told-2 : tie.Need-enum-told-2
 enum-told-2 c = search needs
 
-after-requires : tie.Need-after-requires
-after-requires c κs = search needs
+refusal-requires : tie.Need-refusal-requires
+refusal-requires c κs = search needs
 
 returns : tie.Need-returns
-unfolding checkAnswer
+unfolding checkAnswer checkTest
 returns c =
-    let tested = c .before .before .before .test in
-    table-refused _ (tested .ensures) _ (c .before .enum-told2 .given .1) (c .after .ensures) .1
+    let tested = c .before .before .before .test .ensures in
+    tests-turned-back (after-refused _ (sym (c .refusal .ensures) ∙ tested) refl) _ refl
 
 trace-batches-requires : tie.Need-trace-batches-requires
 trace-batches-requires c κs = search needs
 
-enum-known-counted : tie.Need-enum-known-counted
-enum-known-counted c = search needs
+enum-known-k : tie.Need-enum-known-k
+enum-known-k c = search needs
 
 enum-told-3 : tie.Need-enum-told-3
 enum-told-3 c = search needs
 
 returns-2 : tie.Need-returns-2
-unfolding checkAnswer
+unfolding checkAnswer checkTest
 returns-2 c =
-    let d = c .before .before in
-    let a = d .before .before .before .before .before .before .args in
-    length-refused (length (a .trace .now)) (d .trace-batches .ensures) (c .enum-told3 .given .1) (judged (a .table .now) (a .trace .now) (a .claim))
-    ∙ table-accepted (a .table .now) (d .before .before .before .test .ensures) _ (d .before .enum-told .given .1)
+    let b = c .before .before in
+    let told = b .before in
+    let words = length (told .before .before .before .before .before .args .trace .now) in
+    tests-turned-back
+    (after-accepted (told .before .before .test .ensures) (told .enum-told .given .1)
+    (unless-refused _ (trace-refused mostBatches words (b .trace-batches .ensures) (c .enum-told3 .given .1)) refl))
+    _ refl
 
-judge-requires : tie.Need-judge-requires
-judge-requires c κs =
-    let d = c .before .before .before in
-    let b = batches _ (d .trace-batches .ensures) (c .before .counted .given .1) in
-    (is-table _ (d .before .before .before .test .ensures) (d .before .enum-told .given .1), b .0, b .2)
+-- the trace has k batches, and the claim is to be tested
+abbrev entry : tie.After-known-told → tie.Start
+entry c = c .before .before .before .before .before .before .before .before .before
+
+sized : (c : tie.After-known-told) {o : Answer} → let a = entry c .args in
+    o ≡ fromClaim (a .table .now) (a .trace .now) (a .t3) → o ≡ checkTest (a .table .now) (a .trace .now) (a .t3)
+unfolding checkTest
+sized c e =
+    let b = c .before .before .before in
+    let told = b .before in
+    let words = length (entry c .args .trace .now) in
+    after-accepted (told .before .before .test .ensures) (told .enum-told .given .1)
+    (unless-passed _ (trace-permitted mostBatches words (b .trace-batches .ensures) (c .before .k .given .1) .0) e)
+
+slice-aggregate-test-claim : tie.Need-slice-aggregate-test-claim
+slice-aggregate-test-claim c = search needs
+
+test-claim-requires : tie.Need-test-claim-requires
+test-claim-requires c κs = search needs
+
+enum-told-4 : tie.Need-enum-told-4
+enum-told-4 c = search needs
+
+enum-told-5 : tie.Need-enum-told-5
+enum-told-5 c = search needs
+
+refusal-requires-2 : tie.Need-refusal-requires-2
+refusal-requires-2 c κs = search needs
 
 returns-3 : tie.Need-returns-3
 unfolding checkAnswer
 returns-3 c =
-    let d = c .before .before .before .before in
-    let a = d .before .before .before .before .before .before .args in
-    c .judge .ensures
-    ∙ length-permitted (length (a .trace .now)) (d .trace-batches .ensures) (c .before .before .counted .given .1) (judged (a .table .now) (a .trace .now) (a .claim))
-    ∙ table-accepted (a .table .now) (d .before .before .before .test .ensures) _ (d .before .enum-told .given .1)
+    let t = c .before .before .before in
+    let claim = entry (t .before .before) .args .t3 in
+    tests-turned-back
+    (sized (t .before .before)
+    (one-test-refused (canonicalWords claim) (ClaimWord (firstBad claim)) (t .test-claim .ensures) _ (c .refusal2 .ensures) refl))
+    _ refl
+
+-- the claim is canonical, and the trace is to be tested
+claimed : (c : tie.After-enum-told4) {o : Answer} → let a = entry (c .before .before .before .before) .args in
+    o ≡ fromWords (a .table .now) (a .trace .now) (a .t3) → o ≡ checkTest (a .table .now) (a .trace .now) (a .t3)
+claimed c e =
+    let t = c .before .before in
+    let claim = entry (t .before .before) .args .t3 in
+    sized (t .before .before)
+    (one-test-passed (canonicalWords claim) (ClaimWord (firstBad claim)) (t .test-claim .ensures) (c .enum-told4 .given .1) e)
+
+test-words-requires : tie.Need-test-words-requires
+test-words-requires c κs = search needs
+
+enum-told-6 : tie.Need-enum-told-6
+enum-told-6 c = search needs
+
+enum-told-7 : tie.Need-enum-told-7
+enum-told-7 c = search needs
+
+refusal-requires-3 : tie.Need-refusal-requires-3
+refusal-requires-3 c κs = search needs
+
+returns-4 : tie.Need-returns-4
+unfolding checkAnswer
+returns-4 c =
+    let t = c .before .before .before in
+    let trace = entry (t .before .before .before .before .before) .args .trace .now in
+    tests-turned-back
+    (claimed (t .before)
+    (one-test-refused (canonicalWords trace) (TraceWord (firstBad trace)) (t .test-words .ensures) _ (c .refusal3 .ensures) refl))
+    _ refl
+
+test-constraints-requires : tie.Need-test-constraints-requires
+test-constraints-requires c κs =
+    let told = c .before in
+    let t = told .before .before in
+    let k = t .before .before .before .before .before in
+    let b = k .before .before .before in
+    let trace = entry k .args .trace .now in
+    let s = batches (length trace) (b .trace-batches .ensures) (k .before .k .given .1) in (
+      is-table _ (b .before .before .before .test .ensures) (b .before .enum-told .given .1),
+      canonical-words trace (TraceWord (firstBad trace)) (t .test-words .ensures) (told .enum-told6 .given .1),
+      s .0,
+      s .2,
+    )
+
+returns-5 : tie.Need-returns-5
+unfolding checkAnswer
+returns-5 c =
+    let told = c .before .before in
+    let t = told .before .before in
+    let k = t .before .before .before .before .before in
+    let a = entry k .args in
+    let s = batches (length (a .trace .now)) (k .before .before .before .trace-batches .ensures) (k .before .k .given .1) in
+    walked (a .table .now) (a .trace .now) (a .t3) _ (s .0) (c .test-constraints .ensures)
+    (claimed (t .before)
+    (one-test-passed (canonicalWords (a .trace .now)) (TraceWord (firstBad (a .trace .now))) (t .test-words .ensures) (told .enum-told6 .given .1) refl))
 
 pub check-spec : {M : Type 1} → statement M
 check-spec =
@@ -65,11 +155,22 @@ check-spec =
     test-requires
     enum-told
     enum-told-2
-    after-requires
+    refusal-requires
     returns
     trace-batches-requires
-    enum-known-counted
+    enum-known-k
     enum-told-3
     returns-2
-    judge-requires
-    returns-3)
+    slice-aggregate-test-claim
+    test-claim-requires
+    enum-told-4
+    enum-told-5
+    refusal-requires-2
+    returns-3
+    test-words-requires
+    enum-told-6
+    enum-told-7
+    refusal-requires-3
+    returns-4
+    test-constraints-requires
+    returns-5)

@@ -1,13 +1,15 @@
--- `checker::walk_tests` meets its contract: what is left of the walk gives the verdict, at every row and at every test.
+-- `checker::walk_tests` meets its contract: what is left of the walk gives the answer, at every row and at every test.
 -- Assumes nothing.
 use mathlib.Core.Path.{_≡_, sym, _∙_}
 use mathlib.Core.Logic.{⊎-elim}
 use Prim.Native.Nat.{_+_, _-_, _*_, _≤_, _<_}
 use native.Mathlib.Nat.{sub-zero}
 use borrow.Author.Tests.{not-true, not-false}
-use Rattle.constraints.specs.Constraints.{verdict}
+use lib.ListN.{length}
+use Rattle.refusals.specs.Answers.{testsAfter}
+use Rattle.constraints.specs.Constraints.{constraintTest, tests as all-tests}
 use Rattle.rowtests.proofs.SpanLaws.{spans-of}
-use Rattle.checker.proofs.WalkSteps.{rows as from-row, left, start, skip, pass, fail, enter, leave, done}
+use Rattle.checker.proofs.WalkSteps.{rows as from-row, constraints, start, skip, pass, fail, enter, leave, done}
 use borrow.Author.Needs.{needs}
 use native.Mathlib.Omega.{arith}
 use Rattle.checker.proofs.walk_tests.Statement.{statement}
@@ -15,13 +17,13 @@ use Rattle.checker.proofs.walk_tests.Tie as tie
 
 abbrev Inv-loop : tie.InvT-loop
 Inv-loop m inverse table trace claim k rows tests₀ i row forward back last constraint₀ tests constraint =
-    (1 ≤ constraint) × (constraint ≤ last + 1) × (last ≤ 52) × (tests < 52 * i + constraint) × (left table trace claim k i constraint (rows - (i + 1)) tests ≡ verdict table trace claim k)
+    (1 ≤ constraint) × (constraint ≤ last + 1) × (last ≤ 52) × (tests < 52 * i + constraint) × (constraints table trace claim k i constraint (rows - (i + 1)) tests ≡ testsAfter (constraintTest table trace claim k) (length (all-tests k)))
 
 abbrev μ-loop : tie.MeasureT-loop
 μ-loop m inverse table trace claim k rows tests₀ i row forward back last constraint₀ tests constraint = last + 1 - constraint
 
 abbrev Inv-walk : tie.InvT-walk
-Inv-walk m inverse table trace claim k rows tests₀ i₀ tests i = (i ≤ rows) × (tests ≤ 52 * i) × (from-row table trace claim k i (rows - i) tests ≡ verdict table trace claim k)
+Inv-walk m inverse table trace claim k rows tests₀ i₀ tests i = (i ≤ rows) × (tests ≤ 52 * i) × (from-row table trace claim k i (rows - i) tests ≡ testsAfter (constraintTest table trace claim k) (length (all-tests k)))
 
 abbrev μ-walk : tie.MeasureT-walk
 μ-walk m inverse table trace claim k rows tests₀ i₀ tests i = rows - i

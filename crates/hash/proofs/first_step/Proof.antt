@@ -1,10 +1,9 @@
--- `hash::first_step` meets its contract: roots, M, then the round's first constant.
+-- `hash::first_step` meets its contract: roots, M, then the round's first-step constant.
 -- Assumes nothing.
 use mathlib.Core.Path.{ap, _∙_}
-use Prim.Native.Nat.{_+_, _*_}
 use native.Mathlib.Omega.{arith}
 use borrow.Author.Needs.{needs}
-use Rattle.table.specs.Table.{constant}
+use Rattle.table.specs.Table.{firstStepConstant}
 use Rattle.hash.specs.Hash.{roots, plus, mix, firstStep}
 use Rattle.hash.proofs.States.{roots-state, mix-state}
 use Rattle.hash.proofs.CodeStates.{canonical-state}
@@ -18,21 +17,15 @@ mix-requires : tie.Need-mix-requires
 unfolding roots
 mix-requires c κs = (c .before .before .pre .0, canonical-state (c .roots .ensures) (roots-state (c .before .before .args .s)))
 
-mul-plus-constant : tie.Need-mul-plus-constant
-mul-plus-constant c = search needs
-
-add-plus-constant : tie.Need-add-plus-constant
-add-plus-constant c = search needs
-
-plus-constant-requires : tie.Need-plus-constant-requires
-plus-constant-requires c κs = (c .before .before .before .pre .0, omega arith, canonical-state (c .mix .ensures) (mix-state _ _))
+plus-first-requires : tie.Need-plus-first-requires
+plus-first-requires c κs = (c .before .before .before .pre .0, omega arith, canonical-state (c .mix .ensures) (mix-state _ _))
 
 returns : tie.Need-returns
 unfolding firstStep roots
 returns c =
     let a = c .before .before .before .before .args in
-    let k = constant (a .table .now) (2 * a .round + 1) in
-    c .plus-constant .ensures ∙ ap (λ s. plus s k) (c .before .mix .ensures ∙ ap (mix (a .table .now)) (c .before .before .roots .ensures))
+    let k = firstStepConstant (a .table .now) (a .round) in
+    c .plus-first .ensures ∙ ap (λ s. plus s k) (c .before .mix .ensures ∙ ap (mix (a .table .now)) (c .before .before .roots .ensures))
 
 pub first-step-spec : {M : Type 1} → statement M
 first-step-spec =
@@ -40,7 +33,5 @@ first-step-spec =
     (tie.spec
     roots-requires
     mix-requires
-    mul-plus-constant
-    add-plus-constant
-    plus-constant-requires
+    plus-first-requires
     returns)

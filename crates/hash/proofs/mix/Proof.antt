@@ -1,30 +1,28 @@
--- `hash::mix` meets its contract: M is the table's first 144 words.
+-- `hash::mix` meets its contract.
 -- Assumes nothing.
+use mathlib.Core.Path.{sym, ap, _∙_, subst}
 use borrow.Author.Needs.{needs}
-use Rattle.table.specs.Table.{matrixOf}
+use lib.ListN.{length}
+use Rattle.words.specs.Words.{AllCanonical}
+use Rattle.matrix.specs.Matrix.{times}
 use Rattle.table.proofs.Theorems.{matrix-length, matrix-canonical}
 use Rattle.hash.specs.Hash.{mix}
 use Rattle.hash.proofs.mix.Statement.{statement}
 use Rattle.hash.proofs.mix.Tie as tie
 
-sub-times : tie.Need-sub-times
-sub-times c = search needs
-
-part-times-start : tie.Need-part-times-start
-part-times-start c = search needs
-
-part-times-end : tie.Need-part-times-end
-part-times-end c = search needs
+matrix-requires : tie.Need-matrix-requires
+matrix-requires c κs = search needs
 
 times-requires : tie.Need-times-requires
-unfolding matrixOf
 times-requires c κs =
     let a = c .before .before in
-    (matrix-length (a .args .table .now) (a .pre .0), matrix-canonical (a .args .table .now) (a .pre .0), a .pre .1)
+    let m = c .matrix .ensures in
+    let t = a .args .table .now in
+    (ap length m ∙ matrix-length t (a .pre .0), subst AllCanonical (sym m) (matrix-canonical t (a .pre .0)), a .pre .1)
 
 returns : tie.Need-returns
-unfolding mix matrixOf
-returns c = c .times .ensures .0
+unfolding mix
+returns c = c .times .ensures .0 ∙ ap (λ m. times m (c .before .before .before .args .s)) (c .before .matrix .ensures)
 
 pub mix-spec : {M : Type 1} → statement M
-mix-spec = tie.close (tie.spec sub-times part-times-start part-times-end times-requires returns)
+mix-spec = tie.close (tie.spec matrix-requires times-requires returns)

@@ -1,10 +1,9 @@
--- `hash::second_step` meets its contract: cubes, M, then the round's second constant.
+-- `hash::second_step` meets its contract: cubes, M, then the round's second-step constant.
 -- Assumes nothing.
 use mathlib.Core.Path.{ap, _∙_}
-use Prim.Native.Nat.{_+_, _*_}
 use native.Mathlib.Omega.{arith}
 use borrow.Author.Needs.{needs}
-use Rattle.table.specs.Table.{constant}
+use Rattle.table.specs.Table.{secondStepConstant}
 use Rattle.hash.specs.Hash.{plus, mix, secondStep}
 use Rattle.hash.proofs.States.{cubes-state, mix-state}
 use Rattle.hash.proofs.CodeStates.{canonical-state}
@@ -17,21 +16,15 @@ cubes-requires c κs = search needs
 mix-requires : tie.Need-mix-requires
 mix-requires c κs = (c .before .before .pre .0, canonical-state (c .cubes .ensures) (cubes-state _))
 
-mul-plus-constant : tie.Need-mul-plus-constant
-mul-plus-constant c = search needs
-
-add-plus-constant : tie.Need-add-plus-constant
-add-plus-constant c = search needs
-
-plus-constant-requires : tie.Need-plus-constant-requires
-plus-constant-requires c κs = (c .before .before .before .pre .0, omega arith, canonical-state (c .mix .ensures) (mix-state _ _))
+plus-second-requires : tie.Need-plus-second-requires
+plus-second-requires c κs = (c .before .before .before .pre .0, omega arith, canonical-state (c .mix .ensures) (mix-state _ _))
 
 returns : tie.Need-returns
 unfolding secondStep
 returns c =
     let a = c .before .before .before .before .args in
-    let k = constant (a .table .now) (2 * a .round + 2) in
-    c .plus-constant .ensures ∙ ap (λ s. plus s k) (c .before .mix .ensures ∙ ap (mix (a .table .now)) (c .before .before .cubes .ensures))
+    let k = secondStepConstant (a .table .now) (a .round) in
+    c .plus-second .ensures ∙ ap (λ s. plus s k) (c .before .mix .ensures ∙ ap (mix (a .table .now)) (c .before .before .cubes .ensures))
 
 pub second-step-spec : {M : Type 1} → statement M
 second-step-spec =
@@ -39,7 +32,5 @@ second-step-spec =
     (tie.spec
     cubes-requires
     mix-requires
-    mul-plus-constant
-    add-plus-constant
-    plus-constant-requires
+    plus-second-requires
     returns)

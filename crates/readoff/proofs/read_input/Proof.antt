@@ -31,13 +31,13 @@ back-requires c κs =
     let p = c .before .before .before .before .before .before .before .pre in
     (p .1, p .0, input-row _ _ (p .2) (omega arith), omega arith)
 
-less-constant-requires : tie.Need-less-constant-requires
-less-constant-requires c κs = (c .before .before .before .before .before .before .before .before .pre .1, omega arith, back-canonical _ _ _ (c .back .ensures))
+less-initial-requires : tie.Need-less-initial-requires
+less-initial-requires c κs = (c .before .before .before .before .before .before .before .before .pre .1, back-canonical _ _ _ (c .back .ensures))
 
 returns-2 : tie.Need-returns-2
 returns-2 c =
     let r = c .before .before in
-    back-read _ _ _ _ (r .before .if1 .left) (r .row2 .ensures) (c .before .back .ensures) (c .less-constant .ensures .0)
+    back-read _ _ _ _ (r .before .if1 .left) (r .row2 .ensures) (c .before .back .ensures) (c .less-initial .ensures)
 
 pub read-input-spec : {M : Type 1} → statement M
 read-input-spec =
@@ -50,5 +50,5 @@ read-input-spec =
     add-row
     row-requires-2
     back-requires
-    less-constant-requires
+    less-initial-requires
     returns-2)

@@ -1,18 +1,20 @@
 -- `rows::plus_entering` meets its contract: the columns passed are the sums, the others as they were.
 -- Assumes nothing.
-use mathlib.Core.Path.{_≡_}
+use mathlib.Core.Path.{_≡_, ap, _∙_}
 use Prim.Native.Nat.{_+_, _-_, _≤_}
 use lib.ListN.{length, length-set}
 use Rattle.lists.specs.Lists.{cell}
 use Rattle.lists.proofs.Tab.{filled, filled-none, filled-more}
 use Rattle.field.specs.Field.{add}
+use Rattle.table.specs.Table.{initialConstant}
 use Rattle.rows.proofs.RowLaws.{entering-filled}
 use native.Mathlib.Omega.{arith}
+use borrow.Author.Needs.{needs}
 use Rattle.rows.proofs.plus_entering.Statement.{statement}
 use Rattle.rows.proofs.plus_entering.Tie as tie
 
 abbrev Inv-loop : tie.InvT-loop
-Inv-loop table s out₀ j₀ out j = (j ≤ 4) × (length s ≡ 12) × (length out ≡ 12) × (out ≡ filled j (λ i. add (cell s i) (cell table (288 + i))) s)
+Inv-loop table s out₀ j₀ out j = (j ≤ 4) × (length s ≡ 12) × (length out ≡ 12) × (out ≡ filled j (λ i. add (cell s i) (cell (initialConstant table) i)) s)
 
 abbrev μ-loop : tie.MeasureT-loop
 μ-loop table s out₀ j₀ out j = 4 - j
@@ -28,20 +30,13 @@ mul-t9 c = omega arith
 array-read-t12 : tie.Need-array-read-t12 Inv-loop μ-loop
 array-read-t12 c = omega arith
 
-add-t14 : tie.Need-add-t14 Inv-loop μ-loop
-add-t14 c = omega arith
-
-mul-t15 : tie.Need-mul-t15 Inv-loop μ-loop
-mul-t15 c = omega arith
-
-shared-slice-read-t17 : tie.Need-shared-slice-read-t17 Inv-loop μ-loop
-shared-slice-read-t17 c = omega arith
+initial-constant-requires : tie.Need-initial-constant-requires Inv-loop μ-loop
+initial-constant-requires c κs = search needs
 
 add-requires : tie.Need-add-requires Inv-loop μ-loop
 add-requires c κs =
     let a = c .before .before .before .before in
-    let l = c .before .before .loop in
-    (a .pre .1 (l .j) (omega arith), a .pre .0 .canonical (288 + l .j) (omega arith))
+    (a .pre .1 _ (omega arith), c .initial-constant .ensures .1)
 
 mul-out : tie.Need-mul-out Inv-loop μ-loop
 mul-out c = omega arith
@@ -58,13 +53,14 @@ loop-less c = omega arith
 loop-again : tie.Need-loop-again Inv-loop μ-loop
 loop-again c =
     let l = c .before .before .before .loop in
-    (omega arith, l .inv .1, simp length-set (l .inv .2), filled-more _ (l .j) (c .add .result .0) _ (l .out) (omega arith) (c .add .ensures .0) (l .inv .3))
+    let v = c .add .ensures .0 ∙ ap (add _) (c .before .initial-constant .ensures .0) in
+    (omega arith, l .inv .1, simp length-set (l .inv .2), filled-more _ (l .j) (c .add .result .0) _ (l .out) (omega arith) v (l .inv .3))
 
 returns : tie.Need-returns Inv-loop μ-loop
 returns c =
     let a = c .before .before .before in
     let l = c .before .loop in
-    entering-filled (a .args .table .now) (a .args .t2) (l .inv .1) (a .pre .1) _ (l .j) (omega arith) (l .inv .3)
+    entering-filled (a .args .t2) (initialConstant (a .args .table .now)) (l .inv .1) _ (l .j) (omega arith) (l .inv .3)
 
 pub plus-entering-spec : {M : Type 1} → statement M
 plus-entering-spec =
@@ -75,9 +71,7 @@ plus-entering-spec =
     loop-holds
     mul-t9
     array-read-t12
-    add-t14
-    mul-t15
-    shared-slice-read-t17
+    initial-constant-requires
     add-requires
     mul-out
     array-write-out

@@ -26,11 +26,11 @@ within-requires c κs = search needs
 within-requires-2 : tie.Need-within-requires-2
 within-requires-2 c κs = search needs
 
+is-last-row-requires : tie.Need-is-last-row-requires
+is-last-row-requires c κs = search needs
+
 is-claim-row-requires : tie.Need-is-claim-row-requires
 is-claim-row-requires c κs = search needs
-
-is-claim-row-requires-2 : tie.Need-is-claim-row-requires-2
-is-claim-row-requires-2 c κs = search needs
 
 within-requires-3 : tie.Need-within-requires-3
 within-requires-3 c κs = search needs
@@ -59,7 +59,7 @@ returns-5 c =
 returns-6 : tie.Need-returns-6
 returns-6 c =
     let a = c .before .before .before .before .before .before .before .args in
-    rw (line-45 (a .k) (a .row .0) (a .constraint) (c .before .before .before .before .if8 .left) (c .before .before .before .if9 .taken), ← c .before .before .within2 .ensures, eq-eqb _ _ (c .before .if10 .taken), c .is-claim-row .ensures)
+    rw (line-45 (a .k) (a .row .0) (a .constraint) (c .before .before .before .before .if8 .left) (c .before .before .before .if9 .taken), ← c .before .before .within2 .ensures, eq-eqb _ _ (c .before .if10 .taken), c .is-last-row .ensures)
 
 returns-7 : tie.Need-returns-7
 returns-7 c =
@@ -67,7 +67,7 @@ returns-7 c =
     rw (line-45 (a .k) (a .row .0) (a .constraint) (c .before .before .before .if8 .left) (c .before .before .if9 .taken), ← c .before .within2 .ensures, ne-eqb _ _ (c .if10 .left))
 
 returns-8 : tie.Need-returns-8
-returns-8 c = c .is-claim-row2 .ensures ∙ sym (line-49 _ _ _ (c .before .before .if9 .left) (c .before .if11 .taken))
+returns-8 c = c .is-claim-row .ensures ∙ sym (line-49 _ _ _ (c .before .before .if9 .left) (c .before .if11 .taken))
 
 returns-9 : tie.Need-returns-9
 returns-9 c =
@@ -90,8 +90,8 @@ applies-spec =
     is-entering-requires-2
     within-requires
     within-requires-2
+    is-last-row-requires
     is-claim-row-requires
-    is-claim-row-requires-2
     within-requires-3
     returns
     returns-2

@@ -28,15 +28,15 @@ mul-result c = omega arith
 element-copy-out-result : tie.Need-element-copy-out-result
 element-copy-out-result c = search needs
 
-opening-requires : tie.Need-opening-requires
-opening-requires c κs =
+initial-constant-requires : tie.Need-initial-constant-requires
+initial-constant-requires c κs =
     let p = c .before .before .before .before .before .pre in
     (p .0, omega arith)
 
 returns-2 : tie.Need-returns-2
 returns-2 c =
     let p = c .before .before .before .before .before .before .pre in
-    holds-5 _ _ _ (p .1) (p .2) (p .3) (c .before .before .before .if1 .left) (c .before .before .if2 .taken) (c .opening .ensures .0)
+    holds-5 _ _ _ (p .1) (p .2) (p .3) (c .before .before .before .if1 .left) (c .before .before .if2 .taken) (c .initial-constant .ensures .0)
 
 sub-j : tie.Need-sub-j
 sub-j c = omega arith
@@ -46,13 +46,13 @@ cell-requires-2 c κs =
     let p = c .before .before .before .before .before .pre in
     (this-row (p .1), omega arith)
 
-opening-requires-2 : tie.Need-opening-requires-2
-opening-requires-2 c κs =
+initial-constant-requires-2 : tie.Need-initial-constant-requires-2
+initial-constant-requires-2 c κs =
     let p = c .before .before .before .before .before .before .pre in
     (p .0, omega arith)
 
 add-requires : tie.Need-add-requires
-add-requires c κs = (c .before .cell2 .ensures .1, c .opening2 .ensures .1)
+add-requires c κs = (c .before .cell2 .ensures .1, c .initial-constant2 .ensures .1)
 
 mul-result-2 : tie.Need-mul-result-2
 mul-result-2 c = omega arith
@@ -63,7 +63,7 @@ element-copy-out-result-2 c = search needs
 returns-3 : tie.Need-returns-3
 returns-3 c =
     let p = c .before .before .before .before .before .before .before .before .before .before .pre in
-    holds-9 _ _ _ (p .1) (p .2) (p .3) (c .before .before .before .before .before .before .if2 .left) (c .before .before .before .before .before .if3 .taken) (c .before .before .before .before .cell2 .ensures .0) (c .before .before .before .opening2 .ensures .0) (c .before .before .add .ensures .0)
+    holds-9 _ _ _ (p .1) (p .2) (p .3) (c .before .before .before .before .before .before .if2 .left) (c .before .before .before .before .before .if3 .taken) (c .before .before .before .before .cell2 .ensures .0) (c .before .before .before .initial-constant2 .ensures .0) (c .before .before .add .ensures .0)
 
 sub-j-2 : tie.Need-sub-j-2
 sub-j-2 c = omega arith
@@ -162,11 +162,11 @@ holds-spec =
     add-j
     mul-result
     element-copy-out-result
-    opening-requires
+    initial-constant-requires
     returns-2
     sub-j
     cell-requires-2
-    opening-requires-2
+    initial-constant-requires-2
     add-requires
     mul-result-2
     element-copy-out-result-2

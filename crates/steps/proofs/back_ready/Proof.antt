@@ -1,32 +1,29 @@
 -- `steps::back_ready` meets its contract.
 -- Assumes nothing.
+use mathlib.Core.Path.{sym, ap, _∙_, subst}
 use native.Mathlib.Omega.{arith}
 use borrow.Author.Needs.{needs}
-use Rattle.table.specs.Table.{inverseOf}
-use Rattle.table.proofs.Parts.{length-inverse, inverse-canonical}
-use Rattle.steps.specs.Steps.{backReady}
+use lib.ListN.{length}
+use Rattle.words.specs.Words.{AllCanonical}
+use Rattle.winograd.specs.Winograd.{ready}
+use Rattle.table.proofs.Theorems.{inverse-length, inverse-canonical}
+use Rattle.steps.specs.Steps.{backScale, backReady}
 use Rattle.steps.proofs.back_ready.Statement.{statement}
 use Rattle.steps.proofs.back_ready.Tie as tie
 
-sub-ready : tie.Need-sub-ready
-sub-ready c = search needs
-
-part-ready-start : tie.Need-part-ready-start
-part-ready-start c = search needs
-
-part-ready-end : tie.Need-part-ready-end
-part-ready-end c = search needs
+inverse-requires : tie.Need-inverse-requires
+inverse-requires c κs = search needs
 
 ready-requires : tie.Need-ready-requires
-unfolding inverseOf
 ready-requires c κs =
     let a = c .before .before in
     let t = a .args .table .now in
-    (length-inverse t (a .pre .size), inverse-canonical t (a .pre .size) (a .pre .canonical), omega arith)
+    let m = c .inverse .ensures in
+    (ap length m ∙ inverse-length t (a .pre), subst AllCanonical (sym m) (inverse-canonical t (a .pre)), omega arith)
 
 returns : tie.Need-returns
-unfolding backReady inverseOf
-returns c = c .ready .ensures
+unfolding backReady
+returns c = c .ready .ensures ∙ ap (λ m. ready m backScale) (c .before .inverse .ensures)
 
 pub back-ready-spec : {M : Type 1} → statement M
-back-ready-spec = tie.close (tie.spec sub-ready part-ready-start part-ready-end ready-requires returns)
+back-ready-spec = tie.close (tie.spec inverse-requires ready-requires returns)

@@ -21,23 +21,17 @@ Inv-loop ready table round less excess out₀ i₀ out i = (i ≤ 12) × (length
 abbrev μ-loop : tie.MeasureT-loop
 μ-loop ready table round less excess out₀ i₀ out i = 12 - i
 
-mul-less-constant : tie.Need-mul-less-constant Inv-loop μ-loop
-mul-less-constant c = omega arith
-
-add-less-constant : tie.Need-add-less-constant Inv-loop μ-loop
-add-less-constant c = omega arith
-
-less-constant-requires : tie.Need-less-constant-requires Inv-loop μ-loop
-less-constant-requires c κs = search needs
+less-first-requires : tie.Need-less-first-requires Inv-loop μ-loop
+less-first-requires c κs = search needs
 
 slice-aggregate-neighbours : tie.Need-slice-aggregate-neighbours Inv-loop μ-loop
 slice-aggregate-neighbours c = omega arith
 
-length-of : (c : tie.After-less-constant Inv-loop μ-loop) → length (c .less-constant .result) ≡ 12
-length-of c = ap length (c .less-constant .ensures .0) ∙ length-minus _ _
+length-of : (c : tie.After-less-first Inv-loop μ-loop) → length (c .less-first .result) ≡ 12
+length-of c = ap length (c .less-first .ensures .0) ∙ length-minus _ _
 
 neighbours-requires : tie.Need-neighbours-requires Inv-loop μ-loop
-neighbours-requires c κs = (length-of (c .before), c .before .less-constant .ensures .1)
+neighbours-requires c κs = (length-of (c .before), c .before .less-first .ensures .1)
 
 loop-holds : tie.Need-loop-holds Inv-loop μ-loop
 loop-holds c = (omega arith, refl, filled-none _ _)
@@ -53,7 +47,7 @@ cell-plus-requires c κs =
       back-is (a .args .table .now) (a .args .ready .now) (a .pre .1),
       omega arith,
       length-of q,
-      q .less-constant .ensures .1,
+      q .less-first .ensures .1,
       l .before .neighbours .ensures .0,
       omega arith,
     )
@@ -79,7 +73,7 @@ loop-again c =
     let l = y .before .before .before in
     let q = l .loop in
     let a = l .before .before .before .before .before .before in
-    let v = c .thin-cube .ensures .0 ∙ back-word (a .args .table .now) (a .args .ready .now) (l .before .before .before .less-constant .result) (q .i) (y .cell-plus .result) (omega arith) (a .pre .1) (y .cell-plus .ensures .0) in
+    let v = c .thin-cube .ensures .0 ∙ back-word (a .args .table .now) (a .args .ready .now) (l .before .before .before .less-first .result) (q .i) (y .cell-plus .result) (omega arith) (a .pre .1) (y .cell-plus .ensures .0) in
     (omega arith, length-set (q .out) (q .i) (c .thin-cube .result) ∙ q .inv .1, filled-more _ (q .i) (c .thin-cube .result) _ (q .out) (omega arith) v (q .inv .2))
 
 returns : tie.Need-returns Inv-loop μ-loop
@@ -88,7 +82,7 @@ returns c =
     let q = l .before .before .before in
     let a = q .before .before .before in
     let e : l .loop .i ≡ 12 = omega arith in
-    undone-made (a .args .table .now) (a .args .s) (q .less-constant .result) (l .loop .out) (a .args .round) (q .less-constant .ensures .0) (l .loop .inv .2 ∙ rw e (filled-all 12 _ (replicate 12 0) refl))
+    undone-made (a .args .table .now) (a .args .s) (q .less-first .result) (l .loop .out) (a .args .round) (q .less-first .ensures .0) (l .loop .inv .2 ∙ rw e (filled-all 12 _ (replicate 12 0) refl))
 
 pub back-step-spec : {M : Type 1} → statement M
 back-step-spec =
@@ -96,9 +90,7 @@ back-step-spec =
     (tie.spec
     Inv-loop
     μ-loop
-    mul-less-constant
-    add-less-constant
-    less-constant-requires
+    less-first-requires
     slice-aggregate-neighbours
     neighbours-requires
     loop-holds

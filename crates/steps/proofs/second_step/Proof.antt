@@ -9,15 +9,16 @@ use Rattle.lists.specs.Lists.{cell}
 use Rattle.lists.proofs.Tab.{filled, filled-none, filled-more, length-tab}
 use Rattle.field.specs.Field.{add}
 use Rattle.sums.proofs.Reduction.{made-canonical}
-use Rattle.steps.proofs.Made.{inner, forward-is, second-made}
+use Rattle.table.specs.Table.{secondStepConstant}
+use Rattle.steps.proofs.Made.{inner, forward-is, plus-word, second-made}
 use Rattle.steps.proofs.second_step.Statement.{statement}
 use Rattle.steps.proofs.second_step.Tie as tie
 
 abbrev Inv-loop : tie.InvT-loop
-Inv-loop ready table round count cubed excess start out₀ i₀ out i = (i ≤ count) × (length out ≡ 12) × (out ≡ filled i (λ n. add (inner ready cubed n) (cell table (start + n))) out₀)
+Inv-loop ready table round count cubed excess out₀ i₀ out i = (i ≤ count) × (length out ≡ 12) × (out ≡ filled i (λ n. add (inner ready cubed n) (cell (secondStepConstant table round) n)) out₀)
 
 abbrev μ-loop : tie.MeasureT-loop
-μ-loop ready table round count cubed excess start out₀ i₀ out i = count - i
+μ-loop ready table round count cubed excess out₀ i₀ out i = count - i
 
 thin-cubes-requires : tie.Need-thin-cubes-requires Inv-loop μ-loop
 thin-cubes-requires c κs = search needs
@@ -33,47 +34,26 @@ neighbours-requires c κs =
     let q = c .before .thin-cubes in
     (length-of c, q .ensures .1)
 
-mul-start : tie.Need-mul-start Inv-loop μ-loop
-mul-start c = omega arith
-
-add-start : tie.Need-add-start Inv-loop μ-loop
-add-start c = omega arith
-
-mul-start-2 : tie.Need-mul-start-2 Inv-loop μ-loop
-mul-start-2 c = omega arith
-
-add-start-2 : tie.Need-add-start-2 Inv-loop μ-loop
-add-start-2 c = omega arith
-
 loop-holds : tie.Need-loop-holds Inv-loop μ-loop
 loop-holds c = (omega arith, refl, filled-none _ _)
 
+second-step-constant-requires : tie.Need-second-step-constant-requires Inv-loop μ-loop
+second-step-constant-requires c κs = search needs
+
 slice-aggregate-cell-plus : tie.Need-slice-aggregate-cell-plus Inv-loop μ-loop
 slice-aggregate-cell-plus c = omega arith
-
-add-cell-plus : tie.Need-add-cell-plus Inv-loop μ-loop
-add-cell-plus c = omega arith
-
-mul-cell-plus : tie.Need-mul-cell-plus Inv-loop μ-loop
-mul-cell-plus c = omega arith
-
-shared-slice-read-cell-plus : tie.Need-shared-slice-read-cell-plus Inv-loop μ-loop
-shared-slice-read-cell-plus c =
-    let a = c .before .before .before .before .before .before .before .before .before in
-    omega (arith, a .pre .0 .size, a .pre .2)
 
 cell-plus-requires : tie.Need-cell-plus-requires Inv-loop μ-loop
 cell-plus-requires c κs =
     let l = c .before .before .before in
     let q = l .before .before in
-    let a = q .before .before .before .before in
-    let i = l .loop .i in (
+    let a = q .before .before .before .before in (
       forward-is (a .args .table .now) (a .args .ready .now) (a .pre .1),
       omega arith,
       length-of q,
       q .before .thin-cubes .ensures .1,
       l .before .neighbours .ensures .0,
-      a .pre .0 .canonical (288 + 12 * (2 * a .args .round + 2) + i) (omega (arith, a .pre .0 .size, a .pre .2)),
+      c .before .second-step-constant .ensures .1,
     )
 
 less-once-requires : tie.Need-less-once-requires Inv-loop μ-loop
@@ -98,8 +78,9 @@ loop-again c =
     let q = l .loop in
     let a = l .before .before .before .before .before .before in
     let cubed = l .before .before .before .thin-cubes .result in
-    let f : ℕ → ℕ = λ n. add (inner (a .args .ready .now) cubed n) (cell (a .args .table .now) (288 + 12 * (2 * a .args .round + 2) + n)) in
-    let v : c .less-once .result ≡ f (q .i) = made-canonical (f (q .i)) (y .cell-plus .result) (c .less-once .result) (y .cell-plus .ensures .1) (y .cell-plus .ensures .0) (c .less-once .ensures) .0 in
+    let f : ℕ → ℕ = λ n. add (inner (a .args .ready .now) cubed n) (cell (secondStepConstant (a .args .table .now) (a .args .round)) n) in
+    let e = plus-word (y .cell-plus .result) (inner (a .args .ready .now) cubed (q .i)) (y .cell-plus .ensures .0) (y .before .before .second-step-constant .ensures .0) in
+    let v : c .less-once .result ≡ f (q .i) = made-canonical (f (q .i)) (y .cell-plus .result) (c .less-once .result) (y .cell-plus .ensures .1) e (c .less-once .ensures) .0 in
     (omega arith, length-set (q .out) (q .i) (c .less-once .result) ∙ q .inv .1, filled-more f (q .i) (c .less-once .result) _ (q .out) (omega arith) v (q .inv .2))
 
 returns : tie.Need-returns Inv-loop μ-loop
@@ -108,8 +89,8 @@ returns c =
     let q = l .before .before .before in
     let a = q .before .before .before in
     let e : l .loop .i ≡ a .args .count = omega arith in
-    let f : ℕ → ℕ = λ n. add (inner (a .args .ready .now) (q .thin-cubes .result) n) (cell (a .args .table .now) (288 + 12 * (2 * a .args .round + 2) + n)) in
-    second-made (a .args .table .now) (a .args .ready .now) (a .args .s) (q .thin-cubes .result) (l .loop .out) (a .args .round) _ (a .args .count) (a .pre .4) (a .pre .1) (q .thin-cubes .ensures .0) refl (l .loop .inv .2 ∙ ap (λ n. filled n f (replicate 12 0)) e)
+    let f : ℕ → ℕ = λ n. add (inner (a .args .ready .now) (q .thin-cubes .result) n) (cell (secondStepConstant (a .args .table .now) (a .args .round)) n) in
+    second-made (a .args .table .now) (a .args .ready .now) (a .args .s) (q .thin-cubes .result) (l .loop .out) (a .args .round) (a .args .count) (a .pre .4) (a .pre .1) (q .thin-cubes .ensures .0) (l .loop .inv .2 ∙ ap (λ n. filled n f (replicate 12 0)) e)
 
 pub second-step-spec : {M : Type 1} → statement M
 second-step-spec =
@@ -120,15 +101,9 @@ second-step-spec =
     thin-cubes-requires
     slice-aggregate-neighbours
     neighbours-requires
-    mul-start
-    add-start
-    mul-start-2
-    add-start-2
     loop-holds
+    second-step-constant-requires
     slice-aggregate-cell-plus
-    add-cell-plus
-    mul-cell-plus
-    shared-slice-read-cell-plus
     cell-plus-requires
     less-once-requires
     mul-out

@@ -1,15 +1,16 @@
 -- `table::first_unlike` meets its contract: the cells passed are those of the identity.
 -- Assumes nothing.
-use mathlib.Core.Path.{_≡_, sym, _∙_}
+use mathlib.Core.Path.{_≡_, sym, ap, ap₂, _∙_, subst}
 use mathlib.Core.Bool.{false}
 use Prim.Native.Nat.{ℕ, _-_, _≤_, _<_}
 use native.Mathlib.Omega.{arith}
 use borrow.Author.Count.{below-more}
 use lib.ListN.{length}
+use Rattle.lists.specs.Lists.{tab}
 use Rattle.words.specs.Words.{AllCanonical}
-use Rattle.table.specs.Table.{matrixOf, inverseOf, unlike}
+use Rattle.table.specs.Table.{matrixWords, matrixOf, inverseOf, unlike}
 use Rattle.table.proofs.Parts.{length-matrix, matrix-canonical, length-inverse, inverse-canonical}
-use Rattle.table.proofs.Tested.{at-cell, unlike-yes, unlike-no, stops, passes}
+use Rattle.table.proofs.Tested.{byColumns, at-cell, unlike-yes, unlike-no, stops, passes}
 use borrow.Author.Needs.{needs}
 use Rattle.table.proofs.first_unlike.Statement.{statement}
 use Rattle.table.proofs.first_unlike.Tie as tie
@@ -22,34 +23,27 @@ abbrev μ-loop : tie.MeasureT-loop
 μ-loop table product c₀ c =
     144 - c
 
-sub-m : tie.Need-sub-m Inv-loop μ-loop
-sub-m c = search needs
+matrix-requires : tie.Need-matrix-requires Inv-loop μ-loop
+matrix-requires c κs = search needs
 
-part-m-start : tie.Need-part-m-start Inv-loop μ-loop
-part-m-start c = search needs
-
-part-m-end : tie.Need-part-m-end Inv-loop μ-loop
-part-m-end c = search needs
-
-sub-n : tie.Need-sub-n Inv-loop μ-loop
-sub-n c = search needs
-
-part-n-start : tie.Need-part-n-start Inv-loop μ-loop
-part-n-start c = search needs
-
-part-n-end : tie.Need-part-n-end Inv-loop μ-loop
-part-n-end c = search needs
+inverse-requires : tie.Need-inverse-requires Inv-loop μ-loop
+inverse-requires c κs = search needs
 
 product-columns-requires : tie.Need-product-columns-requires Inv-loop μ-loop
-unfolding matrixOf inverseOf
 product-columns-requires c κs =
     let s = c .before .before .before in
     let t = s .args .table .now in
-    let a : length (matrixOf t) ≡ 144 = length-matrix t (s .pre .0) in
-    let b : length (inverseOf t) ≡ 144 = length-inverse t (s .pre .0) in
-    let d : AllCanonical (matrixOf t) = matrix-canonical t (s .pre .0) (s .pre .1) in
-    let e : AllCanonical (inverseOf t) = inverse-canonical t (s .pre .0) (s .pre .1) in
-    search needs
+    let m = c .before .matrix .ensures in
+    let n = c .inverse .ensures in (
+      ap length m ∙ length-matrix t (s .pre .0),
+      subst AllCanonical (sym m) (matrix-canonical t (s .pre .0) (s .pre .1)),
+      ap length n ∙ length-inverse t (s .pre .0),
+      subst AllCanonical (sym n) (inverse-canonical t (s .pre .0) (s .pre .1)),
+    )
+
+-- the product's cells are those of M times the stored inverse
+multiplied : (c : tie.After-product-columns Inv-loop μ-loop) → c .product-columns .result ≡ tab matrixWords (byColumns (matrixOf (c .before .before .before .before .args .table .now)) (inverseOf (c .before .before .before .before .args .table .now)))
+multiplied c = c .product-columns .ensures ∙ ap₂ (λ m n. tab matrixWords (byColumns m n)) (c .before .before .matrix .ensures) (c .before .inverse .ensures)
 
 loop-holds : tie.Need-loop-holds Inv-loop μ-loop
 loop-holds c =
@@ -72,12 +66,11 @@ identity-requires c κs =
     search needs
 
 returns : tie.Need-returns Inv-loop μ-loop
-unfolding matrixOf inverseOf
 returns c =
     let p = c .before .before .before .before in
     let t = p .before .before .before .before .args .table .now in
     let l = c .before .before .before .loop in
-    let value = at-cell (matrixOf t) (inverseOf t) _ (l .c) (omega arith) (p .product-columns .ensures) in
+    let value = at-cell (matrixOf t) (inverseOf t) _ (l .c) (omega arith) (multiplied p) in
     stops t (l .c) (omega arith) (l .inv .1) (unlike-yes t (l .c) _ _ value (c .before .identity .ensures) (c .if1 .taken))
 
 add-c : tie.Need-add-c Inv-loop μ-loop
@@ -87,12 +80,11 @@ loop-less : tie.Need-loop-less Inv-loop μ-loop
 loop-less c = search needs
 
 loop-again : tie.Need-loop-again Inv-loop μ-loop
-unfolding matrixOf inverseOf
 loop-again c =
     let p = c .before .before .before .before in
     let t = p .before .before .before .before .args .table .now in
     let l = c .before .before .before .loop in
-    let value = at-cell (matrixOf t) (inverseOf t) _ (l .c) (omega arith) (p .product-columns .ensures) in
+    let value = at-cell (matrixOf t) (inverseOf t) _ (l .c) (omega arith) (multiplied p) in
     (omega arith, below-more _ _ (l .inv .1) (unlike-no t (l .c) _ _ value (c .before .identity .ensures) (c .if1 .left)))
 
 returns-2 : tie.Need-returns-2 Inv-loop μ-loop
@@ -107,12 +99,8 @@ first-unlike-spec =
     (tie.spec
     Inv-loop
     μ-loop
-    sub-m
-    part-m-start
-    part-m-end
-    sub-n
-    part-n-start
-    part-n-end
+    matrix-requires
+    inverse-requires
     product-columns-requires
     loop-holds
     mul-if1

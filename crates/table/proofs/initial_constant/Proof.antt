@@ -1,0 +1,16 @@
+-- `table::initial_constant` meets its contract: it is K_0.
+-- Assumes nothing.
+use borrow.Author.Needs.{needs}
+use Rattle.table.specs.Table.{initialConstant}
+use Rattle.table.proofs.initial_constant.Statement.{statement}
+use Rattle.table.proofs.initial_constant.Tie as tie
+
+constant-requires : tie.Need-constant-requires
+constant-requires c κs = search needs
+
+returns : tie.Need-returns
+unfolding initialConstant
+returns c = c .constant .ensures
+
+pub initial-constant-spec : {M : Type 1} → statement M
+initial-constant-spec = tie.close (tie.spec constant-requires returns)

@@ -1,0 +1,22 @@
+-- `table::second_step_constant` meets its contract: it is K_(2 round + 2).
+-- Assumes nothing.
+use borrow.Author.Needs.{needs}
+use Rattle.table.specs.Table.{secondStepConstant}
+use Rattle.table.proofs.second_step_constant.Statement.{statement}
+use Rattle.table.proofs.second_step_constant.Tie as tie
+
+mul-constant : tie.Need-mul-constant
+mul-constant c = search needs
+
+add-constant : tie.Need-add-constant
+add-constant c = search needs
+
+constant-requires : tie.Need-constant-requires
+constant-requires c κs = search needs
+
+returns : tie.Need-returns
+unfolding secondStepConstant
+returns c = c .constant .ensures
+
+pub second-step-constant-spec : {M : Type 1} → statement M
+second-step-constant-spec = tie.close (tie.spec mul-constant add-constant constant-requires returns)
