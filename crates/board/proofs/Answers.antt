@@ -62,15 +62,18 @@ pack-complete taps claim size k h =
 -- ---- word 0
 
 -- word 0 is accepted exactly where it is the count word of a permitted k
-pub count-accepted : (w : ℕ) → countTest w ≡ Accepted → (w ≡ countWord (countIn w)) × IsPermittedTo mostFileBatches (countIn w)
+pub count-accepted : (w : ℕ) → countTest w ≡ Accepted
+    → (w ≡ countWord (countIn w)) × IsPermittedTo mostFileBatches (countIn w)
 unfolding countTest
 count-accepted w e =
     let a = passed (eqb (kindOf w) 0) (WrongKind 0) _ e in
     let b = passed (eqb (spareIn w) 0) (WrongValue 0) _ (a .1) in
     let c = passed (permitted mostFileBatches (countIn w)) (WrongValue 0) _ (b .1) in
-    (omega (arith, eqb-true (kindOf w) 0 (a .0), eqb-true (spareIn w) 0 (b .0)), permitted-sound mostFileBatches (countIn w) (c .0))
+    let word : w ≡ countWord (countIn w) = omega (arith, eqb-true (kindOf w) 0 (a .0), eqb-true (spareIn w) 0 (b .0)) in
+    (word, permitted-sound mostFileBatches (countIn w) (c .0))
 
-pub count-complete : (k : ℕ) → IsPermittedTo mostFileBatches k → (countIn (countWord k) ≡ k) × (countTest (countWord k) ≡ Accepted)
+pub count-complete : (k : ℕ) → IsPermittedTo mostFileBatches k
+    → (countIn (countWord k) ≡ k) × (countTest (countWord k) ≡ Accepted)
 unfolding countTest
 count-complete k p =
     let k-is : countIn (countWord k) ≡ k = omega (arith, p .high) in
@@ -88,7 +91,8 @@ pub unpack-elements : (file : List ℕ) (size : ℕ) → 4 ≤ length file → c
 unfolding unpackTest
 unpack-elements file size h e l s = rw (le-leb _ _ h, e, eq-eqb _ _ l, eq-eqb _ _ s)
 
-pub unpack-accepted : (file : List ℕ) (size : ℕ) → unpackTest file size ≡ Accepted → IsBoard file (batchesIn file) × (size ≡ 12 * batchesIn file + 4)
+pub unpack-accepted : (file : List ℕ) (size : ℕ) → unpackTest file size ≡ Accepted
+    → IsBoard file (batchesIn file) × (size ≡ 12 * batchesIn file + 4)
 unfolding unpackTest batchesIn
 unpack-accepted file size e =
     let a = passed (leb 4 (length file)) FileLength _ e in
@@ -113,15 +117,18 @@ batches-is file k h = ap countIn (h .word) ∙ count-complete k (h .permitted) .
 pub unpack-complete : (file : List ℕ) (k : ℕ) → IsBoard file k → unpackTest file (12 * k + 4) ≡ Accepted
 unpack-complete file k h =
     let b = batches-is file k h in
-    unpack-elements file (12 * k + 4) (omega (arith, h .size)) (ap countTest (h .word) ∙ count-complete k (h .permitted) .1) (rw b (h .size)) (rw b)
+    let count = ap countTest (h .word) ∙ count-complete k (h .permitted) .1 in
+    unpack-elements file (12 * k + 4) (omega (arith, h .size)) count (rw b (h .size)) (rw b)
     ∙ rw b (all-accepted file 1 (12 * k + 8) (h .elements))
 
 -- what is returned: the claim, or the refusal
-pub unpack-returns : (file : List ℕ) (size : ℕ) → unpackTest file size ≡ Accepted → unpackAnswer file size ≡ digest-answer.Accepted (digest (claimIn file))
+pub unpack-returns : (file : List ℕ) (size : ℕ) → unpackTest file size ≡ Accepted
+    → unpackAnswer file size ≡ digest-answer.Accepted (digest (claimIn file))
 unfolding unpackAnswer
 unpack-returns file size e = rw e
 
-pub unpack-refuses : (file : List ℕ) (size : ℕ) (r : Refusal) → unpackTest file size ≡ Refused r → unpackAnswer file size ≡ digest-answer.Refused r
+pub unpack-refuses : (file : List ℕ) (size : ℕ) (r : Refusal) → unpackTest file size ≡ Refused r
+    → unpackAnswer file size ≡ digest-answer.Refused r
 unfolding unpackAnswer
 unpack-refuses file size r e = rw e
 

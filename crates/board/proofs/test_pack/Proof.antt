@@ -32,12 +32,14 @@ k p = p .before .k .given .0 .0
 
 permitted : (p : tie.After-known-told) → (tapWordBatches (words p) ≡ k p) × (k p ≤ mostFileBatches)
 permitted p =
-    let t = tap-permitted mostFileBatches (words p) (p .before .before .before .tap-batches .ensures) (p .before .k .given .1) in
+    let b = p .before .before .before in
+    let t = tap-permitted mostFileBatches (words p) (b .tap-batches .ensures) (p .before .k .given .1) in
     let s = tap-length-sound mostFileBatches (words p) (t .0) in
     (t .1, omega (arith, s .1 .high, t .1))
 
 -- what is answered there is left to the destination's length and the words
-counted : (p : tie.After-known-told) {o : Answer} → let taps = entry p .args .taps .now in let claim = entry p .args .t2 in
+counted : (p : tie.After-known-told) {o : Answer} →
+    let taps = entry p .args .taps .now in let claim = entry p .args .t2 in
     o ≡ unless (eqb (entry p .args .size) (fileSize (tapWordBatches (words p)))) DestinationLength
     (unless (canonicalWords claim) (ClaimWord (firstBad claim))
     (unless (canonicalWords taps) (TapWord (firstBad taps)) Accepted))
@@ -53,7 +55,9 @@ roomy : (f : tie.Else1) {o : Answer} →
     o ≡ unless (canonicalWords claim) (ClaimWord (firstBad claim))
     (unless (canonicalWords taps) (TapWord (firstBad taps)) Accepted)
     → o ≡ packTest taps claim (entry p .args .size)
-roomy f e = counted (f .before) (unless-passed _ (eq-eqb _ _ (f .if1 .left ∙ ap fileSize (sym (permitted (f .before) .0)))) e)
+roomy f e =
+    let room = f .if1 .left ∙ ap fileSize (sym (permitted (f .before) .0)) in
+    counted (f .before) (unless-passed _ (eq-eqb _ _ room) e)
 
 -- a claim is four words
 four : (f : tie.Else1) → length (entry (f .before) .args .t2) ≡ 4

@@ -27,7 +27,8 @@ fromLength file size = unless (eqb (length file) (fileSize (batchesIn file))) Fi
 
 -- word 0 is there
 four : (f : tie.Else1) {o : Answer} → let a = f .before .before .args in
-    o ≡ after (countTest (wordAt (a .file .now) 0)) (fromLength (a .file .now) (a .size)) → o ≡ unpackTest (a .file .now) (a .size)
+    o ≡ after (countTest (wordAt (a .file .now) 0)) (fromLength (a .file .now) (a .size))
+    → o ≡ unpackTest (a .file .now) (a .size)
 unfolding unpackTest
 four f e = unless-passed _ (le-leb _ _ (f .if1 .left)) e
 
