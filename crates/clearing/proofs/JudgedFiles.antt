@@ -25,18 +25,20 @@ use Rattle.board.proofs.Answers.{batches-is, unpack-accepted, unpack-complete}
 use Rattle.board.proofs.Round.{board-permitted, board-canonical, taps-length}
 use Rattle.clearing.specs.declared.Outcome.{Outcome}
 use Rattle.clearing.specs.declared.Outcome.the-variants.{Accepted, Refused}
-use Rattle.clearing.specs.Clearing.{tableBytes, longest, rawIn, fileIn, outcomeAfter, checkedTaps, cleared, unprepared}
-use Rattle.clearing.specs.Clearing.{IsJudged, IsUnlike}
+use Rattle.clearing.specs.Clearing.{tableBytes, longest, rawIn, fileIn, outcomeAfter, checkedTaps, cleared}
+use Rattle.clearing.specs.Clearing.{unprepared, IsJudged, IsUnlike}
 use Rattle.clearing.proofs.BuiltTraces.{accepted-chains, refused-last}
 use Rattle.clearing.proofs.Stages.{is-table}
 
 -- ---- what a check comes to
 module _ (T w claim : List ℕ) (k : ℕ) where
-  pub checked-accepted : constraintTest T (trace T w k) claim k ≡ answer.Accepted → checkedTaps T w claim k ≡ Accepted k (372 * k)
+  pub checked-accepted : constraintTest T (trace T w k) claim k ≡ answer.Accepted
+      → checkedTaps T w claim k ≡ Accepted k (372 * k)
   unfolding checkedTaps
   checked-accepted e = ap (λ a. outcomeAfter a (Accepted k (length (tests k)))) e ∙ ap (Accepted k) (length-tests k)
 
-  pub checked-refused : (r : Refusal) → constraintTest T (trace T w k) claim k ≡ answer.Refused r → checkedTaps T w claim k ≡ Refused r
+  pub checked-refused : (r : Refusal) → constraintTest T (trace T w k) claim k ≡ answer.Refused r
+      → checkedTaps T w claim k ≡ Refused r
   unfolding checkedTaps
   checked-refused r e = ap (λ a. outcomeAfter a (Accepted k (length (tests k)))) e
 
@@ -88,20 +90,27 @@ module _ (input T : List ℕ) (k : ℕ) (h : IsJudged input T k) where
       → (c : ℕ) × (n : ℕ) × (r ≡ Constraint (record { 0 = 32 * k - 1 }) c n) × (49 ≤ c) × IsUnlike input k (c - 49)
   answer-refused r e =
       let canonical = trace-canonical T w k judged-size judged-canonical in
-      let f = first-failing T (trace T w k) claim k judged-table judged-permitted (length-trace T w k) canonical four-words (λ a. not-accepted r (sym e ∙ a)) in
-      let l = refused-last T w k judged-table judged-permitted judged-size judged-canonical claim four-words (f .0) (f .1) (f .2) (f .3) in
+      let f =
+      first-failing T (trace T w k) claim k judged-table judged-permitted (length-trace T w k) canonical four-words
+      (λ a. not-accepted r (sym e ∙ a)) in
+      let l =
+      refused-last T w k judged-table judged-permitted judged-size judged-canonical claim four-words
+      (f .0) (f .1) (f .2) (f .3) in
       let last : f .0 ≡ 32 * k - 1 = omega (arith, l .0) in
       let same : r ≡ Constraint (record { 0 = f .0 }) (f .1) (f .2) = one-refusal r _ (sym e ∙ f .3) in
       let word : f .1 - 49 < 4 = omega (arith, l .1, l .2) in
-      (f .1, f .2, same ∙ ap (λ i. Constraint (record { 0 = i }) (f .1) (f .2)) last, l .1, record { table = T; accepted = h; word = word; other = l .3 })
+      let at-last = same ∙ ap (λ i. Constraint (record { 0 = i }) (f .1) (f .2)) last in
+      (f .1, f .2, at-last, l .1, record { table = T; accepted = h; word = word; other = l .3 })
     where
       one-refusal : (q s : Refusal) → answer.Refused q ≡ answer.Refused s → q ≡ s
       one-refusal q s a = cc
 
 -- the answer once the table is prepared: the file's refusal, or that of a check
 pub data Judged (input T : List ℕ) : Outcome → Type 0 where
-  file-refused : (r : Refusal) → unpackTest (fileIn input) (12 * batchesIn (fileIn input) + 4) ≡ answer.Refused r → Judged input T (Refused r)
-  checked-taps : (k : ℕ) → IsJudged input T k → Judged input T (checkedTaps T (tapsIn (fileIn input)) (claimIn (fileIn input)) k)
+  file-refused : (r : Refusal) → unpackTest (fileIn input) (12 * batchesIn (fileIn input) + 4) ≡ answer.Refused r
+      → Judged input T (Refused r)
+  checked-taps : (k : ℕ) → IsJudged input T k
+      → Judged input T (checkedTaps T (tapsIn (fileIn input)) (claimIn (fileIn input)) k)
 
 pub judged-cases : (input T : List ℕ) → tableBytes ≤ length input → length input ≤ longest
     → Prepares (rawIn input) unprepared answer.Accepted T → Judged input T (cleared T (fileIn input))
@@ -114,8 +123,10 @@ judged-cases input T low high p = go (unpackTest file (12 * batchesIn file + 4))
     rest : Outcome
     rest = checkedTaps T (tapsIn file) (claimIn file) (batchesIn file)
 
-    go : (t : Answer) → unpackTest file (12 * batchesIn file + 4) ≡ t → Judged input T (outcomeAfter (unpackTest file (12 * batchesIn file + 4)) rest)
+    go : (t : Answer) → unpackTest file (12 * batchesIn file + 4) ≡ t
+        → Judged input T (outcomeAfter (unpackTest file (12 * batchesIn file + 4)) rest)
     go (answer.Refused r) e = subst (λ t. Judged input T (outcomeAfter t rest)) (sym e) (file-refused r e)
     go answer.Accepted e =
-        let h : IsJudged input T (batchesIn file) = record { low = low; high = high; prepared = p; board = unpack-accepted file (12 * batchesIn file + 4) e .0 } in
+        let board = unpack-accepted file (12 * batchesIn file + 4) e .0 in
+        let h : IsJudged input T (batchesIn file) = record { low = low; high = high; prepared = p; board = board } in
         subst (Judged input T) (sym (judged-answer input T (batchesIn file) h)) (checked-taps (batchesIn file) h)

@@ -62,14 +62,19 @@ reported-after k answer.Accepted n = refl
 reported-after k (answer.Refused r) n = refl
 
 module _ (T w : List ℕ) (table : IsTable T) (taps : Taps w) where
-  pub never-refused : (b : DigestAnswer) (size : ℕ) (r : Refusal) → size ≡ 384 * (tapWordBatches (length w)) → b ≡ buildAnswer T w size → b ≡ Refused r → ⊥
+  pub never-refused : (b : DigestAnswer) (size : ℕ) (r : Refusal)
+      → size ≡ 384 * tapWordBatches (length w) → b ≡ buildAnswer T w size → b ≡ Refused r → ⊥
   never-refused b size r s e q =
-      let accepted : b ≡ Accepted (digest (chain T w (tapWordBatches (length w)))) = e ∙ ap (buildAnswer T w) s ∙ build-accepts T w (tapWordBatches (length w)) table (taps .permitted) (taps .size) (taps .canonical) in
+      let k : ℕ = tapWordBatches (length w) in
+      let built = build-accepts T w k table (taps .permitted) (taps .size) (taps .canonical) in
+      let accepted : b ≡ Accepted (digest (chain T w k)) = e ∙ ap (buildAnswer T w) s ∙ built in
       let z : _≡_ {A = ℕ} 0 1 = cc in
       omega arith
 
-  pub taps-cleared : (claim old t : List ℕ) (a : TestsAnswer) (o : Outcome) → AllCanonical claim → length old ≡ 384 * (tapWordBatches (length w))
-      → t ≡ buildLeaves T w old → a ≡ checkAnswer T t claim → o ≡ reported (tapWordBatches (length w)) a → o ≡ checkedTaps T w claim (tapWordBatches (length w))
+  pub taps-cleared : (claim old t : List ℕ) (a : TestsAnswer) (o : Outcome) → AllCanonical claim
+      → length old ≡ 384 * tapWordBatches (length w)
+      → t ≡ buildLeaves T w old → a ≡ checkAnswer T t claim
+      → o ≡ reported (tapWordBatches (length w)) a → o ≡ checkedTaps T w claim (tapWordBatches (length w))
   unfolding checkedTaps
   taps-cleared claim old t a o good room built checked told =
       let k : ℕ = tapWordBatches (length w) in

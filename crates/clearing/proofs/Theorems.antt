@@ -22,8 +22,9 @@ use Rattle.clearing.specs.declared.Outcome.{Outcome}
 use Rattle.clearing.specs.declared.Outcome.the-variants.{Accepted, Refused, TooLong}
 use Rattle.clearing.specs.Clearing.{tableBytes, longest, rawIn, fileIn, checkedTaps, cleared, unprepared}
 use Rattle.clearing.specs.Clearing.{Clears, short, long, turned-back, judged, IsJudged, IsCleared, IsUnlike}
-use Rattle.clearing.proofs.JudgedFiles.{checked-accepted, checked-refused, judged-answer, judged-table, judged-permitted}
-use Rattle.clearing.proofs.JudgedFiles.{judged-size, judged-canonical, four-words, taps-chain, answer-refused}
+use Rattle.clearing.proofs.JudgedFiles.{checked-accepted, checked-refused, judged-answer, judged-table}
+use Rattle.clearing.proofs.JudgedFiles.{judged-permitted, judged-size, judged-canonical, four-words}
+use Rattle.clearing.proofs.JudgedFiles.{taps-chain, answer-refused}
 use Rattle.clearing.proofs.JudgedFiles.{Judged, file-refused, checked-taps, judged-cases}
 use Rattle.clearing.proofs.BuiltTraces.{chains-accepted}
 use Rattle.clearing.proofs.TurnedBack.{OfTable, OfFile, of-table, of-file}
@@ -93,7 +94,8 @@ accepts-exactly input o k tests c = (to o c, λ s. clears-unique input o (Accept
     check (answer.Refused r) T n h e q = absurd (never r (sym (checked-refused T w claim n r e) ∙ q))
     check answer.Accepted T n h e q =
         let same = accepted n (372 * n) (sym (checked-accepted T w claim n e) ∙ q) in
-        (subst (IsCleared input) (same .0) (record { table = T; accepted = h; chains = taps-chain input T n h e }), omega (arith, same .0, same .1))
+        let chained : IsCleared input n = record { table = T; accepted = h; chains = taps-chain input T n h e } in
+        (subst (IsCleared input) (same .0) chained, omega (arith, same .0, same .1))
 
     after-table : (p : Outcome) (T : List ℕ) → Judged input T p → p ≡ Accepted k tests → IsCleared input k × (tests ≡ 372 * k)
     after-table p T (file-refused r e) q = absurd (never r q)
@@ -109,8 +111,11 @@ accepts-exactly input o k tests c = (to o c, λ s. clears-unique input o (Accept
     from s n =
         let T = s .table in
         let h = s .accepted in
-        let v = chains-accepted T w k (judged-table input T k h) (judged-permitted input T k h) (judged-size input T k h) (judged-canonical input T k h) claim (four-words input T k h) (s .chains) in
-        subst (Clears input) (judged-answer input T k h ∙ checked-accepted T w claim k v ∙ ap (Accepted k) (sym n)) (judged (h .low) (h .high) T (h .prepared))
+        let v =
+        chains-accepted T w k (judged-table input T k h) (judged-permitted input T k h) (judged-size input T k h)
+        (judged-canonical input T k h) claim (four-words input T k h) (s .chains) in
+        let answered = judged-answer input T k h ∙ checked-accepted T w claim k v ∙ ap (Accepted k) (sym n) in
+        subst (Clears input) answered (judged (h .low) (h .high) T (h .prepared))
 
 -- ---- refused
 
@@ -142,7 +147,8 @@ refuses-only input r a = go (Refused r) a refl
     check answer.Accepted T k h e q = absurd (never k (372 * k) (sym (checked-accepted T w claim k e) ∙ q))
     check (answer.Refused s) T k h e q =
         let f = answer-refused input T k h s e in
-        subst (Refuses input) (sym (f .2) ∙ same s (sym (checked-refused T w claim k s e) ∙ q)) (for-claim k (f .0) (f .1) (f .3) (f .4))
+        let told = same s (sym (checked-refused T w claim k s e) ∙ q) in
+        subst (Refuses input) (sym (f .2) ∙ told) (for-claim k (f .0) (f .1) (f .3) (f .4))
 
     after-table : (p : Outcome) (T : List ℕ) → Judged input T p → p ≡ Refused r → Refuses input r
     after-table p T (file-refused s e) q = subst (Refuses input) (same s q) (for-file s (of-file (fileIn input) s e))
@@ -173,7 +179,8 @@ unlike-refused input o k j a u = go (constraintTest T (trace T w k) claim k) ref
     answered : o ≡ checkedTaps T w claim k
     answered = clears-unique input o _ a (judged (h .low) (h .high) T (h .prepared)) ∙ judged-answer input T k h
 
-    go : (v : Answer) → constraintTest T (trace T w k) claim k ≡ v → (c : ℕ) × (tests : ℕ) × (o ≡ Refused (Constraint (record { 0 = 32 * k - 1 }) c tests))
+    go : (v : Answer) → constraintTest T (trace T w k) claim k ≡ v
+        → (c : ℕ) × (tests : ℕ) × (o ≡ Refused (Constraint (record { 0 = 32 * k - 1 }) c tests))
     go answer.Accepted e = absurd (u .other (ap (λ s. cell s j) (taps-chain input T k h e)))
     go (answer.Refused r) e =
         let f = answer-refused input T k h r e in

@@ -41,7 +41,8 @@ length-raw : (input : List ℕ) → length (rawIn input) ≡ rawWords
 unfolding rawIn
 length-raw input = length-tab rawWords (rawWord input)
 
-raw-ends : (raw : List ℕ) (n : ℕ) → length raw ≡ rawWords → n ≡ tableWords → AnswerEnds OfTable (rawTest raw n)
+raw-ends : (raw : List ℕ) (n : ℕ) → length raw ≡ rawWords → n ≡ tableWords
+    → AnswerEnds OfTable (rawTest raw n)
 unfolding rawTest
 raw-ends raw n l room =
     unless-ends OfTable (eqb (length raw) rawWords) TableLength _ (λ e. absurd (eqb-false _ _ e l)) λ e.
@@ -68,7 +69,8 @@ element-ends file j =
 elements-end : (file : List ℕ) (j n : ℕ) → AnswerEnds OfFile (elementsTest file j n)
 unfolding elementsTest
 elements-end file j zero = tt
-elements-end file j (suc n) = after-ends OfFile (elementTest file j) _ (element-ends file j) (λ e. elements-end file (j + 3) n)
+elements-end file j (suc n) =
+    after-ends OfFile (elementTest file j) _ (element-ends file j) (λ e. elements-end file (j + 3) n)
 
 count-ends : (w : ℕ) → AnswerEnds OfFile (countTest w)
 unfolding countTest

@@ -50,9 +50,10 @@ answered u = u .unpack .ensures .0 ∙ ap (unpackAnswer (file u)) (length-part (
 taps-there : (u : tie.After-unpack) (d : Digest) → u .unpack .result ≡ Accepted d → take (size u) (last u ++ drop (size u) (room u)) ≡ tapsIn (file u)
 unfolding unpackLeaves
 taps-there u d q =
+    let accepted = returned (file u) _ d (sym (u .unpack .ensures .0) ∙ q) .0 in
     part-again (room u) (last u) (size u) (fits u) (kept u)
     ∙ u .unpack .ensures .1
-    ∙ ap (λ a. leaves a (tapsIn (file u)) (take (size u) (room u))) (returned (file u) _ d (sym (u .unpack .ensures .0) ∙ q) .0)
+    ∙ ap (λ a. leaves a (tapsIn (file u)) (take (size u) (room u))) accepted
 
 tap-words-requires : tie.Need-tap-words-requires
 tap-words-requires c κs = search needs
