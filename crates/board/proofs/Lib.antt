@@ -1,4 +1,4 @@
-pub mod Cases
+pub mod Answers
 pub mod Files
 pub mod Round
 pub mod Theorems

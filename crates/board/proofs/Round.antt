@@ -10,7 +10,7 @@ use lib.Seq.{take-at, drop-at}
 use Rattle.lists.specs.Lists.{cell, tab}
 use Rattle.words.specs.Words.{AllCanonical}
 use Rattle.words.proofs.Laws.{append-canonical}
-use Rattle.counts.specs.Counts.{IsPermittedTo}
+use Rattle.counts.specs.Counts.{IsPermitted, IsPermittedTo}
 use Rattle.refusals.specs.Refusals.{digest, digestWords}
 use Rattle.refusals.specs.declared.Digest.{Digest}
 use Rattle.elements.specs.Words.{wordAt, AllBytes, bytesOf}
@@ -19,7 +19,7 @@ use Rattle.elements.proofs.Words.{bytes-unique}
 use Rattle.elements.proofs.Laws.{length-words}
 use Rattle.elements.proofs.Round.{read-accepted, read-back, words-back, length-elements, elements-append, elements-canonical}
 use Rattle.board.specs.Board.{mostFileBatches, countWord, fileOf, batchesIn, claimIn, tapsIn, IsBoard}
-use Rattle.board.proofs.Cases.{batches-is}
+use Rattle.board.proofs.Answers.{batches-is}
 use Rattle.board.proofs.Files as files
 
 -- ---- the file of canonical taps and a canonical claim is a board file, and is read as those
@@ -90,6 +90,12 @@ module _ (file : List ℕ) (bytes : AllBytes file) (h : IsBoard file (batchesIn 
 -- the taps stand after the claim's four elements
 pub after-claim : (i : ℕ) → 1 + 3 * (4 + i) ≡ 13 + 3 * i
 after-claim i = omega arith
+
+-- a file's k is permitted for a list of taps and a trace too
+pub board-permitted : (file : List ℕ) (k : ℕ) → IsBoard file k → IsPermitted k
+board-permitted file k h =
+    let p = h .permitted in
+    record { low = p .low; high = omega (arith, p .high); one-bit = p .one-bit }
 
 -- what an accepted file holds
 pub board-canonical : (file : List ℕ) → IsBoard file (batchesIn file) → AllCanonical (claimIn file) × AllCanonical (tapsIn file)

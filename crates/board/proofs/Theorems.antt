@@ -19,8 +19,10 @@ use Rattle.elements.specs.Words.{payloadOf, wordAt, AllBytes, bytesOf}
 use Rattle.elements.specs.Elements.{elementAt}
 use Rattle.elements.proofs.Laws.{no-word}
 use Rattle.elements.proofs.Tests.{too-large, first-refused}
-use Rattle.board.specs.Board.{mostFileBatches, fileOf, packTest, packed, batchesIn, claimIn, tapsIn, unpackAnswer, IsBoard, ReadTo}
-use Rattle.board.proofs.Cases.{pack-accepted, pack-complete, unpack-accepted, unpack-complete, unpack-elements, unpack-returns, unpack-refuses, returned}
+use Rattle.board.specs.Board.{mostFileBatches, fileOf, packTest, packed, batchesIn, claimIn, tapsIn, unpackAnswer}
+use Rattle.board.specs.Board.{IsBoard, ReadTo}
+use Rattle.board.proofs.Answers.{pack-accepted, pack-complete, unpack-accepted, unpack-complete}
+use Rattle.board.proofs.Answers.{unpack-elements, unpack-returns, unpack-refuses, returned}
 use Rattle.board.proofs.Files as files
 use Rattle.board.proofs.Round.{packed-board, packed-claim, packed-taps, board-packs, board-canonical, claim-is, taps-length}
 
@@ -29,7 +31,8 @@ pub file-length : (taps claim : List ℕ) (k : ℕ) → length claim ≡ 4 → l
 file-length taps claim k c t = files.file-length taps claim k c t
 
 -- a packed board file unpacks to its taps and claim
-pub unpack-pack : (taps claim : List ℕ) (k : ℕ) → IsPermittedTo mostFileBatches k → length taps ≡ 12 * k + 4 → AllCanonical taps → length claim ≡ 4 → AllCanonical claim
+pub unpack-pack : (taps claim : List ℕ) (k : ℕ) → IsPermittedTo mostFileBatches k → length taps ≡ 12 * k + 4
+    → AllCanonical taps → length claim ≡ 4 → AllCanonical claim
     → (unpackAnswer (fileOf taps claim k) (length taps) ≡ Accepted (digest claim)) × (tapsIn (fileOf taps claim k) ≡ taps)
 unpack-pack taps claim k p t ts c cs =
     let file : List ℕ = fileOf taps claim k in
@@ -44,11 +47,13 @@ pub unpack-packed : (taps claim : List ℕ) (size : ℕ) → length claim ≡ 4 
 unfolding packed
 unpack-packed taps claim size c e =
     let h = pack-accepted taps claim size e in
-    unpack-pack taps claim (tapWordBatches (length taps)) (h .permitted) (h .taps-size) (h .taps-canonical) c (h .claim-canonical)
+    let k = tapWordBatches (length taps) in
+    unpack-pack taps claim k (h .permitted) (h .taps-size) (h .taps-canonical) c (h .claim-canonical)
 
 -- an accepted file packs to the same bytes
 pub pack-unpack : (file : List ℕ) (size : ℕ) (d : Digest) → AllBytes file → unpackAnswer file size ≡ Accepted d
-    → (packTest (tapsIn file) (digestWords d) (length file) ≡ answer.Accepted) × (packed (tapsIn file) (digestWords d) ≡ file)
+    → (packTest (tapsIn file) (digestWords d) (length file) ≡ answer.Accepted)
+    × (packed (tapsIn file) (digestWords d) ≡ file)
 unfolding packed
 pack-unpack file size d bytes e =
     let r = returned file size d e in
@@ -72,7 +77,8 @@ one-meaning f g m n d bf bg ef eg t =
     sym (pack-unpack f m d bf ef .1) ∙ ap (λ s. packed s (digestWords d)) t ∙ pack-unpack g n d bg eg .1
 
 -- what is accepted are the board files, into a destination of their 12k + 4 words
-pub accepted-board : (file : List ℕ) (size : ℕ) (d : Digest) → unpackAnswer file size ≡ Accepted d → IsBoard file (batchesIn file) × (size ≡ 12 * batchesIn file + 4) × (claimIn file ≡ digestWords d)
+pub accepted-board : (file : List ℕ) (size : ℕ) (d : Digest) → unpackAnswer file size ≡ Accepted d
+    → IsBoard file (batchesIn file) × (size ≡ 12 * batchesIn file + 4) × (claimIn file ≡ digestWords d)
 accepted-board file size d e =
     let r = returned file size d e in
     let h = unpack-accepted file size (r .0) in

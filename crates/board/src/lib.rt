@@ -15,16 +15,14 @@ use refusals::Refusal;
 // The most batches of a file.
 pub const MOST_BATCHES: usize = 1024;
 
-// Writes the board file of the taps and the claim: 5, 8, 9, 6.
-pub fn pack(taps: &[u64], claim: [u64; 4], destination: &mut [u8]) -> Answer
-    ensures { λ r. ⌜ r ≡ packTest (now (taps .entry)) claim (length (now (destination .entry))) ⌝ }
-    ensures { λ _. ⌜ now (destination .exit) ≡ packLeaves (now (taps .entry)) claim (now (destination .entry)) ⌝ }
+// What Pack tests: 5, 8, 9, 6.
+fn test_pack(taps: &[u64], claim: [u64; 4], size: usize) -> Answer
+    ensures { λ r. ⌜ r ≡ packTest (now (taps .entry)) claim size ⌝ }
 {
-    let count = counts::tap_batches(MOST_BATCHES, taps.len());
-    let BatchCount::Permitted(k) = count else {
+    let BatchCount::Permitted(k) = counts::tap_batches(MOST_BATCHES, taps.len()) else {
         return Answer::Refused(Refusal::TapLength);
     };
-    if destination.len() != 144 * k + 100 {
+    if size != 144 * k + 100 {
         return Answer::Refused(Refusal::DestinationLength);
     }
     let bad_claim = words::first_bad(&claim);
@@ -35,7 +33,6 @@ pub fn pack(taps: &[u64], claim: [u64; 4], destination: &mut [u8]) -> Answer
     if bad_tap != taps.len() {
         return Answer::Refused(Refusal::TapWord(bad_tap));
     }
-    write_file(taps, claim, k, destination);
     Answer::Accepted
 }
 
@@ -47,6 +44,19 @@ fn write_file(taps: &[u64], claim: [u64; 4], k: usize, destination: &mut [u8])
     Word::join(0, k as u32).write(0, destination);
     elements::write_all(&claim, 1, destination);
     elements::write_all(taps, 13, destination);
+}
+
+// Pack writes the board file of the taps and the claim when all its tests have passed.
+pub fn pack(taps: &[u64], claim: [u64; 4], destination: &mut [u8]) -> Answer
+    ensures { λ r. ⌜ r ≡ packTest (now (taps .entry)) claim (length (now (destination .entry))) ⌝ }
+    ensures { λ _. ⌜ now (destination .exit) ≡ packLeaves (now (taps .entry)) claim (now (destination .entry)) ⌝ }
+{
+    let tested = test_pack(taps, claim, destination.len());
+    let Answer::Accepted = tested else {
+        return tested;
+    };
+    write_file(taps, claim, taps.len() / 12, destination);
+    Answer::Accepted
 }
 
 // k, in bits 0 to 15 of word 0.
@@ -73,9 +83,8 @@ fn test_count(word: Word) -> Answer
     }
 }
 
-// What reading the whole file finds: 12 (below 4), word 0's 13 then 14, 12, 8, then each element's three kinds and its
-// value.
-fn test_file(file: &[u8], size: usize) -> Answer
+// What Unpack tests: 12 (below 4), word 0's 13 then 14, 12, 8, then each element's three kinds and its value.
+fn test_unpack(file: &[u8], size: usize) -> Answer
     ensures { λ r. ⌜ r ≡ unpackTest (now (file .entry)) size ⌝ }
 {
     if file.len() < 4 {
@@ -96,13 +105,12 @@ fn test_file(file: &[u8], size: usize) -> Answer
     elements::test_all(file, 1, 12 * k + 8)
 }
 
-// Writes the taps of a board file and returns its claim. The whole file is tested before the first word is written, since
-// a refusal alters nothing.
+// Unpack writes the taps of a board file and returns its claim when all its tests have passed.
 pub fn unpack(file: &[u8], destination: &mut [u64]) -> DigestAnswer
     ensures { λ r. ⌜ r ≡ unpackAnswer (now (file .entry)) (length (now (destination .entry))) ⌝ }
     ensures { λ _. ⌜ now (destination .exit) ≡ unpackLeaves (now (file .entry)) (now (destination .entry)) ⌝ }
 {
-    let tested = test_file(file, destination.len());
+    let tested = test_unpack(file, destination.len());
     let Answer::Accepted = tested else {
         return DigestAnswer::Refused(tested.refusal());
     };

@@ -13,12 +13,12 @@ use Rattle.lists.specs.Lists.{cell}
 use Rattle.words.specs.Words.{AllCanonical}
 use Rattle.counts.specs.Counts.{IsPermitted}
 use Rattle.refusals.specs.declared.Refusal.the-variants.{Constraint}
-use Rattle.refusals.specs.declared.Checked.the-variants.{Accepted, Refused}
+use Rattle.refusals.specs.declared.Answer.the-variants.{Accepted, Refused}
 use Rattle.table.specs.Table.{IsTable}
 use Rattle.hash.specs.Hash.{chain}
 use Rattle.trace.specs.Trace.{trace}
 use Rattle.trace.proofs.TraceCells.{length-trace, trace-canonical}
-use Rattle.constraints.specs.Constraints.{applies, holds, row, tests, verdict}
+use Rattle.constraints.specs.Constraints.{applies, holds, row, tests, constraintTest}
 use Rattle.constraints.specs.FirstFailing.{IsFirstFailing}
 use Rattle.constraints.proofs.Equations.{equations-hold}
 use Rattle.constraints.proofs.Families.{Applies, zero-columns, new-zeros, starts, output-kept, goes-on, ends, joins, claims, applies-cases}
@@ -28,7 +28,7 @@ use Rattle.exact.proofs.Built.{meets-equations}
 use Rattle.exact.proofs.Exactness.{reading-off-a-built-trace, one-list-a-trace, accepts-exactly, refuses-exactly}
 
 module _ (T w : List ℕ) (k : ℕ) (table : IsTable T) (permitted : IsPermitted k) (size : length w ≡ 12 * k + 4) (canonical : AllCanonical w) (claim : List ℕ) (four : length claim ≡ 4) where
-  pub accepted-chains : verdict T (trace T w k) claim k ≡ Accepted (372 * k) → chain T w k ≡ claim
+  pub accepted-chains : constraintTest T (trace T w k) claim k ≡ Accepted → chain T w k ≡ claim
   accepted-chains e = go (accepts-exactly T (trace T w k) claim k table permitted (length-trace T w k) (trace-canonical T w k size canonical) four .0 e)
     where
       go : (v : List ℕ) × IsListFor T (trace T w k) claim k v → chain T w k ≡ claim
@@ -36,8 +36,8 @@ module _ (T w : List ℕ) (k : ℕ) (table : IsTable T) (permitted : IsPermitted
           let l = s .1 in
           ap (λ v. chain T v k) (one-list-a-trace T k table permitted w (s .0) size canonical (l .size) (l .canonical) (sym (l .traced))) ∙ l .chains
 
-  pub chains-accepted : chain T w k ≡ claim → verdict T (trace T w k) claim k ≡ Accepted (372 * k)
-  chains-accepted e = sym (ap (λ c. verdict T (trace T w k) c k) e) ∙ reading-off-a-built-trace T k table permitted w size canonical .0
+  pub chains-accepted : chain T w k ≡ claim → constraintTest T (trace T w k) claim k ≡ Accepted
+  chains-accepted e = sym (ap (λ c. constraintTest T (trace T w k) c k) e) ∙ reading-off-a-built-trace T k table permitted w size canonical .0
 
   -- only constraints 49 to 52 look at the claim
   claim-unread : (other : List ℕ) (i c : ℕ) → c ≤ 48 → holds T (trace T w k) claim i c ≡ holds T (trace T w k) other i c
@@ -52,7 +52,7 @@ module _ (T w : List ℕ) (k : ℕ) (table : IsTable T) (permitted : IsPermitted
   own-output : (i c : ℕ) → i < 32 * k → applies k i c ≡ true → holds T (trace T w k) (chain T w k) i c ≡ true
   own-output = equations-hold T (trace T w k) (chain T w k) k (meets-equations T w k table size canonical)
 
-  pub refused-last : (i c n : ℕ) → verdict T (trace T w k) claim k ≡ Refused (Constraint (record { 0 = i }) c n)
+  pub refused-last : (i c n : ℕ) → constraintTest T (trace T w k) claim k ≡ Refused (Constraint (record { 0 = i }) c n)
       → (i + 1 ≡ 32 * k) × (49 ≤ c) × (c < 53) × (cell (chain T w k) (c - 49) ≡ cell claim (c - 49) → ⊥)
   refused-last i c n e = go (decLe c 48)
     where

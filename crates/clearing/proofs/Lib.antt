@@ -1,3 +1,6 @@
+pub mod Decimal
+pub mod Fields
+pub mod Lines
 pub mod RawWords
 pub mod Stages
 pub mod BuiltTraces

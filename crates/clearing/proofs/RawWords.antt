@@ -6,8 +6,8 @@ use Prim.Native.Nat.{ℕ, _+_, _*_, _%_, _^_, _<_}
 use native.Mathlib.Omega.{arith}
 use lib.Bits.{bitOr}
 use Rattle.lists.specs.Lists.{cell, sum}
-use Rattle.fileword.specs.Words.{wordAt}
-use Rattle.fileword.proofs.Shifts.{below}
+use Rattle.elements.specs.Words.{wordAt}
+use Rattle.elements.proofs.Shifts.{below}
 use Rattle.clearing.specs.Clearing.{rawWord}
 
 two-words : (s : List ℕ) (j : ℕ) → rawWord s j ≡ wordAt s (2 * j) + wordAt s (2 * j + 1) * 2 ^ 32

@@ -9,14 +9,17 @@ use borrow.Author.Tests.{ne-eqb}
 use lib.ListN.{length, length-append, length-drop, take, drop}
 use lib.Seq.{length-take-le, take-all, take-at}
 use Rattle.words.specs.Words.{AllCanonical}
+use Rattle.counts.specs.Counts.{tapWordBatches}
 use Rattle.refusals.specs.declared.Refusal.{Refusal}
 use Rattle.refusals.specs.declared.Answer.{Answer}
 use Rattle.refusals.specs.declared.Answer.the-variants as answer
-use Rattle.refusals.specs.declared.Checked.{Checked}
+use Rattle.refusals.specs.declared.TestsAnswer.{TestsAnswer}
 use Rattle.refusals.specs.declared.Digest.{Digest}
-use Rattle.refusals.specs.declared.Digested.{Digested}
-use Rattle.refusals.specs.declared.Digested.the-variants.{Accepted, Refused}
-use Rattle.refusals.specs.Refusals.{digest}
+use Rattle.refusals.specs.declared.DigestAnswer.{DigestAnswer}
+use Rattle.refusals.specs.declared.DigestAnswer.the-variants.{Accepted, Refused}
+use Rattle.refusals.specs.Refusals.{digest, digestWords}
+use Rattle.refusals.specs.Answers.{testsAfter}
+use Rattle.refusals.proofs.Laws.{digest-refused}
 use Rattle.table.specs.Table.{IsTable, Prepares}
 use Rattle.table.proofs.Theorems.{test-sound, prepared-accepted, refused-kept}
 use Rattle.hash.specs.Hash.{chain}
@@ -24,15 +27,17 @@ use Rattle.trace.specs.Trace.{trace}
 use Rattle.trace.specs.Answers.{buildAnswer, buildLeaves}
 use Rattle.trace.proofs.TraceCells.{length-trace, trace-canonical}
 use Rattle.trace.proofs.Theorems.{build-accepts, build-leaves}
+use Rattle.constraints.specs.Constraints.{tests, constraintTest}
 use Rattle.checker.specs.Answers.{checkAnswer}
 use Rattle.checker.proofs.Theorems.{check-verdict}
-use Rattle.board.specs.Board.{fileSize, batchesIn, claimIn, tapsIn, claimOf, unpackTest, unpackAnswer, IsBoard}
-use Rattle.board.proofs.Cases.{unpack-complete}
-use Rattle.board.proofs.Round.{board-canonical, taps-length}
+use Rattle.board.specs.Board.{fileSize, batchesIn, claimIn, tapsIn, unpackTest, unpackAnswer, IsBoard}
+use Rattle.board.proofs.Answers.{unpack-complete}
+use Rattle.board.proofs.Round.{board-permitted, board-canonical, taps-length}
 use Rattle.board.proofs.Theorems.{accepted-board}
-use Rattle.outcome.specs.declared.Outcome.{Outcome}
-use Rattle.outcome.specs.declared.Outcome.the-variants as outcome
-use Rattle.clearing.specs.Clearing.{Taps, rawIn, fileIn, fileAfter, reported, checkedTaps, cleared, unprepared, Clears, turned-back, judged}
+use Rattle.clearing.specs.declared.Outcome.{Outcome}
+use Rattle.clearing.specs.declared.Outcome.the-variants as outcome
+use Rattle.clearing.specs.Clearing.{tableBytes, longest, rawIn, fileIn, outcomeAfter, reported, checkedTaps}
+use Rattle.clearing.specs.Clearing.{cleared, unprepared, Clears, turned-back, judged, Taps}
 
 -- ---- a part of a longer room that was lent and came back
 module _ (room last : List ℕ) (n : ℕ) (fits : n ≤ length room) where
@@ -50,24 +55,35 @@ module _ (room last : List ℕ) (n : ℕ) (fits : n ≤ length room) where
     length-again = ap length part-again ∙ kept ∙ length-part
 
 -- ---- the taps: built and checked
+
+-- what Check's answer comes to, by its tests
+reported-after : (k : ℕ) (a : Answer) (n : ℕ) → reported k (testsAfter a n) ≡ outcomeAfter a (outcome.Accepted k n)
+reported-after k answer.Accepted n = refl
+reported-after k (answer.Refused r) n = refl
+
 module _ (T w : List ℕ) (table : IsTable T) (taps : Taps w) where
-  pub never-refused : (b : Digested) (size : ℕ) (r : Refusal) → size ≡ 384 * (length w / 12) → b ≡ buildAnswer T w size → b ≡ Refused r → ⊥
+  pub never-refused : (b : DigestAnswer) (size : ℕ) (r : Refusal)
+      → size ≡ 384 * tapWordBatches (length w) → b ≡ buildAnswer T w size → b ≡ Refused r → ⊥
   never-refused b size r s e q =
-      let accepted : b ≡ Accepted (digest (chain T w (length w / 12))) = e ∙ ap (buildAnswer T w) s ∙ build-accepts T w (length w / 12) table (taps .permitted) (taps .size) (taps .canonical) in
+      let k : ℕ = tapWordBatches (length w) in
+      let built = build-accepts T w k table (taps .permitted) (taps .size) (taps .canonical) in
+      let accepted : b ≡ Accepted (digest (chain T w k)) = e ∙ ap (buildAnswer T w) s ∙ built in
       let z : _≡_ {A = ℕ} 0 1 = cc in
       omega arith
 
-  pub taps-cleared : (claim old t : List ℕ) (a : Checked) (o : Outcome) → length claim ≡ 4 → AllCanonical claim → length old ≡ 384 * (length w / 12)
-      → t ≡ buildLeaves T w old → a ≡ checkAnswer T t claim → o ≡ reported (length w / 12) a → o ≡ checkedTaps T w claim (length w / 12)
+  pub taps-cleared : (claim old t : List ℕ) (a : TestsAnswer) (o : Outcome) → AllCanonical claim
+      → length old ≡ 384 * tapWordBatches (length w)
+      → t ≡ buildLeaves T w old → a ≡ checkAnswer T t claim
+      → o ≡ reported (tapWordBatches (length w)) a → o ≡ checkedTaps T w claim (tapWordBatches (length w))
   unfolding checkedTaps
-  taps-cleared claim old t a o four good room built checked told =
-      let k : ℕ = length w / 12 in
+  taps-cleared claim old t a o good room built checked told =
+      let k : ℕ = tapWordBatches (length w) in
       let t-is : t ≡ trace T w k = built ∙ build-leaves T w k table (taps .permitted) (taps .size) (taps .canonical) old room in
+      let canonical = trace-canonical T w k (taps .size) (taps .canonical) in
+      let answered = check-verdict T (trace T w k) claim k table (taps .permitted) (length-trace T w k) canonical good in
       told
-      ∙ ap (reported k)
-      (checked
-      ∙ ap (λ s. checkAnswer T s claim) t-is
-      ∙ check-verdict T (trace T w k) claim k table (taps .permitted) (length-trace T w k) (trace-canonical T w k (taps .size) (taps .canonical)) four good)
+      ∙ ap (reported k) (checked ∙ ap (λ s. checkAnswer T s claim) t-is ∙ answered)
+      ∙ reported-after k (constraintTest T (trace T w k) claim k) (length (tests k))
 
 -- ---- the file
 
@@ -84,56 +100,49 @@ any-room file size e = go (ℕ-discrete (length file) (fileSize (batchesIn file)
 
 -- the taps of an accepted file
 module _ (file : List ℕ) (board : IsBoard file (batchesIn file)) where
-  pub batches-are : length (tapsIn file) / 12 ≡ batchesIn file
+  pub batches-are : tapWordBatches (length (tapsIn file)) ≡ batchesIn file
   batches-are = omega (arith, taps-length file)
 
   pub file-taps : length file ≤ 2404 → Taps (tapsIn file)
   file-taps short = record {
     size = omega (arith, taps-length file);
-    permitted = rw batches-are (board .permitted);
+    permitted = rw batches-are (board-permitted file (batchesIn file) board);
     few = omega (arith, taps-length file, board .size);
     canonical = board-canonical file board .1;
   }
 
 -- unpacked into the room that its length gives
-module _ (T file : List ℕ) (size : ℕ) (room : size ≡ length file / 12 - 4) (a : Digested) (e : a ≡ unpackAnswer file size) where
-  pub file-board : (d : Digest) → a ≡ Accepted d → IsBoard file (batchesIn file) × (claimIn file ≡ claimOf d)
+module _ (T file : List ℕ) (size : ℕ) (room : size ≡ length file / 12 - 4) (a : DigestAnswer) (e : a ≡ unpackAnswer file size) where
+  pub file-board : (d : Digest) → a ≡ Accepted d → IsBoard file (batchesIn file) × (claimIn file ≡ digestWords d)
   file-board d q =
       let b = accepted-board file size d (sym e ∙ q) in
       (b .0, b .2)
 
-  pub file-cleared : (d : Digest) → a ≡ Accepted d → (w : List ℕ) (o : Outcome) → w ≡ tapsIn file → o ≡ checkedTaps T w (claimOf d) (length w / 12) → o ≡ cleared T file
+  pub file-cleared : (d : Digest) → a ≡ Accepted d → (w : List ℕ) (o : Outcome) → w ≡ tapsIn file → o ≡ checkedTaps T w (digestWords d) (tapWordBatches (length w)) → o ≡ cleared T file
   unfolding cleared
   file-cleared d q w o taps told =
       let b = file-board d q in
       told
-      ∙ ap (λ s. checkedTaps T s (claimOf d) (length s / 12)) taps
-      ∙ ap (checkedTaps T (tapsIn file) (claimOf d)) (batches-are file (b .0))
+      ∙ ap (λ s. checkedTaps T s (digestWords d) (tapWordBatches (length s))) taps
+      ∙ ap (checkedTaps T (tapsIn file) (digestWords d)) (batches-are file (b .0))
       ∙ ap (λ s. checkedTaps T (tapsIn file) s (batchesIn file)) (sym (b .1))
-      ∙ sym (ap (λ t. fileAfter t (checkedTaps T (tapsIn file) (claimIn file) (batchesIn file))) (unpack-complete file (batchesIn file) (b .0)))
+      ∙ sym (ap (λ t. outcomeAfter t (checkedTaps T (tapsIn file) (claimIn file) (batchesIn file))) (unpack-complete file (batchesIn file) (b .0)))
 
   pub file-refused : (r : Refusal) → a ≡ Refused r → outcome.Refused r ≡ cleared T file
   unfolding cleared unpackAnswer
-  file-refused r q = go (unpackTest file size) refl
-    where
-      rest : Outcome
-      rest = checkedTaps T (tapsIn file) (claimIn file) (batchesIn file)
-
-      go : (t : Answer) → unpackTest file size ≡ t → outcome.Refused r ≡ fileAfter (unpackTest file (12 * batchesIn file + 4)) rest
-      go answer.Accepted p = absurd (let y : a ≡ Accepted (digest (claimIn file)) = e ∙ rw p in let z : _≡_ {A = ℕ} 0 1 = cc in omega arith)
-      go (answer.Refused s) p =
-          let y : a ≡ Refused s = e ∙ rw p in
-          let same : r ≡ s = cc in
-          ap outcome.Refused same ∙ sym (ap (λ t. fileAfter t rest) (sym (any-room file size room) ∙ p))
+  file-refused r q =
+      let tested = digest-refused (unpackTest file size) (digest (claimIn file)) r (sym e ∙ q) in
+      let rest = checkedTaps T (tapsIn file) (claimIn file) (batchesIn file) in
+      sym (ap (λ t. outcomeAfter t rest) (sym (any-room file size room) ∙ tested))
 
 -- ---- the input
 
 -- what is left after the table
-pub rest-file : (input : List ℕ) → take (length input - 3168) (drop 3168 input) ≡ fileIn input
+pub rest-file : (input : List ℕ) → take (length input - tableBytes) (drop tableBytes input) ≡ fileIn input
 unfolding fileIn
-rest-file input = take-all (length input - 3168) (drop 3168 input) (omega (arith, length-drop 3168 input))
+rest-file input = take-all (length input - tableBytes) (drop tableBytes input) (omega (arith, length-drop tableBytes input))
 
-module _ (input old T : List ℕ) (a : Answer) (low : 3168 ≤ length input) (high : length input ≤ 5572) (room : old ≡ unprepared) (prepares : Prepares (rawIn input) old a T) where
+module _ (input old T : List ℕ) (a : Answer) (low : tableBytes ≤ length input) (high : length input ≤ longest) (room : old ≡ unprepared) (prepares : Prepares (rawIn input) old a T) where
   pub is-table : a ≡ answer.Accepted → IsTable T
   is-table e = test-sound T (prepared-accepted (rawIn input) old T (subst (λ b. Prepares (rawIn input) old b T) e prepares))
 

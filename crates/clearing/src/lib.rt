@@ -1,20 +1,31 @@
-// What the program does, from the bytes on its standard input to its answer (document 01, "The board file").
+// What the program does, from the bytes on its standard input to its answer and the line that tells it (document 01,
+// "The board file").
 ghost use mathlib.Core.Path.{_≡_};
 ghost use Prim.Native.Nat.{_+_, _*_, _/_, _-_, _≤_};
 ghost use lib.ListN.{length};
 ghost use Rattle.words.specs.Words.{AllCanonical};
+ghost use Rattle.counts.specs.Counts.{tapWordBatches};
+ghost use Rattle.refusals.specs.Refusals.{digestWords};
 ghost use Rattle.table.specs.Table.{rawWords, IsTable, Prepares};
-ghost use Rattle.board.specs.Board.{claimOf};
-ghost use Rattle.clearing.specs.Clearing.{rawBytes, rawWord, rawIn, reported, checkedTaps, cleared, unprepared, Clears, Taps};
-use fileword::Word;
-use outcome::Outcome;
+ghost use Rattle.clearing.specs.Clearing.{tableBytes, rawWord, rawIn, reported, checkedTaps, cleared};
+ghost use Rattle.clearing.specs.Clearing.{unprepared, Clears, Taps};
+use elements::Word;
 use refusals::Answer;
-use refusals::Checked;
 use refusals::Digest;
-use refusals::Digested;
+use refusals::DigestAnswer;
 use refusals::Refusal;
+use refusals::TestsAnswer;
 
-// A raw table, of 8 bytes a word.
+pub mod line;
+
+// The program's answer.
+pub enum Outcome {
+    Accepted { batches: usize, tests: usize },
+    Refused(Refusal),
+    TooLong,
+}
+
+// A raw table, 8 bytes a word.
 const TABLE_BYTES: usize = table::RAW_WORDS * 8;
 
 // The longest input: a table, and a file of 16 batches.
@@ -32,7 +43,7 @@ fn raw_word(input: &[u8], j: usize) -> u64
 
 // The raw table, with which the input begins.
 fn read_table(input: &[u8], raw: &mut [u64])
-    requires { ⌜ (rawBytes ≤ length (now input)) × (length (now raw) ≡ rawWords) ⌝ }
+    requires { ⌜ (tableBytes ≤ length (now input)) × (length (now raw) ≡ rawWords) ⌝ }
     ensures { λ r. ⌜ now (raw .exit) ≡ rawIn (now (input .entry)) ⌝ }
 {
     let mut j: usize = 0;
@@ -44,7 +55,7 @@ fn read_table(input: &[u8], raw: &mut [u64])
 
 // Prepares the raw table.
 fn prepare(input: &[u8], table: &mut [u64]) -> Answer
-    requires { ⌜ rawBytes ≤ length (now input) ⌝ }
+    requires { ⌜ tableBytes ≤ length (now input) ⌝ }
     ensures { λ r. ⌜ Prepares (rawIn (now (input .entry))) (now (table .entry)) r (now (table .exit)) ⌝ }
 {
     let mut raw = [0u64; table::RAW_WORDS];
@@ -72,29 +83,30 @@ fn trace_room() -> [u64; 6144]
 }
 
 // What a check of k batches comes to.
-fn reported(k: usize, checked: Checked) -> Outcome
+fn reported(k: usize, checked: TestsAnswer) -> Outcome
     ensures { λ r. ⌜ r ≡ reported k checked ⌝ }
 {
     match checked {
-        Checked::Accepted(tests) => Outcome::Accepted { batches: k, tests },
-        Checked::Refused(refusal) => Outcome::Refused(refusal),
+        TestsAnswer::Accepted(tests) => Outcome::Accepted { batches: k, tests },
+        TestsAnswer::Refused(refusal) => Outcome::Refused(refusal),
     }
 }
 
 // Builds the trace of the taps and checks it against the claim.
 fn clear_taps(table: &[u64], taps: &[u64], claim: Digest) -> Outcome
-    requires { ⌜ IsTable (now table) × Taps (now taps) × AllCanonical (claimOf claim) ⌝ }
-    ensures { λ r. ⌜ r ≡ checkedTaps (now (table .entry)) (now (taps .entry)) (claimOf claim) (length (now (taps .entry)) / 12) ⌝ }
+    requires { ⌜ IsTable (now table) × Taps (now taps) × AllCanonical (digestWords claim) ⌝ }
+    ensures { λ r. ⌜ r ≡ checkedTaps (now (table .entry)) (now (taps .entry)) (digestWords claim)
+        (tapWordBatches (length (now (taps .entry)))) ⌝ }
 {
     let k = taps.len() / 12;
     let cells = 384 * k;
     let mut rows = trace_room();
     match trace::build(table, taps, &mut rows[..cells]) {
-        Digested::Accepted(_) => {
+        DigestAnswer::Accepted(_) => {
             let words = [claim.0, claim.1, claim.2, claim.3];
             reported(k, checker::check(table, &rows[..cells], words))
         }
-        Digested::Refused(refusal) => Outcome::Refused(refusal),
+        DigestAnswer::Refused(refusal) => Outcome::Refused(refusal),
     }
 }
 
@@ -106,7 +118,8 @@ fn tap_words(bytes: usize) -> usize
     if bytes < 48 { 0 } else { bytes / 12 - 4 }
 }
 
-// Unpacks the file and clears its taps. For a file of another length than 144k + 100 the destination does not matter: Unpack tests 12 before 8.
+// Unpacks the file and clears its taps. For a file of another length than 144k + 100 the destination does not matter:
+// Unpack tests 12 before 8.
 fn clear_file(table: &[u64], file: &[u8]) -> Outcome
     requires { ⌜ IsTable (now table) × (length (now file) ≤ 2404) ⌝ }
     ensures { λ r. ⌜ r ≡ cleared (now (table .entry)) (now (file .entry)) ⌝ }
@@ -114,8 +127,8 @@ fn clear_file(table: &[u64], file: &[u8]) -> Outcome
     let size = tap_words(file.len());
     let mut taps = tap_room();
     match board::unpack(file, &mut taps[..size]) {
-        Digested::Accepted(claim) => clear_taps(table, &taps[..size], claim),
-        Digested::Refused(refusal) => Outcome::Refused(refusal),
+        DigestAnswer::Accepted(claim) => clear_taps(table, &taps[..size], claim),
+        DigestAnswer::Refused(refusal) => Outcome::Refused(refusal),
     }
 }
 

@@ -1,4 +1,5 @@
--- The board file's words (document 01, "The board file": 32-bit words, low byte first; the top two bits are the word's kind).
+-- The board file's words (document 01, "The board file": 32-bit words, low byte first; the top two bits are the word's
+-- kind).
 -- Assumes nothing.
 use mathlib.Core.List.{List, [], _∷_}
 use Prim.Native.Nat.{ℕ, _+_, _*_, _/_, _%_, _^_, _<_}

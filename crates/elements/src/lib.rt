@@ -1,5 +1,5 @@
-// The board file's words and elements (document 01, "The board file"): 32-bit words, low byte first, the top two bits of each
-// its kind; an element is three of them. An index counts words of the file, from word 0.
+// The board file's words and elements (document 01, "The board file"): 32-bit words, low byte first, the top two bits of
+// each its kind; an element is three of them. An index counts words of the file, from word 0.
 ghost use mathlib.Core.Path.{_≡_};
 ghost use Prim.Native.Nat.{ℕ, _+_, _*_, _^_, _≤_, _<_};
 ghost use lib.ListN.{length};

@@ -1,27 +1,52 @@
--- `board::test_count` meets its contract: the kind, the spare bits, then k.
+-- `board::test_count`: the kind, the spare bits, then k.
 -- Assumes nothing.
-use mathlib.Core.Path.{sym, ap, _∙_}
+use mathlib.Core.Path.{_≡_, refl, sym, ap, _∙_}
 use Prim.Native.Nat.{_/_, _^_}
-use Rattle.counts.specs.Counts.{permitted}
-use Rattle.board.specs.Board.{mostFileBatches}
-use Rattle.board.proofs.Cases.{count-kind, count-spare, count-value, count-accepts}
 use borrow.Author.Needs.{needs}
+use borrow.Author.Tests.{eq-eqb, ne-eqb}
+use lib.Dec.{eqb}
+use Rattle.counts.specs.Counts.{permitted}
+use Rattle.refusals.specs.Answers.{unless}
+use Rattle.refusals.specs.declared.Refusal.the-variants.{WrongValue}
+use Rattle.refusals.specs.declared.Answer.{Answer}
+use Rattle.refusals.specs.declared.Answer.the-variants.{Accepted}
+use Rattle.refusals.proofs.Laws.{unless-refused, unless-passed}
+use Rattle.board.specs.Board.{mostFileBatches, countIn, spareIn, countTest}
 use Rattle.board.proofs.test_count.Statement.{statement}
 use Rattle.board.proofs.test_count.Tie as tie
+
+-- what is answered there is left to the spare bits and k
+kinded : (f : tie.Else1) {o : Answer} → let w = f .before .before .args .word .0 in
+    o ≡ unless (eqb (spareIn w) 0) (WrongValue 0) (unless (permitted mostFileBatches (countIn w)) (WrongValue 0) Accepted)
+    → o ≡ countTest w
+unfolding countTest
+kinded f e = unless-passed _ (eq-eqb _ _ (sym (f .before .kind .ensures) ∙ f .if1 .left)) e
+
+-- and here to k
+spared : (f : tie.Else2) {o : Answer} → let w = f .before .before .before .before .args .word .0 in
+    o ≡ unless (permitted mostFileBatches (countIn w)) (WrongValue 0) Accepted → o ≡ countTest w
+spared f e =
+    let spare = ap (λ p. p / 2 ^ 16) (f .before .payload .ensures) in
+    kinded (f .before .before) (unless-passed _ (eq-eqb _ _ (sym spare ∙ f .if2 .left)) e)
+
+decided : (a : tie.After-is-permitted) → let w = a .before .before .before .before .before .before .args .word .0 in
+    permitted mostFileBatches (countIn w) ≡ a .is-permitted .result
+decided a = ap (permitted mostFileBatches) (sym (a .before .count-in .ensures)) ∙ sym (a .is-permitted .ensures)
 
 kind-requires : tie.Need-kind-requires
 kind-requires c κs = search needs
 
 returns : tie.Need-returns
-returns c = sym (count-kind _ (λ e. c .if1 .taken (c .before .kind .ensures ∙ e)))
+unfolding countTest
+returns c = unless-refused _ (ne-eqb _ _ (λ e. c .if1 .taken (c .before .kind .ensures ∙ e))) refl
 
 payload-requires : tie.Need-payload-requires
 payload-requires c κs = search needs
 
 returns-2 : tie.Need-returns-2
 returns-2 c =
-    let one = c .before .before in
-    sym (count-spare _ (sym (one .before .kind .ensures) ∙ one .if1 .left) (λ e. c .if2 .taken (ap (λ p. p / 2 ^ 16) (c .before .payload .ensures) ∙ e)))
+    let spare = ap (λ p. p / 2 ^ 16) (c .before .payload .ensures) in
+    kinded (c .before .before) (unless-refused _ (ne-eqb _ _ (λ e. c .if2 .taken (spare ∙ e))) refl)
 
 count-in-requires : tie.Need-count-in-requires
 count-in-requires c κs = search needs
@@ -30,18 +55,10 @@ is-permitted-requires : tie.Need-is-permitted-requires
 is-permitted-requires c κs = search needs
 
 returns-3 : tie.Need-returns-3
-returns-3 c =
-    let asked = c .before in
-    let two = asked .before .before in
-    let one = two .before .before in
-    sym (count-accepts _ (sym (one .before .kind .ensures) ∙ one .if1 .left) (sym (ap (λ p. p / 2 ^ 16) (two .before .payload .ensures)) ∙ two .if2 .left) (ap (permitted mostFileBatches) (sym (asked .before .count-in .ensures)) ∙ sym (asked .is-permitted .ensures) ∙ c .if3 .taken))
+returns-3 c = spared (c .before .before .before) (unless-passed _ (decided (c .before) ∙ c .if3 .taken) refl)
 
 returns-4 : tie.Need-returns-4
-returns-4 c =
-    let asked = c .before in
-    let two = asked .before .before in
-    let one = two .before .before in
-    sym (count-value _ (sym (one .before .kind .ensures) ∙ one .if1 .left) (sym (ap (λ p. p / 2 ^ 16) (two .before .payload .ensures)) ∙ two .if2 .left) (ap (permitted mostFileBatches) (sym (asked .before .count-in .ensures)) ∙ sym (asked .is-permitted .ensures) ∙ c .if3 .left))
+returns-4 c = spared (c .before .before .before) (unless-refused _ (decided (c .before) ∙ c .if3 .left) refl)
 
 pub test-count-spec : {M : Type 1} → statement M
 test-count-spec =

@@ -1,4 +1,4 @@
--- `board::unpack` meets its contract: nothing is written before the whole file is accepted.
+-- `board::unpack`: nothing is written before all tests have passed; then the taps are, and the claim is returned.
 -- Assumes nothing.
 use mathlib.Core.Path.{_≡_, sym, _∙_}
 use Prim.Native.Nat.{ℕ, _+_, _*_, _≤_, _<_}
@@ -8,8 +8,9 @@ use lib.ListN.{length}
 use Rattle.lists.specs.Lists.{tab}
 use Rattle.field.specs.Field.{P}
 use Rattle.elements.specs.Elements.{elementAt, elementsAt}
-use Rattle.board.specs.Board.{batchesIn, claimIn, tapsIn, IsBoard}
-use Rattle.board.proofs.Cases.{unpack-accepted, unpack-turned-back, unpack-written}
+use Rattle.refusals.proofs.Laws.{digest-turned-back, digest-returned, leaves-old, leaves-new}
+use Rattle.board.specs.Board.{batchesIn, claimIn, tapsIn, unpackAnswer, unpackLeaves, IsBoard}
+use Rattle.board.proofs.Answers.{unpack-accepted}
 use Rattle.board.proofs.Round.{after-claim}
 use borrow.Author.Needs.{needs}
 use Rattle.board.proofs.unpack.Statement.{statement}
@@ -20,14 +21,14 @@ abbrev start : tie.After-enum-told → tie.Start
 start c = c .before .before .before .before .before
 
 board : (c : tie.After-enum-told) → let file = start c .args .file .now in IsBoard file (batchesIn file) × (length (start c .args .destination .now) ≡ 12 * batchesIn file + 4)
-board c = unpack-accepted _ _ (sym (c .before .before .test-file .ensures) ∙ c .enum-told .given .1)
+board c = unpack-accepted _ _ (sym (c .before .before .test-unpack .ensures) ∙ c .enum-told .given .1)
 
 -- so the four elements of the claim are there, and canonical
 element : (c : tie.After-enum-told) (i : ℕ) → i < 4 → (4 * (1 + 3 * i) + 12 ≤ length (start c .args .file .now)) × (elementAt (start c .args .file .now) (1 + 3 * i) < P)
 element c i h = (omega (arith, board c .0 .size), board c .0 .elements i (omega arith) .value)
 
-test-file-requires : tie.Need-test-file-requires
-test-file-requires c κs = search needs
+test-unpack-requires : tie.Need-test-unpack-requires
+test-unpack-requires c κs = search needs
 
 enum-told : tie.Need-enum-told
 enum-told c = search needs
@@ -39,7 +40,11 @@ refusal-requires : tie.Need-refusal-requires
 refusal-requires c κs = (c .enum-told2 .given .0 .0, c .enum-told2 .given .1)
 
 returns : tie.Need-returns
-returns c = unpack-turned-back _ _ (sym (c .before .before .before .test-file .ensures) ∙ c .refusal .ensures)
+unfolding unpackAnswer unpackLeaves
+returns c =
+    let e = c .before .before .before .test-unpack .ensures in
+    let r = c .refusal .ensures in
+    (digest-turned-back e _ r, leaves-old e _ r)
 
 read-requires : tie.Need-read-requires
 read-requires c κs = element c 0 (lit< tt)
@@ -62,26 +67,26 @@ same-length : tie.Need-same-length
 same-length c = search needs
 
 returns-2 : tie.Need-returns-2
-unfolding claimIn tapsIn elementsAt tab
+unfolding claimIn tapsIn elementsAt tab unpackAnswer unpackLeaves
 returns-2 c =
     let read = c .before .before .before .before in
     let told = read .before .before .before .before in
-    let accepted = sym (told .before .before .test-file .ensures) ∙ told .enum-told .given .1 in
-    let left = unpack-written _ _ accepted (c .before .before .read-all .ensures ∙ rw (board told .1)) in (
-      rw (
+    let e = told .before .before .test-unpack .ensures in
+    let a = told .enum-told .given .1 in (
+      digest-returned e a (rw (
         read .before .before .before .read .ensures,
         read .before .before .read2 .ensures,
         read .before .read3 .ensures,
         read .read4 .ensures,
-      ) (left .0),
-      left .1,
+      )),
+      leaves-new e _ a (c .before .before .read-all .ensures ∙ rw (board told .1)),
     )
 
 pub unpack-spec : {M : Type 1} → statement M
 unpack-spec =
     tie.close
     (tie.spec
-    test-file-requires
+    test-unpack-requires
     enum-told
     enum-told-2
     refusal-requires

@@ -5,7 +5,7 @@ use Prim.Native.Nat.{ℕ, _-_, _≤_}
 use native.Mathlib.Omega.{arith}
 use lib.ListN.{length, drop, length-take}
 use borrow.Author.Needs.{needs}
-use Rattle.clearing.specs.Clearing.{short, long}
+use Rattle.clearing.specs.Clearing.{tableBytes, longest, short, long}
 use Rattle.clearing.proofs.Stages.{rest-file, is-table, file-judged, table-turned-back}
 use Rattle.clearing.proofs.clear.Statement.{statement}
 use Rattle.clearing.proofs.clear.Tie as tie
@@ -17,10 +17,10 @@ start p = p .before .before .before .before .before .before
 abbrev input : tie.After-prepare → List ℕ
 input p = start p .args .input .now
 
-low : (p : tie.After-prepare) → 3168 ≤ length (input p)
+low : (p : tie.After-prepare) → tableBytes ≤ length (input p)
 low p = p .before .before .before .before .if1 .left
 
-high : (p : tie.After-prepare) → length (input p) ≤ 5572
+high : (p : tie.After-prepare) → length (input p) ≤ longest
 high p = p .before .before .before .if2 .left
 
 returns : tie.Need-returns
@@ -56,7 +56,7 @@ part-clear-file-end c = search needs
 clear-file-requires : tie.Need-clear-file-requires
 clear-file-requires c κs =
     let p = c .before .before .before .before .before in
-    (is-table (input p) _ _ _ (low p) (high p) (p .before .before .table-room .ensures) (p .prepare .ensures) (c .before .before .enum-told .given .1), omega (arith, length-take (length (input p) - 3168) (drop 3168 (input p)), high p))
+    (is-table (input p) _ _ _ (low p) (high p) (p .before .before .table-room .ensures) (p .prepare .ensures) (c .before .before .enum-told .given .1), omega (arith, length-take (length (input p) - tableBytes) (drop tableBytes (input p)), high p))
 
 enum-known-refusal : tie.Need-enum-known-refusal
 enum-known-refusal c = search needs

@@ -7,10 +7,11 @@ use native.Mathlib.Omega.{arith}
 use lib.ListN.{length, take, drop}
 use borrow.Author.Needs.{needs}
 use Rattle.words.specs.Words.{AllCanonical}
-use Rattle.refusals.specs.Refusals.{digestedKept}
+use Rattle.refusals.specs.Answers.{leaves}
 use Rattle.refusals.specs.declared.Digest.{Digest}
-use Rattle.refusals.specs.declared.Digested.the-variants.{Accepted}
+use Rattle.refusals.specs.declared.DigestAnswer.the-variants.{Accepted}
 use Rattle.board.specs.Board.{tapsIn, unpackAnswer, unpackLeaves}
+use Rattle.board.proofs.Answers.{returned}
 use Rattle.board.proofs.Round.{board-canonical}
 use Rattle.clearing.specs.Clearing.{Taps}
 use Rattle.clearing.proofs.Stages.{length-part, part-again, part-within, length-again, file-taps, file-board, file-cleared, file-refused}
@@ -49,9 +50,10 @@ answered u = u .unpack .ensures .0 ∙ ap (unpackAnswer (file u)) (length-part (
 taps-there : (u : tie.After-unpack) (d : Digest) → u .unpack .result ≡ Accepted d → take (size u) (last u ++ drop (size u) (room u)) ≡ tapsIn (file u)
 unfolding unpackLeaves
 taps-there u d q =
+    let accepted = returned (file u) _ d (sym (u .unpack .ensures .0) ∙ q) .0 in
     part-again (room u) (last u) (size u) (fits u) (kept u)
     ∙ u .unpack .ensures .1
-    ∙ ap (λ a. digestedKept a (tapsIn (file u)) (take (size u) (room u))) (sym (u .unpack .ensures .0) ∙ q)
+    ∙ ap (λ a. leaves a (tapsIn (file u)) (take (size u) (room u))) accepted
 
 tap-words-requires : tie.Need-tap-words-requires
 tap-words-requires c κs = search needs

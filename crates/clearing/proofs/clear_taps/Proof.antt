@@ -1,12 +1,12 @@
 -- `clearing::clear_taps` meets its contract: Build accepts such taps, and Check has only the walk left to do.
 -- Assumes nothing.
-use mathlib.Core.Path.{_≡_, refl, sym, ap, _∙_}
+use mathlib.Core.Path.{_≡_, sym, ap, _∙_}
 use mathlib.Core.List.{List}
 use Prim.Native.Nat.{ℕ, _*_, _/_, _≤_}
 use native.Mathlib.Omega.{arith}
 use lib.ListN.{length, take}
 use borrow.Author.Needs.{needs}
-use Rattle.board.specs.Board.{claimOf}
+use Rattle.refusals.specs.Refusals.{digestWords}
 use Rattle.checker.specs.Answers.{checkAnswer}
 use Rattle.clearing.proofs.Stages.{length-part, part-again, part-within, length-again, never-refused, taps-cleared}
 use Rattle.clearing.proofs.clear_taps.Statement.{statement}
@@ -78,8 +78,8 @@ returns : tie.Need-returns
 returns c =
     let b = c .before .before .before .before .before .before in
     let part = part-again (room b) (last b) (size b) (fits b) (kept b) in
-    let checked = c .before .check .ensures ∙ ap (λ t. checkAnswer (start b .args .table .now) t (claimOf (start b .args .claim))) part in
-    taps-cleared (start b .args .table .now) (taps b) (start b .pre .0) (start b .pre .1) (claimOf (start b .args .claim)) (take (size b) (room b)) (last b) _ _ refl (start b .pre .2)
+    let checked = c .before .check .ensures ∙ ap (λ t. checkAnswer (start b .args .table .now) t (digestWords (start b .args .claim))) part in
+    taps-cleared (start b .args .table .now) (taps b) (start b .pre .0) (start b .pre .1) (digestWords (start b .args .claim)) (take (size b) (room b)) (last b) _ _ (start b .pre .2)
     (length-part (room b) (last b) (size b) (fits b)) (b .build .ensures .1) checked (c .reported .ensures)
 
 returns-2 : tie.Need-returns-2

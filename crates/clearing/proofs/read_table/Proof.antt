@@ -6,15 +6,16 @@ use native.Mathlib.Omega.{arith}
 use lib.ListN.{length, length-set}
 use borrow.Author.Needs.{needs}
 use Rattle.lists.proofs.Tab.{filled, filled-none, filled-more, filled-all}
+use Rattle.table.specs.Table.{rawWords}
 use Rattle.clearing.specs.Clearing.{rawWord, rawIn}
 use Rattle.clearing.proofs.read_table.Statement.{statement}
 use Rattle.clearing.proofs.read_table.Tie as tie
 
 abbrev Inv-loop : tie.InvT-loop
-Inv-loop input raw₀ j₀ raw j = (j ≤ 396) × (length raw ≡ 396) × (raw ≡ filled j (rawWord input) raw₀)
+Inv-loop input raw₀ j₀ raw j = (j ≤ rawWords) × (length raw ≡ rawWords) × (raw ≡ filled j (rawWord input) raw₀)
 
 abbrev μ-loop : tie.MeasureT-loop
-μ-loop input raw₀ j₀ raw j = 396 - j
+μ-loop input raw₀ j₀ raw j = rawWords - j
 
 loop-holds : tie.Need-loop-holds Inv-loop μ-loop
 loop-holds c = (omega arith, c .before .before .pre .1, filled-none _ _)
@@ -47,8 +48,8 @@ returns : tie.Need-returns Inv-loop μ-loop
 unfolding rawIn
 returns c =
     let l = c .before .loop in
-    let e : l .j ≡ 396 = omega arith in
-    l .inv .2 ∙ rw e (filled-all 396 _ _ (c .before .before .before .before .pre .1))
+    let e : l .j ≡ rawWords = omega arith in
+    l .inv .2 ∙ rw e (filled-all rawWords _ _ (c .before .before .before .before .pre .1))
 
 pub read-table-spec : {M : Type 1} → statement M
 read-table-spec =

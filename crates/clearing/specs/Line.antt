@@ -9,8 +9,8 @@ use lib.Dec.{eqb, ltb}
 use Rattle.lists.specs.Lists.{choose, each}
 use Rattle.refusals.specs.Refusals.{told}
 use Rattle.refusals.specs.declared.Particulars.{Particulars}
-use Rattle.outcome.specs.declared.Outcome.{Outcome}
-use Rattle.outcome.specs.declared.Outcome.the-variants.{Accepted, Refused, TooLong}
+use Rattle.clearing.specs.declared.Outcome.{Outcome}
+use Rattle.clearing.specs.declared.Outcome.the-variants.{Accepted, Refused, TooLong}
 
 -- the bytes of a text
 abbrev pub ascii : String → List ℕ

@@ -1,18 +1,12 @@
-// The program's answer, and the line that tells it (document 01, "The board file").
+// The one line that tells the program's answer (document 01, "The board file").
 ghost use mathlib.Core.Path.{_≡_};
 ghost use mathlib.Core.List.{_++_};
 ghost use Prim.Native.Nat.{_+_, _≤_};
 ghost use lib.ListN.{length, drop};
 ghost use lib.Seq.{sets};
-ghost use Rattle.outcome.specs.Line.{ascii, decimal, fields, line, numbersOf, textOf};
+ghost use Rattle.clearing.specs.Line.{ascii, decimal, fields, line, numbersOf, textOf};
+use super::Outcome;
 use refusals::Particulars;
-use refusals::Refusal;
-
-pub enum Outcome {
-    Accepted { batches: usize, tests: usize },
-    Refused(Refusal),
-    TooLong,
-}
 
 // n in decimal, from `at` on. The place after it.
 fn put_number(n: usize, out: &mut [u8], at: usize) -> usize

@@ -14,10 +14,10 @@ use Rattle.lists.proofs.Each.{each-append}
 use Rattle.lists.proofs.Stores.{sets-append}
 use Rattle.refusals.specs.Refusals.{told}
 use Rattle.refusals.specs.declared.Particulars.{Particulars}
-use Rattle.outcome.specs.declared.Outcome.{Outcome}
-use Rattle.outcome.specs.declared.Outcome.the-variants.{Accepted, Refused, TooLong}
-use Rattle.outcome.specs.Line.{ascii, decimal, fields, line, numbersOf, textOf}
-use Rattle.outcome.proofs.Decimal.{length-decimal}
+use Rattle.clearing.specs.declared.Outcome.{Outcome}
+use Rattle.clearing.specs.declared.Outcome.the-variants.{Accepted, Refused, TooLong}
+use Rattle.clearing.specs.Line.{ascii, decimal, fields, line, numbersOf, textOf}
+use Rattle.clearing.proofs.Decimal.{length-decimal}
 
 fields-one : (s : List ℕ) (n : ℕ) → fields (s ++ (n ∷ [])) ≡ fields s ++ 32 ∷ decimal n
 unfolding fields each

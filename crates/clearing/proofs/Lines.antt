@@ -8,9 +8,9 @@ use native.Mathlib.Nat.{pow-suc}
 use native.Mathlib.Omega.{arith}
 use Rattle.lists.specs.Lists.{each}
 use Rattle.refusals.specs.declared.Refusal.the-variants.{Constraint}
-use Rattle.outcome.specs.declared.Outcome.the-variants.{Accepted, Refused, TooLong}
-use Rattle.outcome.specs.Line.{ascii, digit, decimalIn, decimal, fields, line, textOf}
-use Rattle.outcome.proofs.Decimal.{one-digit, last-digit}
+use Rattle.clearing.specs.declared.Outcome.the-variants.{Accepted, Refused, TooLong}
+use Rattle.clearing.specs.Line.{ascii, digit, decimalIn, decimal, fields, line, textOf}
+use Rattle.clearing.proofs.Decimal.{one-digit, last-digit}
 
 pub accepted-line : textOf (Accepted 1 372) ≡ ascii "accepted 1 372\n"
 unfolding decimalIn decimal each fields line textOf

@@ -1,4 +1,4 @@
--- `outcome::put_number` meets its contract: all digits but the last by the call, whose number is smaller, and then the last.
+-- `clearing::line::put_number` meets its contract: all digits but the last by the call, whose number is smaller, and then the last.
 -- Assumes nothing.
 use mathlib.Core.Path.{_≡_, refl, ap, _∙_}
 use mathlib.Core.List.{List, [], _∷_}
@@ -9,13 +9,13 @@ use lib.Seq.{sets}
 use borrow.Fn.Kinds.{In}
 use borrow.Fn.PlainCycle.{Measures, is, falls, and}
 use Rattle.lists.proofs.Stores.{sets-append}
-use Rattle.outcome.specs.Line.{digit, decimal}
-use Rattle.outcome.proofs.Decimal.{decimal-one, decimal-more}
-use Rattle.outcome.proofs.put_number.Reads as put-number
-use Rattle.outcome.proofs.put_number.Kinds as put-number-kinds
-use Rattle.outcome.proofs.+put_number.Lts-put_number as put-number-lts
-use Rattle.outcome.proofs.+put_number.{statement}
-use Rattle.outcome.proofs.+put_number.Tie.{close}
+use Rattle.clearing.specs.Line.{digit, decimal}
+use Rattle.clearing.proofs.Decimal.{decimal-one, decimal-more}
+use Rattle.clearing.proofs.line.put_number.Reads as put-number
+use Rattle.clearing.proofs.line.put_number.Kinds as put-number-kinds
+use Rattle.clearing.proofs.line.+put_number.Lts-put_number as put-number-lts
+use Rattle.clearing.proofs.line.+put_number.{statement}
+use Rattle.clearing.proofs.line.+put_number.Tie.{close}
 
 -- one digit is written, or one more
 module _ (l : List ℕ) (at n : ℕ) where

@@ -1,4 +1,4 @@
--- `outcome::put_word` meets its contract. The loop's invariant: the bytes passed stand at the start.
+-- `clearing::line::put_word` meets its contract. The loop's invariant: the bytes passed stand at the start.
 -- Assumes nothing.
 use mathlib.Core.Path.{_≡_, refl, sym, ap, _∙_}
 use mathlib.Core.List.{List, [], _∷_}
@@ -8,8 +8,8 @@ use native.Mathlib.Omega.{arith}
 use lib.ListN.{length, take, getD, set}
 use lib.Seq.{sets, length-sets, take-suc, take-all, length-take-le}
 use Rattle.lists.proofs.Stores.{sets-append}
-use Rattle.outcome.proofs.put_word.Statement.{statement}
-use Rattle.outcome.proofs.put_word.Tie as tie
+use Rattle.clearing.proofs.line.put_word.Statement.{statement}
+use Rattle.clearing.proofs.line.put_word.Tie as tie
 
 abbrev Inv-loop : tie.InvT-loop
 Inv-loop word out₀ i₀ out i = (i ≤ length word) × (out ≡ sets out₀ 0 (take i word))

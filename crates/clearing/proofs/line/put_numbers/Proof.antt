@@ -1,13 +1,13 @@
--- `outcome::put_numbers` meets its contract. The loop's invariant: the numbers passed are written.
+-- `clearing::line::put_numbers` meets its contract. The loop's invariant: the numbers passed are written.
 -- Assumes nothing.
 use Prim.Native.Nat.{ℕ, _+_, _-_, _≤_}
 use native.Mathlib.Omega.{arith}
 use lib.ListN.{length, length-set}
-use Rattle.outcome.specs.Line.{decimal}
-use Rattle.outcome.proofs.Decimal.{length-decimal}
-use Rattle.outcome.proofs.Fields.{Written, same-size, place-below, written-more, written-none, written-all}
-use Rattle.outcome.proofs.put_numbers.Statement.{statement}
-use Rattle.outcome.proofs.put_numbers.Tie as tie
+use Rattle.clearing.specs.Line.{decimal}
+use Rattle.clearing.proofs.Decimal.{length-decimal}
+use Rattle.clearing.proofs.Fields.{Written, same-size, place-below, written-more, written-none, written-all}
+use Rattle.clearing.proofs.line.put_numbers.Statement.{statement}
+use Rattle.clearing.proofs.line.put_numbers.Tie as tie
 
 abbrev Inv-loop : tie.InvT-loop
 Inv-loop numbers out₀ at end₀ i₀ out end i = Written numbers out₀ out at end i

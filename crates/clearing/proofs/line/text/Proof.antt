@@ -1,4 +1,4 @@
--- `outcome::text` meets its contract, at each of the answers.
+-- `clearing::line::text` meets its contract, at each of the answers.
 -- Assumes nothing.
 use mathlib.Core.Path.{_≡_, refl, sym, ap, _∙_}
 use mathlib.Core.List.{List, _++_}
@@ -8,11 +8,11 @@ use lib.ListN.{length, drop}
 use lib.Seq.{sets}
 use borrow.Author.Needs.{needs}
 use Rattle.lists.specs.Lists.{each}
-use Rattle.outcome.specs.declared.Outcome.{Outcome}
-use Rattle.outcome.specs.Line.{ascii, fields, line, numbersOf, textOf}
-use Rattle.outcome.proofs.Fields.{over-start, length-text}
-use Rattle.outcome.proofs.text.Statement.{statement}
-use Rattle.outcome.proofs.text.Tie as tie
+use Rattle.clearing.specs.declared.Outcome.{Outcome}
+use Rattle.clearing.specs.Line.{ascii, fields, line, numbersOf, textOf}
+use Rattle.clearing.proofs.Fields.{over-start, length-text}
+use Rattle.clearing.proofs.line.text.Statement.{statement}
+use Rattle.clearing.proofs.line.text.Tie as tie
 
 -- what is written is the line of the answer
 told-line : (o p : Outcome) (out new s : List ℕ) (r : ℕ) → length out ≡ 80 → o ≡ p → textOf p ≡ s → r ≡ length s → new ≡ sets out 0 s → (r ≡ length (textOf o)) × (new ≡ textOf o ++ drop r out)

@@ -10,7 +10,7 @@ use borrow.Author.Tests.{lt-ltb, le-ltb}
 use lib.Dec.{ltb}
 use lib.ListN.{length, length-append}
 use Rattle.lists.specs.Lists.{choose}
-use Rattle.outcome.specs.Line.{digit, decimalIn, decimal}
+use Rattle.clearing.specs.Line.{digit, decimalIn, decimal}
 
 -- room for one digit more changes nothing where there is room already
 room : (most n : ℕ) → n < 10 ^ suc most → decimalIn (suc (suc most)) n ≡ decimalIn (suc most) n

@@ -1,4 +1,4 @@
--- `outcome::put_refused` meets its contract, by how many values are told.
+-- `clearing::line::put_refused` meets its contract, by how many values are told.
 -- Assumes nothing.
 use mathlib.Core.Path.{_≡_, ap, _∙_}
 use mathlib.Core.List.{List, [], _∷_}
@@ -8,9 +8,9 @@ use borrow.Author.Tests.{eq-eqb, ne-eqb}
 use lib.ListN.{length}
 use lib.Seq.{sets}
 use Rattle.refusals.specs.declared.Particulars.{Particulars}
-use Rattle.outcome.specs.Line.{ascii, line, numbersOf}
-use Rattle.outcome.proofs.put_refused.Statement.{statement}
-use Rattle.outcome.proofs.put_refused.Tie as tie
+use Rattle.clearing.specs.Line.{ascii, line, numbersOf}
+use Rattle.clearing.proofs.line.put_refused.Statement.{statement}
+use Rattle.clearing.proofs.line.put_refused.Tie as tie
 
 module _ (p : Particulars) where
   none : p .values ≡ 0 → p .number ∷ [] ≡ numbersOf p

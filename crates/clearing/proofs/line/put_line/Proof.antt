@@ -1,13 +1,13 @@
--- `outcome::put_line` meets its contract: a word, its numbers and the line's end, one after the other.
+-- `clearing::line::put_line` meets its contract: a word, its numbers and the line's end, one after the other.
 -- Assumes nothing.
 use mathlib.Core.Path.{_≡_, _∙_}
 use Prim.Native.Nat.{_+_, _≤_}
 use native.Mathlib.Omega.{arith}
 use lib.ListN.{length, length-set}
 use borrow.Author.Needs.{needs}
-use Rattle.outcome.proofs.Fields.{length-fields, length-line, line-bytes}
-use Rattle.outcome.proofs.put_line.Statement.{statement}
-use Rattle.outcome.proofs.put_line.Tie as tie
+use Rattle.clearing.proofs.Fields.{length-fields, length-line, line-bytes}
+use Rattle.clearing.proofs.line.put_line.Statement.{statement}
+use Rattle.clearing.proofs.line.put_line.Tie as tie
 
 abbrev start : tie.After-slice-known3 → tie.Start
 start c = c .before .before .before .before .before .before .before .before .before .before .before

@@ -1,3 +1,0 @@
-pub mod Decimal
-pub mod Fields
-pub mod Theorems
