@@ -4,11 +4,11 @@ use mathlib.Core.Path.{_≡_, refl, sym, ap, _∙_}
 use mathlib.Core.List.{List}
 use Prim.Native.Nat.{ℕ, zero, suc, _+_, _*_, _-_, _<_, _≤_}
 use native.Mathlib.Omega.{arith}
-use borrow.Author.Tests.{eq-eqb, ne-eqb, eqb-true, lt-ltb, le-ltb, ltb-true}
+use borrow.Author.Tests.{eq-eqb, eqb-true, lt-ltb, le-ltb, ltb-true}
 use Rattle.field.specs.Field.{P}
 use Rattle.refusals.specs.Answers.{after}
 use Rattle.refusals.specs.declared.Refusal.{Refusal}
-use Rattle.refusals.specs.declared.Refusal.the-variants.{WrongKind, WrongValue}
+use Rattle.refusals.specs.declared.Refusal.the-variants.{WrongValue}
 use Rattle.refusals.specs.declared.Answer.{Answer}
 use Rattle.refusals.specs.declared.Answer.the-variants.{Accepted, Refused}
 use Rattle.refusals.proofs.Laws.{passed, both-accepted}
@@ -28,19 +28,6 @@ accepted file j e =
 pub accepts : (file : List ℕ) (j : ℕ) → IsElement file j → elementTest file j ≡ Accepted
 unfolding elementTest
 accepts file j h = simp (eq-eqb _ _ (h .high), eq-eqb _ _ (h .middle), eq-eqb _ _ (h .low), lt-ltb _ _ (h .value))
-
--- the first of its words that is of another kind
-pub wrong-high : (file : List ℕ) (j : ℕ) → (kindOf (wordAt file j) ≡ 1 → ⊥) → elementTest file j ≡ Refused (WrongKind j)
-unfolding elementTest
-wrong-high file j a = simp (ne-eqb _ _ a)
-
-pub wrong-middle : (file : List ℕ) (j : ℕ) → kindOf (wordAt file j) ≡ 1 → (kindOf (wordAt file (j + 1)) ≡ 2 → ⊥) → elementTest file j ≡ Refused (WrongKind (j + 1))
-unfolding elementTest
-wrong-middle file j a b = simp (eq-eqb _ _ a, ne-eqb _ _ b)
-
-pub wrong-low : (file : List ℕ) (j : ℕ) → kindOf (wordAt file j) ≡ 1 → kindOf (wordAt file (j + 1)) ≡ 2 → (kindOf (wordAt file (j + 2)) ≡ 3 → ⊥) → elementTest file j ≡ Refused (WrongKind (j + 2))
-unfolding elementTest
-wrong-low file j a b c = simp (eq-eqb _ _ a, eq-eqb _ _ b, ne-eqb _ _ c)
 
 -- three right kinds, and a value from p on
 pub too-large : (file : List ℕ) (j : ℕ) → kindOf (wordAt file j) ≡ 1 → kindOf (wordAt file (j + 1)) ≡ 2 → kindOf (wordAt file (j + 2)) ≡ 3 → P ≤ elementAt file j → elementTest file j ≡ Refused (WrongValue j)

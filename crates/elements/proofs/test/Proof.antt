@@ -1,16 +1,21 @@
--- `elements::test` meets its contract: three kinds, then the value.
+-- `elements::test`: three kinds, then the value; each return is the case of the definition that the tests before it left.
 -- Assumes nothing.
-use mathlib.Core.Path.{_≡_, sym, ap, _∙_}
+use mathlib.Core.Path.{_≡_, refl, sym, ap, _∙_}
 use mathlib.Core.List.{List}
-use Prim.Native.Nat.{ℕ, _+_}
+use Prim.Native.Nat.{ℕ, _+_, _≤_}
 use native.Mathlib.Omega.{arith}
 use borrow.Author.Needs.{needs}
-use borrow.Author.Tests.{ltb-true, ltb-false, not-true, not-false}
+use borrow.Author.Tests.{eq-eqb, ne-eqb, le-ltb, not-true, not-false}
+use lib.Dec.{eqb, ltb}
 use Rattle.field.specs.Field.{P}
+use Rattle.refusals.specs.Answers.{unless}
+use Rattle.refusals.specs.declared.Refusal.the-variants.{WrongKind, WrongValue}
+use Rattle.refusals.specs.declared.Answer.{Answer}
+use Rattle.refusals.specs.declared.Answer.the-variants.{Accepted}
+use Rattle.refusals.proofs.Laws.{unless-refused, unless-passed}
 use Rattle.elements.specs.Words.{kindOf, payloadOf, wordAt}
-use Rattle.elements.specs.Elements.{elementAt}
+use Rattle.elements.specs.Elements.{elementAt, elementTest}
 use Rattle.elements.proofs.Laws.{read-three, no-word}
-use Rattle.elements.proofs.Tests.{accepts, wrong-high, wrong-middle, wrong-low, too-large}
 use Rattle.elements.proofs.test.Statement.{statement}
 use Rattle.elements.proofs.test.Tie as tie
 
@@ -24,17 +29,34 @@ second-kind c = c .kind2 .ensures ∙ ap kindOf (c .before .read2 .ensures)
 third-kind : (c : tie.After-kind3) → c .kind3 .result ≡ kindOf (wordAt (c .before .before .before .before .before .before .before .before .before .args .file .now) (c .before .before .before .before .before .before .before .before .before .args .index + 2))
 third-kind c = c .kind3 .ensures ∙ ap kindOf (c .before .read3 .ensures)
 
+-- the tests from the value on, from the third kind on, from the second on
+abbrev fromValue : List ℕ → ℕ → Answer
+fromValue file j = unless (ltb (elementAt file j) P) (WrongValue j) Accepted
+
+abbrev fromLow : List ℕ → ℕ → Answer
+fromLow file j = unless (eqb (kindOf (wordAt file (j + 2))) 3) (WrongKind (j + 2)) (fromValue file j)
+
+abbrev fromMiddle : List ℕ → ℕ → Answer
+fromMiddle file j = unless (eqb (kindOf (wordAt file (j + 1))) 2) (WrongKind (j + 1)) (fromLow file j)
+
+-- what is answered there is left to them
+one-kind : (f : tie.Else1) {o : Answer} → let a = f .before .before .before .before .args in
+    o ≡ fromMiddle (a .file .now) (a .index) → o ≡ elementTest (a .file .now) (a .index)
+unfolding elementTest
+one-kind f e = unless-passed _ (eq-eqb _ _ (sym (first-kind (f .before)) ∙ f .if1 .left)) e
+
+two-kinds : (f : tie.Else2) {o : Answer} → let a = f .before .before .before .before .before .before .before .args in
+    o ≡ fromLow (a .file .now) (a .index) → o ≡ elementTest (a .file .now) (a .index)
+two-kinds f e =
+    one-kind (f .before .before .before) (unless-passed _ (eq-eqb _ _ (sym (second-kind (f .before)) ∙ f .if2 .left)) e)
+
 abbrev start : tie.Else3 → tie.Start
 start c = c .before .before .before .before .before .before .before .before .before .before
 
-abbrev Kinds : List ℕ → ℕ → Type 0
-Kinds file j = (kindOf (wordAt file j) ≡ 1) × (kindOf (wordAt file (j + 1)) ≡ 2) × (kindOf (wordAt file (j + 2)) ≡ 3)
-
-three-kinds : (c : tie.Else3) → Kinds (start c .args .file .now) (start c .args .index)
-three-kinds c =
-    let two = c .before .before .before in
-    let one = two .before .before .before in
-    (sym (first-kind (one .before)) ∙ one .if1 .left, sym (second-kind (two .before)) ∙ two .if2 .left, sym (third-kind (c .before)) ∙ c .if3 .left)
+three-kinds : (f : tie.Else3) {o : Answer} → let a = start f .args in
+    o ≡ fromValue (a .file .now) (a .index) → o ≡ elementTest (a .file .now) (a .index)
+three-kinds f e =
+    two-kinds (f .before .before .before) (unless-passed _ (eq-eqb _ _ (sym (third-kind (f .before)) ∙ f .if3 .left)) e)
 
 value-is : (c : tie.After-value) → c .value .result ≡ elementAt (start (c .before .before .before) .args .file .now) (start (c .before .before .before) .args .index)
 value-is c =
@@ -43,6 +65,10 @@ value-is c =
     let one = two .before .before .before in
     read-three _ _ _ _ _ _ (one .before .before .read .ensures) (two .before .before .read2 .ensures) (three .before .before .read3 .ensures) (c .value .ensures)
 
+canonical : (c : tie.After-is-canonical) → let a = start (c .before .before .before .before) .args in
+    ltb (elementAt (a .file .now) (a .index)) P ≡ c .is-canonical .result
+canonical c = ap (λ v. ltb v P) (sym (value-is (c .before))) ∙ sym (c .is-canonical .ensures)
+
 read-requires : tie.Need-read-requires
 read-requires c κs = search needs
 
@@ -50,7 +76,8 @@ kind-requires : tie.Need-kind-requires
 kind-requires c κs = search needs
 
 returns : tie.Need-returns
-returns c = sym (wrong-high _ _ (λ e. c .if1 .taken (first-kind (c .before) ∙ e)))
+unfolding elementTest
+returns c = unless-refused _ (ne-eqb _ _ (λ e. c .if1 .taken (first-kind (c .before) ∙ e))) refl
 
 add-read : tie.Need-add-read
 add-read c = search needs
@@ -66,8 +93,8 @@ add-t10 c = search needs
 
 returns-2 : tie.Need-returns-2
 returns-2 c =
-    let one = c .before .before .before in
-    sym (wrong-middle _ _ (sym (first-kind (one .before)) ∙ one .if1 .left) (λ e. c .if2 .taken (second-kind (c .before) ∙ e)))
+    one-kind (c .before .before .before)
+    (unless-refused _ (ne-eqb _ _ (λ e. c .if2 .taken (second-kind (c .before) ∙ e))) refl)
 
 add-read-2 : tie.Need-add-read-2
 add-read-2 c = search needs
@@ -83,19 +110,21 @@ add-t12 c = search needs
 
 returns-3 : tie.Need-returns-3
 returns-3 c =
-    let two = c .before .before .before in
-    let one = two .before .before .before in
-    sym (wrong-low _ _ (sym (first-kind (one .before)) ∙ one .if1 .left) (sym (second-kind (two .before)) ∙ two .if2 .left) (λ e. c .if3 .taken (third-kind (c .before) ∙ e)))
+    two-kinds (c .before .before .before)
+    (unless-refused _ (ne-eqb _ _ (λ e. c .if3 .taken (third-kind (c .before) ∙ e))) refl)
 
 payload-requires : tie.Need-payload-requires
 payload-requires c κs = search needs
 
 returns-4 : tie.Need-returns-4
 returns-4 c =
-    let k = three-kinds (c .before .before) in
-    let one = c .before .before .before .before .before .before .before .before in
-    let p : c .before .payload .result ≡ payloadOf (wordAt _ _) = c .before .payload .ensures ∙ ap payloadOf (one .before .before .read .ensures) in
-    sym (too-large _ _ (k .0) (k .1) (k .2) (omega (arith, no-word _ _ (rw p at (c .if4 .taken)))))
+    let three = c .before .before in
+    let a = start three .args in
+    let read = three .before .before .before .before .before .before .before .before in
+    let p = c .before .payload .ensures ∙ ap payloadOf (read .read .ensures) in
+    let large : P ≤ elementAt (a .file .now) (a .index) =
+    omega (arith, no-word (a .file .now) (a .index) (rw p at (c .if4 .taken))) in
+    three-kinds three (unless-refused _ (le-ltb _ _ large) refl)
 
 value-requires : tie.Need-value-requires
 value-requires c κs = search needs
@@ -105,13 +134,13 @@ is-canonical-requires c κs = search needs
 
 returns-5 : tie.Need-returns-5
 returns-5 c =
-    let k = three-kinds (c .before .before .before .before .before) in
-    sym (too-large _ _ (k .0) (k .1) (k .2) (rw (value-is (c .before .before)) at (ltb-false (c .before .before .value .result) P (sym (c .before .is-canonical .ensures) ∙ not-true _ (c .if5 .taken)))))
+    three-kinds (c .before .before .before .before .before)
+    (unless-refused _ (canonical (c .before) ∙ not-true _ (c .if5 .taken)) refl)
 
 returns-6 : tie.Need-returns-6
 returns-6 c =
-    let k = three-kinds (c .before .before .before .before .before) in
-    sym (accepts _ _ (record { high = k .0; middle = k .1; low = k .2; value = rw (value-is (c .before .before)) at (ltb-true (c .before .before .value .result) P (sym (c .before .is-canonical .ensures) ∙ not-false _ (c .if5 .left))) }))
+    three-kinds (c .before .before .before .before .before)
+    (unless-passed _ (canonical (c .before) ∙ not-false _ (c .if5 .left)) refl)
 
 pub test-spec : {M : Type 1} → statement M
 test-spec =
