@@ -25,7 +25,7 @@ use Rattle.hash.specs.Answers.{hashTest, hashAnswer, chainTest, chainAnswer}
 use Rattle.trace.specs.Trace.{trace}
 use Rattle.trace.specs.Answers.{buildTest, buildAnswer, buildLeaves}
 use Rattle.board.specs.Board.{batchesIn, claimIn, tapsIn, unpackTest, unpackAnswer, unpackLeaves}
-use Rattle.board.proofs.Cases.{unpack-accepted}
+use Rattle.board.proofs.Answers.{unpack-accepted}
 use Rattle.export.specs.Code.{code, refusalCode, answerCode, digestCode, testsCode}
 use Rattle.export.specs.Calls.{HandsOver, hashCallTest, hashNoRoom, hashCall, chainCallTest, chainNoRoom, chainCall, buildCallTest, buildCall, unpackCallTest, unpackCall}
 

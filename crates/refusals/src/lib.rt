@@ -1,6 +1,6 @@
 // What is turned back (document 01, the section of that name), and the answers that hold it.
 ghost use mathlib.Core.Path.{_≡_};
-ghost use Rattle.refusals.specs.Refusals.{alone, checkedAfter, digestedAfter, indexed, told};
+ghost use Rattle.refusals.specs.Refusals.{alone, indexed, told};
 ghost use Rattle.refusals.specs.Answers.{Refuses};
 use counts::RowNumber;
 
@@ -112,6 +112,9 @@ impl Answer {
     }
 }
 
+// Four words: an output of the hash, or a claim.
+pub struct Digest(pub u64, pub u64, pub u64, pub u64);
+
 // The answer of Hash, Chain, Build and Unpack: four words.
 pub enum DigestAnswer {
     Accepted(Digest),
@@ -122,43 +125,4 @@ pub enum DigestAnswer {
 pub enum TestsAnswer {
     Accepted(usize),
     Refused(Refusal),
-}
-
-// Four words: an output of the hash, or a claim.
-pub struct Digest(pub u64, pub u64, pub u64, pub u64);
-
-// The answer of Hash, Chain, Build and Unpack.
-pub enum Digested {
-    Accepted(Digest),
-    Refused(Refusal),
-}
-
-// The answer of Check and Read-off, with the number of tests walked.
-pub enum Checked {
-    Accepted(usize),
-    Refused(Refusal),
-}
-
-impl Digested {
-    // The refusal of a table test that did not accept.
-    pub fn after(tested: Answer) -> Digested
-        ensures { λ r. ⌜ r ≡ digestedAfter tested (Digested.Accepted (record { 0 = 0; 1 = 0; 2 = 0; 3 = 0 })) ⌝ }
-    {
-        match tested {
-            Answer::Accepted => Digested::Accepted(Digest(0, 0, 0, 0)),
-            Answer::Refused(r) => Digested::Refused(r),
-        }
-    }
-}
-
-impl Checked {
-    // The refusal of a table test that did not accept.
-    pub fn after(tested: Answer) -> Checked
-        ensures { λ r. ⌜ r ≡ checkedAfter tested (Checked.Accepted 0) ⌝ }
-    {
-        match tested {
-            Answer::Accepted => Checked::Accepted(0),
-            Answer::Refused(r) => Checked::Refused(r),
-        }
-    }
 }
