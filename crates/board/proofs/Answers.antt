@@ -9,8 +9,8 @@ use lib.Dec.{eqb, leb}
 use lib.ListN.{length}
 use Rattle.words.specs.Words.{AllCanonical, firstBad, canonicalWords}
 use Rattle.words.proofs.Laws.{test-good, good-test}
-use Rattle.counts.specs.Counts.{IsPermittedTo, permitted, tapWordBatches, isTapLength}
-use Rattle.counts.proofs.Laws.{permitted-sound, permitted-complete, tap-length-sound, tap-length-complete}
+use Rattle.numbers.specs.Numbers.{IsPermittedTo, permitted, tapWordBatches, isTapLength}
+use Rattle.numbers.proofs.Laws.{permitted-sound, permitted-complete, tap-length-sound, tap-length-complete}
 use Rattle.refusals.specs.Refusals.{digest}
 use Rattle.refusals.specs.declared.Refusal.{Refusal}
 use Rattle.refusals.specs.declared.Refusal.the-variants.{TapLength, TapWord, DestinationLength, ClaimWord}

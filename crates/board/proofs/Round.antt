@@ -10,7 +10,7 @@ use lib.Seq.{take-at, drop-at}
 use Rattle.lists.specs.Lists.{cell, tab}
 use Rattle.words.specs.Words.{AllCanonical}
 use Rattle.words.proofs.Laws.{append-canonical}
-use Rattle.counts.specs.Counts.{IsPermitted, IsPermittedTo}
+use Rattle.numbers.specs.Numbers.{IsPermitted, IsPermittedTo}
 use Rattle.refusals.specs.Refusals.{digest, digestWords}
 use Rattle.refusals.specs.declared.Digest.{Digest}
 use Rattle.elements.specs.Words.{wordAt, AllBytes, bytesOf}

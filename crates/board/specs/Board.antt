@@ -6,7 +6,7 @@ use Prim.Native.Nat.{ℕ, _+_, _*_, _/_, _%_, _^_, _≤_, _<_}
 use lib.Dec.{eqb, leb}
 use lib.ListN.{length}
 use Rattle.words.specs.Words.{firstBad, canonicalWords}
-use Rattle.counts.specs.Counts.{IsPermittedTo, permitted, tapWordBatches, isTapLength}
+use Rattle.numbers.specs.Numbers.{IsPermittedTo, permitted, tapWordBatches, isTapLength}
 use Rattle.refusals.specs.Refusals.{digest}
 use Rattle.refusals.specs.Answers.{unless, after, digestAfter, leaves}
 use Rattle.refusals.specs.declared.Refusal.the-variants.{TapLength, TapWord, DestinationLength, ClaimWord}

@@ -5,8 +5,8 @@ ghost use Prim.Native.Nat.{_+_, _*_, _≤_};
 ghost use lib.ListN.{length};
 ghost use Rattle.board.specs.Board.{mostFileBatches, fileOf, fileSize, packTest, packLeaves};
 ghost use Rattle.board.specs.Board.{countIn, countTest, unpackTest, unpackAnswer, unpackLeaves};
-use counts::BatchCount;
 use elements::Word;
+use numbers::BatchCount;
 use refusals::Answer;
 use refusals::Digest;
 use refusals::DigestAnswer;
@@ -19,7 +19,7 @@ pub const MOST_BATCHES: usize = 1024;
 fn test_pack(taps: &[u64], claim: [u64; 4], size: usize) -> Answer
     ensures { λ r. ⌜ r ≡ packTest (now (taps .entry)) claim size ⌝ }
 {
-    let BatchCount::Permitted(k) = counts::tap_batches(MOST_BATCHES, taps.len()) else {
+    let BatchCount::Permitted(k) = numbers::tap_batches(MOST_BATCHES, taps.len()) else {
         return Answer::Refused(Refusal::TapLength);
     };
     if size != 144 * k + 100 {
@@ -76,7 +76,7 @@ fn test_count(word: Word) -> Answer
     if word.payload() >> 16 != 0 {
         return Answer::Refused(Refusal::WrongValue(0));
     }
-    if counts::is_permitted(MOST_BATCHES, count_in(word)) {
+    if numbers::is_permitted(MOST_BATCHES, count_in(word)) {
         Answer::Accepted
     } else {
         Answer::Refused(Refusal::WrongValue(0))

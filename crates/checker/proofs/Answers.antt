@@ -7,10 +7,10 @@ use native.Mathlib.Omega.{arith}
 use lib.ListN.{length}
 use Rattle.words.specs.Words.{AllCanonical, firstBad, canonicalWords}
 use Rattle.words.proofs.Laws.{good-test, test-good}
-use Rattle.counts.specs.Counts.{IsPermitted, mostBatches, isTraceLength, traceWordBatches, batchesIf}
-use Rattle.counts.specs.declared.BatchCount.{BatchCount}
-use Rattle.counts.specs.declared.BatchCount.the-variants.{Permitted}
-use Rattle.counts.proofs.Laws.{trace-length-sound, trace-length-complete, trace-permitted}
+use Rattle.numbers.specs.Numbers.{IsPermitted, mostBatches, isTraceLength, traceWordBatches, batchesIf}
+use Rattle.numbers.specs.declared.BatchCount.{BatchCount}
+use Rattle.numbers.specs.declared.BatchCount.the-variants.{Permitted}
+use Rattle.numbers.proofs.Laws.{trace-length-sound, trace-length-complete, trace-permitted}
 use Rattle.refusals.specs.declared.Refusal.{Refusal}
 use Rattle.refusals.specs.declared.Refusal.the-variants.{ClaimWord, TraceWord}
 use Rattle.refusals.specs.declared.Answer.{Answer}

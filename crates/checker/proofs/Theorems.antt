@@ -5,8 +5,8 @@ use mathlib.Core.List.{List}
 use Prim.Native.Nat.{ℕ, _*_}
 use lib.ListN.{length}
 use Rattle.words.specs.Words.{AllCanonical}
-use Rattle.counts.specs.Counts.{IsPermitted, mostBatches}
-use Rattle.counts.proofs.Laws.{trace-length-complete}
+use Rattle.numbers.specs.Numbers.{IsPermitted, mostBatches}
+use Rattle.numbers.proofs.Laws.{trace-length-complete}
 use Rattle.refusals.specs.Answers.{testsAfter}
 use Rattle.table.specs.Table.{IsTable}
 use Rattle.constraints.specs.Constraints.{tests, constraintTest}

@@ -5,7 +5,7 @@ use mathlib.Core.List.{List}
 use Prim.Native.Nat.{ℕ}
 use lib.ListN.{length}
 use Rattle.words.specs.Words.{firstBad, canonicalWords}
-use Rattle.counts.specs.Counts.{mostBatches, isTraceLength, traceWordBatches}
+use Rattle.numbers.specs.Numbers.{mostBatches, isTraceLength, traceWordBatches}
 use Rattle.refusals.specs.declared.Refusal.the-variants.{TraceLength, ClaimWord, TraceWord}
 use Rattle.refusals.specs.declared.Answer.{Answer}
 use Rattle.refusals.specs.declared.TestsAnswer.{TestsAnswer}

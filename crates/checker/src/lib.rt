@@ -8,9 +8,9 @@ ghost use Rattle.table.specs.Table.{IsTable};
 ghost use Rattle.constraints.specs.Constraints.{tests, constraintTest};
 ghost use Rattle.steps.specs.Steps.{forwardReady, backReady};
 ghost use Rattle.checker.specs.Answers.{checkAnswer};
-use counts::BatchCount;
-use counts::MOST_BATCHES;
-use counts::RowNumber;
+use numbers::BatchCount;
+use numbers::MOST_BATCHES;
+use numbers::RowNumber;
 use refusals::Answer;
 use refusals::Refusal;
 use refusals::TestsAnswer;
@@ -104,7 +104,7 @@ pub fn check(table: &[u64], trace: &[u64], claim: [u64; 4]) -> TestsAnswer
     let Answer::Accepted = tested else {
         return TestsAnswer::Refused(tested.refusal());
     };
-    let BatchCount::Permitted(k) = counts::trace_batches(MOST_BATCHES, trace.len()) else {
+    let BatchCount::Permitted(k) = numbers::trace_batches(MOST_BATCHES, trace.len()) else {
         return TestsAnswer::Refused(Refusal::TraceLength);
     };
     let of_claim = test_claim(&claim);

@@ -11,7 +11,7 @@ use lib.Dec.{eqb}
 use lib.ListN.{length}
 use Rattle.lists.specs.Lists.{cell}
 use Rattle.words.specs.Words.{AllCanonical}
-use Rattle.counts.specs.Counts.{IsPermitted}
+use Rattle.numbers.specs.Numbers.{IsPermitted}
 use Rattle.refusals.specs.declared.Refusal.the-variants.{Constraint}
 use Rattle.refusals.specs.declared.Answer.the-variants.{Accepted, Refused}
 use Rattle.table.specs.Table.{IsTable}

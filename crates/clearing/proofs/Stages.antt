@@ -9,7 +9,7 @@ use borrow.Author.Tests.{ne-eqb}
 use lib.ListN.{length, length-append, length-drop, take, drop}
 use lib.Seq.{length-take-le, take-all, take-at}
 use Rattle.words.specs.Words.{AllCanonical}
-use Rattle.counts.specs.Counts.{tapWordBatches}
+use Rattle.numbers.specs.Numbers.{tapWordBatches}
 use Rattle.refusals.specs.declared.Refusal.{Refusal}
 use Rattle.refusals.specs.declared.Answer.{Answer}
 use Rattle.refusals.specs.declared.Answer.the-variants as answer

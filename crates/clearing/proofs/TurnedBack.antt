@@ -9,7 +9,7 @@ use lib.ListN.{length}
 use Rattle.lists.proofs.Tab.{length-tab}
 use Rattle.field.specs.Field.{P}
 use Rattle.words.specs.Words.{firstBad}
-use Rattle.counts.specs.Counts.{permitted}
+use Rattle.numbers.specs.Numbers.{permitted}
 use Rattle.refusals.specs.declared.Refusal.{Refusal}
 use Rattle.refusals.specs.declared.Refusal.the-variants.{TableLength, TableWord, NoInverse, DestinationLength}
 use Rattle.refusals.specs.declared.Refusal.the-variants.{FileLength, WrongKind, WrongValue}

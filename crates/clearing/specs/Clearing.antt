@@ -6,7 +6,7 @@ use Prim.Native.Nat.{ℕ, _+_, _*_, _^_, _≤_, _<_}
 use lib.ListN.{length, drop, replicate}
 use Rattle.lists.specs.Lists.{cell, tab, sum}
 use Rattle.words.specs.Words.{AllCanonical}
-use Rattle.counts.specs.Counts.{IsPermitted, tapWordBatches}
+use Rattle.numbers.specs.Numbers.{IsPermitted, tapWordBatches}
 use Rattle.refusals.specs.declared.Refusal.{Refusal}
 use Rattle.refusals.specs.declared.Refusal.the-variants.{TableLength}
 use Rattle.refusals.specs.declared.Answer.{Answer}

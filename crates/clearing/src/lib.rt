@@ -4,7 +4,7 @@ ghost use mathlib.Core.Path.{_≡_};
 ghost use Prim.Native.Nat.{_+_, _*_, _/_, _-_, _≤_};
 ghost use lib.ListN.{length};
 ghost use Rattle.words.specs.Words.{AllCanonical};
-ghost use Rattle.counts.specs.Counts.{tapWordBatches};
+ghost use Rattle.numbers.specs.Numbers.{tapWordBatches};
 ghost use Rattle.refusals.specs.Refusals.{digestWords};
 ghost use Rattle.table.specs.Table.{rawWords, IsTable, Prepares};
 ghost use Rattle.clearing.specs.Clearing.{tableBytes, rawWord, rawIn, reported, checkedTaps, cleared};

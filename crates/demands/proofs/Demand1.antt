@@ -12,7 +12,7 @@ use lib.Dec.{eqb}
 use lib.ListN.{length}
 use Rattle.lists.proofs.Bools.{or-cases, and-both}
 use Rattle.words.specs.Words.{AllCanonical}
-use Rattle.counts.specs.Counts.{mostBatches, isTapLength, tapWordBatches, traceWordBatches}
+use Rattle.numbers.specs.Numbers.{mostBatches, isTapLength, tapWordBatches, traceWordBatches}
 use Rattle.refusals.specs.Refusals.{told, indexed, digest, digestWords}
 use Rattle.refusals.specs.Answers.{Refuses as IsRefusal, digestAfter, testsAfter, leaves}
 use Rattle.refusals.specs.declared.Refusal.{Refusal}

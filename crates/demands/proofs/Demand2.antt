@@ -8,7 +8,7 @@ use lib.ListN.{length, take, drop}
 use lib.Seq.{take-at, drop-at}
 use Rattle.words.specs.Words.{AllCanonical}
 use Rattle.words.proofs.Laws.{append-canonical}
-use Rattle.counts.specs.Counts.{IsPermitted, tapWordBatches, traceWordBatches}
+use Rattle.numbers.specs.Numbers.{IsPermitted, tapWordBatches, traceWordBatches}
 use Rattle.refusals.specs.Refusals.{digest, digestWords}
 use Rattle.refusals.specs.Answers.{digestAfter, testsAfter, leaves}
 use Rattle.refusals.specs.declared.Answer.the-variants as answer

@@ -7,7 +7,7 @@ use Prim.Native.Nat.{ℕ, _+_, _*_}
 use native.Mathlib.Omega.{arith}
 use lib.ListN.{length}
 use Rattle.words.specs.Words.{AllCanonical}
-use Rattle.counts.specs.Counts.{IsPermitted, traceWordBatches}
+use Rattle.numbers.specs.Numbers.{IsPermitted, traceWordBatches}
 use Rattle.refusals.specs.Answers.{testsAfter, leaves}
 use Rattle.refusals.specs.declared.Refusal.the-variants.{Constraint}
 use Rattle.refusals.specs.declared.Answer.{Answer}

@@ -6,7 +6,7 @@ use mathlib.Core.Path.{_≡_}
 use mathlib.Core.List.{List, [], _∷_, List·Memᴰ}
 use Prim.Native.Nat.{ℕ, _+_, _*_}
 use lib.ListN.{length}
-use Rattle.counts.specs.Counts.{IsPermitted}
+use Rattle.numbers.specs.Numbers.{IsPermitted}
 use Rattle.refusals.specs.Refusals.{told, indexed}
 use Rattle.refusals.specs.declared.Refusal.{Refusal}
 use Rattle.refusals.specs.declared.Refusal.the-variants.{NoInverse, WrongInverse}

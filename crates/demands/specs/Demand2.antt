@@ -7,7 +7,7 @@ use mathlib.Core.List.{List, _++_}
 use Prim.Native.Nat.{ℕ, _+_, _*_}
 use lib.ListN.{length}
 use Rattle.words.specs.Words.{AllCanonical}
-use Rattle.counts.specs.Counts.{IsPermitted, tapWordBatches}
+use Rattle.numbers.specs.Numbers.{IsPermitted, tapWordBatches}
 use Rattle.refusals.specs.Refusals.{digest, digestWords}
 use Rattle.refusals.specs.declared.Answer.the-variants as answer
 use Rattle.refusals.specs.declared.Digest.{Digest}

@@ -7,7 +7,7 @@ use mathlib.Core.List.{List}
 use Prim.Native.Nat.{ℕ, _+_, _*_}
 use lib.ListN.{length}
 use Rattle.words.specs.Words.{AllCanonical}
-use Rattle.counts.specs.Counts.{IsPermitted}
+use Rattle.numbers.specs.Numbers.{IsPermitted}
 use Rattle.refusals.specs.declared.Refusal.the-variants.{Constraint}
 use Rattle.refusals.specs.declared.Answer.the-variants.{Accepted, Refused}
 use Rattle.refusals.specs.declared.TestsAnswer.the-variants as counted

@@ -12,8 +12,8 @@ use lib.ListN.{length}
 use Rattle.field.specs.Field.{P}
 use Rattle.words.specs.Words.{firstBad, canonicalWords}
 use Rattle.words.proofs.Laws.{within, bad-test}
-use Rattle.counts.specs.Counts.{IsPermitted, mostBatches, permitted, isTapLength, tapWordBatches, isTraceLength, traceWordBatches}
-use Rattle.counts.proofs.Laws.{tap-length-sound, trace-length-sound}
+use Rattle.numbers.specs.Numbers.{IsPermitted, mostBatches, permitted, isTapLength, tapWordBatches, isTraceLength, traceWordBatches}
+use Rattle.numbers.proofs.Laws.{tap-length-sound, trace-length-sound}
 use Rattle.refusals.specs.declared.Refusal.{Refusal}
 use Rattle.refusals.specs.declared.Refusal.the-variants.{TableLength, TableWord, NoInverse, WrongInverse, TapLength, TapWord, TraceLength, DestinationLength, ClaimWord, TraceWord, Constraint, FileLength, WrongKind, WrongValue}
 use Rattle.refusals.specs.declared.Answer.{Answer}

@@ -6,7 +6,7 @@ use Prim.Native.Nat.{ℕ, _+_, _*_, _^_, _<_}
 use native.Mathlib.Omega.{arith}
 use lib.Dec.{lit<}
 use lib.ListN.{length, length-append}
-use Rattle.counts.specs.Counts.{IsPermitted}
+use Rattle.numbers.specs.Numbers.{IsPermitted}
 use Rattle.refusals.specs.Refusals.{indexed, alone}
 use Rattle.constraints.specs.Constraints.{Test, tests}
 use Rattle.constraints.specs.FirstFailing.{IsFirstFailing}

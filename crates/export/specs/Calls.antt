@@ -9,7 +9,7 @@ use Prim.Native.Nat.{ℕ, _+_, _*_}
 use lib.Dec.{eqb, leb}
 use lib.ListN.{length, take, drop}
 use Rattle.words.specs.Words.{firstBad, canonicalWords}
-use Rattle.counts.specs.Counts.{mostBatches, isTapLength, tapWordBatches}
+use Rattle.numbers.specs.Numbers.{mostBatches, isTapLength, tapWordBatches}
 use Rattle.refusals.specs.Refusals.{digest, digestWords}
 use Rattle.refusals.specs.Answers.{unless, after, digestAfter, leaves}
 use Rattle.refusals.specs.declared.Refusal.the-variants.{TapLength, TapWord, DestinationLength, FileLength}

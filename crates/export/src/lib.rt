@@ -6,8 +6,8 @@ ghost use lib.ListN.{length};
 ghost use Rattle.checker.specs.Answers.{checkAnswer};
 ghost use Rattle.export.specs.Code.{code, refusalCode, answerCode, digestCode, testsCode};
 ghost use Rattle.export.specs.Calls.{interface, HandsOver, PrepareCall, hashNoRoom, hashCall, chainNoRoom, chainCall, BuildCall, ReadOffCall, PackCall, UnpackCall};
-use counts::BatchCount;
-use counts::MOST_BATCHES;
+use numbers::BatchCount;
+use numbers::MOST_BATCHES;
 use refusals::Answer;
 use refusals::DigestAnswer;
 use refusals::Refusal;
@@ -149,7 +149,7 @@ fn chain_no_room(table: &[u64], taps: &[u64]) -> Answer
     let Answer::Accepted = tested else {
         return tested;
     };
-    let BatchCount::Permitted(_) = counts::tap_batches(MOST_BATCHES, taps.len()) else {
+    let BatchCount::Permitted(_) = numbers::tap_batches(MOST_BATCHES, taps.len()) else {
         return Answer::Refused(Refusal::TapLength);
     };
     Answer::Refused(Refusal::DestinationLength)

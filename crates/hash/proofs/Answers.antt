@@ -9,8 +9,8 @@ use lib.Seq.{getD-take}
 use Rattle.lists.specs.Lists.{cell}
 use Rattle.words.specs.Words.{AllCanonical}
 use Rattle.words.proofs.Laws.{good-test, test-good}
-use Rattle.counts.specs.Counts.{IsPermitted, mostBatches, tapWordBatches}
-use Rattle.counts.proofs.Laws.{tap-length-sound, tap-length-complete}
+use Rattle.numbers.specs.Numbers.{IsPermitted, mostBatches, tapWordBatches}
+use Rattle.numbers.proofs.Laws.{tap-length-sound, tap-length-complete}
 use Rattle.refusals.specs.declared.Answer.the-variants.{Accepted}
 use Rattle.refusals.specs.Refusals.{digest}
 use Rattle.refusals.proofs.Laws.{passed, both-accepted}

@@ -5,7 +5,7 @@ use mathlib.Core.List.{List}
 use Prim.Native.Nat.{ℕ}
 use lib.ListN.{length, take, drop}
 use Rattle.words.specs.Words.{firstBad, canonicalWords}
-use Rattle.counts.specs.Counts.{mostBatches, isTapLength, tapWordBatches}
+use Rattle.numbers.specs.Numbers.{mostBatches, isTapLength, tapWordBatches}
 use Rattle.refusals.specs.declared.Refusal.the-variants.{TapLength, TapWord}
 use Rattle.refusals.specs.declared.Answer.{Answer}
 use Rattle.refusals.specs.declared.Answer.the-variants.{Accepted}

@@ -7,10 +7,10 @@ ghost use Rattle.words.specs.Words.{AllCanonical, CanonicalTo};
 ghost use Rattle.table.specs.Table.{IsTable, firstStepConstant, secondStepConstant};
 ghost use Rattle.hash.specs.Hash.{cubes, plus, mix, firstStep, secondStep, stateAt, finalState, input, tap, outputAt};
 ghost use Rattle.hash.specs.Answers.{hashTest, hashAnswer, chainTest, chainAnswer};
-use counts::BatchCount;
-use counts::HashNumber;
-use counts::MOST_BATCHES;
 use field::Fp;
+use numbers::BatchCount;
+use numbers::HashNumber;
+use numbers::MOST_BATCHES;
 use refusals::Answer;
 use refusals::Digest;
 use refusals::DigestAnswer;
@@ -196,7 +196,7 @@ fn test_chain(table: &[u64], taps: &[u64]) -> Answer
     let Answer::Accepted = tested else {
         return tested;
     };
-    let BatchCount::Permitted(_) = counts::tap_batches(MOST_BATCHES, taps.len()) else {
+    let BatchCount::Permitted(_) = numbers::tap_batches(MOST_BATCHES, taps.len()) else {
         return Answer::Refused(Refusal::TapLength);
     };
     let bad = words::first_bad(taps);

@@ -12,7 +12,7 @@ use Rattle.lists.specs.Lists.{tab, sum, first}
 use Rattle.words.specs.Words.{AllCanonical, firstBad, canonicalWords}
 use Rattle.words.proofs.Laws.{append-canonical}
 use Rattle.field.specs.Field.{halving, power, root}
-use Rattle.counts.specs.Counts.{mostBatches, isTapLength, tapWordBatches, isTraceLength, traceWordBatches}
+use Rattle.numbers.specs.Numbers.{mostBatches, isTapLength, tapWordBatches, isTraceLength, traceWordBatches}
 use Rattle.matrix.specs.Matrix.{timesColumn, times}
 use Rattle.refusals.specs.Refusals.{digest}
 use Rattle.refusals.specs.Answers.{unless, after, digestAfter, testsAfter, leaves}

@@ -9,7 +9,7 @@ use native.Mathlib.Omega.{arith}
 use borrow.Author.Tests.{eq-eqb, ne-eqb, eqb-true}
 use lib.Dec.{eqb}
 use lib.ListN.{length}
-use Rattle.counts.specs.Counts.{mostBatches, isTraceLength, traceWordBatches}
+use Rattle.numbers.specs.Numbers.{mostBatches, isTraceLength, traceWordBatches}
 use Rattle.refusals.specs.declared.Refusal.{Refusal}
 use Rattle.refusals.specs.declared.Refusal.the-variants.{TraceLength, DestinationLength}
 use Rattle.refusals.specs.declared.Answer.the-variants as answer

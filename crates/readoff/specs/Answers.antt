@@ -6,7 +6,7 @@ use Prim.Native.Nat.{ℕ, _+_, _*_}
 use lib.Dec.{eqb}
 use lib.ListN.{length}
 use Rattle.words.specs.Words.{firstBad, canonicalWords}
-use Rattle.counts.specs.Counts.{mostBatches, isTraceLength, traceWordBatches}
+use Rattle.numbers.specs.Numbers.{mostBatches, isTraceLength, traceWordBatches}
 use Rattle.refusals.specs.declared.Refusal.the-variants.{TraceLength, DestinationLength, ClaimWord, TraceWord}
 use Rattle.refusals.specs.declared.Answer.{Answer}
 use Rattle.refusals.specs.declared.TestsAnswer.{TestsAnswer}

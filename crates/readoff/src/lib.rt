@@ -9,11 +9,11 @@ ghost use Rattle.constraints.specs.ReadOff.{readInput, readWord, readTaps};
 ghost use Rattle.steps.specs.Steps.{backReady};
 ghost use Rattle.readoff.specs.Answers.{readOffAnswer, readOffLeaves};
 ghost use Rattle.readoff.specs.Lent.{HasTap};
-use counts::BatchCount;
-use counts::BatchNumber;
-use counts::HashNumber;
-use counts::MOST_BATCHES;
-use counts::TapNumber;
+use numbers::BatchCount;
+use numbers::BatchNumber;
+use numbers::HashNumber;
+use numbers::MOST_BATCHES;
+use numbers::TapNumber;
 use refusals::Answer;
 use refusals::Refusal;
 use refusals::TestsAnswer;
@@ -70,7 +70,7 @@ fn test_read_off(table: &[u64], trace: &[u64], claim: &[u64; 4], size: usize) ->
     let Answer::Accepted = tested else {
         return TestsAnswer::Refused(tested.refusal());
     };
-    let BatchCount::Permitted(k) = counts::trace_batches(MOST_BATCHES, trace.len()) else {
+    let BatchCount::Permitted(k) = numbers::trace_batches(MOST_BATCHES, trace.len()) else {
         return TestsAnswer::Refused(Refusal::TraceLength);
     };
     if size != 12 * k + 4 {

@@ -2,7 +2,7 @@
 ghost use mathlib.Core.Path.{_≡_};
 ghost use Rattle.refusals.specs.Refusals.{alone, indexed, told};
 ghost use Rattle.refusals.specs.Answers.{Refuses};
-use counts::RowNumber;
+use numbers::RowNumber;
 
 // A cause, with what is returned with its number. `told` lists number and values for each.
 pub enum Refusal {

@@ -8,8 +8,8 @@ ghost use Rattle.table.specs.Table.{IsTable, initialConstant};
 ghost use Rattle.constraints.specs.Constraints.{row as cells-of, within, round, entering, plusFirst, forward, back};
 ghost use Rattle.steps.specs.Steps.{forwardReady, backReady, columns, tested};
 ghost use Rattle.rows.specs.Lent.{HasRow};
-use counts::RowNumber;
 use field::Fp;
+use numbers::RowNumber;
 
 // The cells of the row, read through the view of its batch.
 pub fn cells(trace: &[u64], row: RowNumber) -> [u64; 12]

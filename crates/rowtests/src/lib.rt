@@ -5,8 +5,8 @@ ghost use Rattle.table.specs.Table.{IsTable};
 ghost use Rattle.constraints.specs.Constraints.{between, within, lastRow, claimRow, applies, holds};
 ghost use Rattle.steps.specs.Steps.{forwardReady, backReady};
 ghost use Rattle.rowtests.specs.RowTests.{forwardOf, backAfter, lowest, highest, InTrace, Tested};
-use counts::RowNumber;
 use field::Fp;
+use numbers::RowNumber;
 
 // Rows 1 to 29 of a batch, whose next row is a middle state too.
 fn is_middle(row: RowNumber) -> bool

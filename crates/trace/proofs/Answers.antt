@@ -7,8 +7,8 @@ use borrow.Author.Tests.{eqb-true, eq-eqb}
 use lib.ListN.{length}
 use Rattle.words.specs.Words.{AllCanonical}
 use Rattle.words.proofs.Laws.{good-test, test-good}
-use Rattle.counts.specs.Counts.{IsPermitted, mostBatches, tapWordBatches}
-use Rattle.counts.proofs.Laws.{tap-length-sound, tap-length-complete}
+use Rattle.numbers.specs.Numbers.{IsPermitted, mostBatches, tapWordBatches}
+use Rattle.numbers.proofs.Laws.{tap-length-sound, tap-length-complete}
 use Rattle.refusals.specs.declared.Answer.the-variants.{Accepted}
 use Rattle.refusals.proofs.Laws.{passed, both-accepted}
 use Rattle.table.specs.Table.{IsTable, tableTest}

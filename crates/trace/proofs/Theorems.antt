@@ -6,7 +6,7 @@ use Prim.Native.Nat.{ℕ, _+_, _*_}
 use native.Mathlib.Omega.{arith}
 use lib.ListN.{length}
 use Rattle.words.specs.Words.{AllCanonical}
-use Rattle.counts.specs.Counts.{IsPermitted, tapWordBatches}
+use Rattle.numbers.specs.Numbers.{IsPermitted, tapWordBatches}
 use Rattle.refusals.specs.declared.DigestAnswer.the-variants.{Accepted}
 use Rattle.refusals.specs.Refusals.{digest}
 use Rattle.refusals.specs.Answers.{digestAfter, leaves}

@@ -6,7 +6,7 @@ use Prim.Native.Nat.{ℕ, _*_}
 use lib.Dec.{eqb}
 use lib.ListN.{length}
 use Rattle.words.specs.Words.{firstBad, canonicalWords}
-use Rattle.counts.specs.Counts.{mostBatches, isTapLength, tapWordBatches}
+use Rattle.numbers.specs.Numbers.{mostBatches, isTapLength, tapWordBatches}
 use Rattle.refusals.specs.declared.Refusal.the-variants.{TapLength, TapWord, DestinationLength}
 use Rattle.refusals.specs.declared.Answer.{Answer}
 use Rattle.refusals.specs.declared.Answer.the-variants.{Accepted}

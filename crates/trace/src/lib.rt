@@ -8,10 +8,10 @@ ghost use Rattle.hash.specs.Hash.{middleState, finalState, outputAt, chain};
 ghost use Rattle.trace.specs.Trace.{hashInput, traceRow, trace};
 ghost use Rattle.trace.specs.Rows.{withRows, Writable};
 ghost use Rattle.trace.specs.Answers.{buildTest, buildAnswer, buildLeaves};
-use counts::BatchCount;
-use counts::BatchNumber;
-use counts::MOST_BATCHES;
-use counts::RowNumber;
+use numbers::BatchCount;
+use numbers::BatchNumber;
+use numbers::MOST_BATCHES;
+use numbers::RowNumber;
 use refusals::Answer;
 use refusals::Digest;
 use refusals::DigestAnswer;
@@ -124,7 +124,7 @@ fn test_build(table: &[u64], taps: &[u64], size: usize) -> Answer
     let Answer::Accepted = tested else {
         return tested;
     };
-    let BatchCount::Permitted(k) = counts::tap_batches(MOST_BATCHES, taps.len()) else {
+    let BatchCount::Permitted(k) = numbers::tap_batches(MOST_BATCHES, taps.len()) else {
         return Answer::Refused(Refusal::TapLength);
     };
     if size != 384 * k {

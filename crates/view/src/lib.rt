@@ -4,8 +4,8 @@ ghost use Prim.Native.Nat.{_+_, _*_, _<_, _≤_, _^_};
 ghost use lib.ListN.{length};
 ghost use Rattle.constraints.specs.Constraints.{row};
 ghost use Rattle.view.specs.Lent.{LentRow};
-use counts::BatchNumber;
-use counts::RowNumber;
+use numbers::BatchNumber;
+use numbers::RowNumber;
 
 // The lent trace, at one of its batches.
 pub struct Batch<'a> {

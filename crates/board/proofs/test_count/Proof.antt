@@ -5,7 +5,7 @@ use Prim.Native.Nat.{_/_, _^_}
 use borrow.Author.Needs.{needs}
 use borrow.Author.Tests.{eq-eqb, ne-eqb}
 use lib.Dec.{eqb}
-use Rattle.counts.specs.Counts.{permitted}
+use Rattle.numbers.specs.Numbers.{permitted}
 use Rattle.refusals.specs.Answers.{unless}
 use Rattle.refusals.specs.declared.Refusal.the-variants.{WrongValue}
 use Rattle.refusals.specs.declared.Answer.{Answer}

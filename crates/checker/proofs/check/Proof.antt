@@ -2,8 +2,8 @@
 -- Assumes nothing.
 use mathlib.Core.Path.{_≡_, refl, sym, _∙_}
 use lib.ListN.{length}
-use Rattle.counts.specs.Counts.{mostBatches}
-use Rattle.counts.proofs.Laws.{trace-permitted, trace-refused}
+use Rattle.numbers.specs.Numbers.{mostBatches}
+use Rattle.numbers.proofs.Laws.{trace-permitted, trace-refused}
 use Rattle.refusals.specs.declared.Answer.{Answer}
 use Rattle.refusals.proofs.Laws.{unless-refused, unless-passed, after-refused, after-accepted, tests-turned-back}
 use Rattle.checker.specs.Answers.{checkTest, checkAnswer}

@@ -2,8 +2,8 @@
 -- Assumes nothing.
 use mathlib.Core.Path.{refl}
 use lib.ListN.{length}
-use Rattle.counts.specs.Counts.{mostBatches}
-use Rattle.counts.proofs.Laws.{tap-permitted, tap-refused}
+use Rattle.numbers.specs.Numbers.{mostBatches}
+use Rattle.numbers.proofs.Laws.{tap-permitted, tap-refused}
 use Rattle.refusals.proofs.Laws.{unless-refused, unless-passed, after-refused, after-accepted}
 use Rattle.export.specs.Calls.{chainNoRoom}
 use borrow.Author.Needs.{needs}

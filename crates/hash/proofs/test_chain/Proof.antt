@@ -4,8 +4,8 @@ use mathlib.Core.Path.{_≡_, refl, ap}
 use lib.ListN.{length}
 use Rattle.words.specs.Words.{firstBad, canonicalWords}
 use Rattle.words.proofs.Laws.{scanned-good, scanned-bad}
-use Rattle.counts.specs.Counts.{mostBatches}
-use Rattle.counts.proofs.Laws.{tap-permitted, tap-refused}
+use Rattle.numbers.specs.Numbers.{mostBatches}
+use Rattle.numbers.proofs.Laws.{tap-permitted, tap-refused}
 use Rattle.refusals.specs.declared.Refusal.the-variants.{TapWord}
 use Rattle.refusals.specs.declared.Answer.{Answer}
 use Rattle.refusals.specs.declared.Answer.the-variants.{Accepted, Refused}

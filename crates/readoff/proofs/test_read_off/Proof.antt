@@ -5,8 +5,8 @@ use Prim.Native.Nat.{_+_, _*_, _^_, _<_}
 use native.Mathlib.Omega.{arith}
 use lib.Dec.{eqb}
 use lib.ListN.{length}
-use Rattle.counts.specs.Counts.{IsPermitted, mostBatches, traceWordBatches}
-use Rattle.counts.proofs.Laws.{trace-permitted, trace-refused}
+use Rattle.numbers.specs.Numbers.{IsPermitted, mostBatches, traceWordBatches}
+use Rattle.numbers.proofs.Laws.{trace-permitted, trace-refused}
 use Rattle.refusals.specs.declared.Refusal.the-variants.{DestinationLength}
 use Rattle.refusals.specs.declared.Answer.{Answer}
 use Rattle.refusals.specs.Answers.{unless}

@@ -8,8 +8,8 @@ use lib.Dec.{eqb}
 use lib.ListN.{length}
 use Rattle.words.specs.Words.{firstBad, canonicalWords}
 use Rattle.words.proofs.Laws.{scanned-good, scanned-bad}
-use Rattle.counts.specs.Counts.{mostBatches, tapWordBatches}
-use Rattle.counts.proofs.Laws.{tap-length-sound, tap-permitted, tap-refused}
+use Rattle.numbers.specs.Numbers.{mostBatches, tapWordBatches}
+use Rattle.numbers.proofs.Laws.{tap-length-sound, tap-permitted, tap-refused}
 use Rattle.refusals.specs.declared.Refusal.the-variants.{TapWord, DestinationLength}
 use Rattle.refusals.specs.declared.Answer.{Answer}
 use Rattle.refusals.specs.declared.Answer.the-variants.{Accepted, Refused}

@@ -47,8 +47,8 @@ use Rattle.view.specs.Lent.{LentRow}
 use Rattle.view.specs.declared.Batch.{Batch}
 use Rattle.view.proofs.Batch as T
 use Rattle.view.proofs.Batch.Laws as T′
-use Rattle.counts.proofs.BatchNumber as N
-use Rattle.counts.proofs.BatchNumber.Laws as N′
+use Rattle.numbers.proofs.BatchNumber as N
+use Rattle.numbers.proofs.BatchNumber.Laws as N′
 use Rattle.view.proofs.row_at as row-at
 use Rattle.view.proofs.row_at.Symbol as row-at-def
 use Rattle.view.proofs.row_at.Symbol.{name as #view·row-at}

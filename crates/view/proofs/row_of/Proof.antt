@@ -41,11 +41,11 @@ use denote.Triple.Clauses.{ensured, lasts}
 use Rattle.constraints.specs.Constraints.{row as cells-of}
 use Rattle.view.specs.Lent.{LentRow}
 use Rattle.view.specs.declared.Batch.{Batch}
-use Rattle.counts.specs.declared.BatchNumber.{BatchNumber}
+use Rattle.numbers.specs.declared.BatchNumber.{BatchNumber}
 use Rattle.view.proofs.Batch as T
 use Rattle.view.proofs.Batch.Laws as T′
-use Rattle.counts.proofs.BatchNumber as N
-use Rattle.counts.proofs.BatchNumber.Laws as N′
+use Rattle.numbers.proofs.BatchNumber as N
+use Rattle.numbers.proofs.BatchNumber.Laws as N′
 use Rattle.view.proofs.view as view
 use Rattle.view.proofs.view.Symbol as view-def
 use Rattle.view.proofs.view.Symbol.{name as #view·view}

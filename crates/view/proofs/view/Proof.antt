@@ -36,11 +36,11 @@ use denote.Triple.Table.{entered}
 use denote.Triple.Walked.{says, Stays, stay-none, stay-none-slice, walkOf, goes-none, goes-none-slice, Walks, ends-at, walked, walk-meets}
 use denote.Exit.{yes}
 use Rattle.view.specs.declared.Batch.{Batch}
-use Rattle.counts.specs.declared.BatchNumber.{BatchNumber}
+use Rattle.numbers.specs.declared.BatchNumber.{BatchNumber}
 use Rattle.view.proofs.Batch as T
 use Rattle.view.proofs.Batch.Laws as T′
-use Rattle.counts.proofs.BatchNumber as N
-use Rattle.counts.proofs.BatchNumber.Laws as N′
+use Rattle.numbers.proofs.BatchNumber as N
+use Rattle.numbers.proofs.BatchNumber.Laws as N′
 use Rattle.view.proofs.view.Key.{name as #view·view}
 use Rattle.view.proofs.view as view
 use Rattle.view.proofs.view.Statement as stated

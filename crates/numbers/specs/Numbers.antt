@@ -6,8 +6,8 @@ use Prim.Native.Nat.{ℕ, _/_, _%_, _≤_}
 use lib.Count.{ones}
 use lib.Dec.{leb, eqb}
 use Rattle.lists.specs.Lists.{choose}
-use Rattle.counts.specs.declared.BatchCount.{BatchCount}
-use Rattle.counts.specs.declared.BatchCount.the-variants.{Permitted, Refused}
+use Rattle.numbers.specs.declared.BatchCount.{BatchCount}
+use Rattle.numbers.specs.declared.BatchCount.the-variants.{Permitted, Refused}
 
 -- the most batches of a list of taps and of a trace
 abbrev pub mostBatches : ℕ

@@ -1,9 +1,9 @@
--- `counts::tap_batches` meets its contract.
+-- `numbers::tap_batches` meets its contract.
 -- Assumes nothing.
 use borrow.Author.Needs.{needs}
 use borrow.Author.Tests.{eq-eqb, ne-eqb}
-use Rattle.counts.proofs.tap_batches.Statement.{statement}
-use Rattle.counts.proofs.tap_batches.Tie as tie
+use Rattle.numbers.proofs.tap_batches.Statement.{statement}
+use Rattle.numbers.proofs.tap_batches.Tie as tie
 
 returns : tie.Need-returns
 returns c = simp (ne-eqb _ _ (c .if1 .taken))

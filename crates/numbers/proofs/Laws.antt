@@ -11,9 +11,9 @@ use lib.Count.{ones, ones-step, ones-cat}
 use lib.Dec.{leb, eqb}
 use lib.Pow.{pow-pos, pow-mono}
 use Rattle.lists.proofs.Bools.{and-both, and-intro}
-use Rattle.counts.specs.Counts.{IsPermittedTo, IsPermitted, permitted, tapWordBatches, isTapLength, traceWordBatches, isTraceLength, batchesIf}
-use Rattle.counts.specs.declared.BatchCount.{BatchCount}
-use Rattle.counts.specs.declared.BatchCount.the-variants.{Permitted, Refused}
+use Rattle.numbers.specs.Numbers.{IsPermittedTo, IsPermitted, permitted, tapWordBatches, isTapLength, traceWordBatches, isTraceLength, batchesIf}
+use Rattle.numbers.specs.declared.BatchCount.{BatchCount}
+use Rattle.numbers.specs.declared.BatchCount.the-variants.{Permitted, Refused}
 
 -- ---- one set bit
 ones-zero : ones 0 ≡ 0

@@ -1,9 +1,9 @@
--- `counts::batch_count` meets its contract.
+-- `numbers::batch_count` meets its contract.
 -- Assumes nothing.
 use mathlib.Core.Path.{sym, _∙_}
 use borrow.Author.Needs.{needs}
-use Rattle.counts.proofs.batch_count.Statement.{statement}
-use Rattle.counts.proofs.batch_count.Tie as tie
+use Rattle.numbers.proofs.batch_count.Statement.{statement}
+use Rattle.numbers.proofs.batch_count.Tie as tie
 
 is-permitted-requires : tie.Need-is-permitted-requires
 is-permitted-requires c κs = search needs

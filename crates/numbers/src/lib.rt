@@ -1,7 +1,7 @@
 // Batch, row, hash and tap numbers (document 01, "The trace": counts of their own), and the permitted batch counts ("Hash and chain").
 ghost use mathlib.Core.Path.{_≡_};
 ghost use Prim.Native.Nat.{_+_, _*_, _/_, _%_, _<_, _^_};
-ghost use Rattle.counts.specs.Counts.{batchesIf, isTapLength, isTraceLength, permitted, tapWordBatches, traceWordBatches};
+ghost use Rattle.numbers.specs.Numbers.{batchesIf, isTapLength, isTraceLength, permitted, tapWordBatches, traceWordBatches};
 
 // A batch of three hashes, counted from 0.
 pub struct BatchNumber(pub usize);

@@ -1,8 +1,8 @@
--- `counts::is_permitted` meets its contract.
+-- `numbers::is_permitted` meets its contract.
 -- Assumes nothing.
 use borrow.Author.Tests.{lt-leb, le-leb}
-use Rattle.counts.proofs.is_permitted.Statement.{statement}
-use Rattle.counts.proofs.is_permitted.Tie as tie
+use Rattle.numbers.proofs.is_permitted.Statement.{statement}
+use Rattle.numbers.proofs.is_permitted.Tie as tie
 
 returns : tie.Need-returns
 returns c = simp (lt-leb _ _ (c .if1 .taken))
