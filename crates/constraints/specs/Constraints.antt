@@ -1,5 +1,6 @@
--- The 52 constraints, and the ordered list of all tests of a trace (document 01, "The 52 constraints"; Rescue STARK documentation 1.0, section 3.3.2).
--- T is a prepared table, t a trace of k batches, row by row; i is the number of a row in the whole trace, c that of a constraint.
+-- The 52 constraints, and the ordered list of all tests of a trace (document 01, "The 52 constraints"; Rescue STARK
+-- documentation 1.0, section 3.3.2). T is a prepared table, t a trace of k batches, row by row; i is the number of a
+-- row in the whole trace, c that of a constraint.
 -- Assumes nothing.
 use mathlib.Core.Bool.{Bool, true, false, _&&_, _||_, not}
 use mathlib.Core.List.{List, [], _∷_, _++_}
@@ -38,7 +39,8 @@ entering i = eqb (within i) 10 || eqb (within i) 20
 unfoldable pub plusFirst : ℕ → List ℕ → List ℕ → List ℕ
 plusFirst n s k = tab 12 (λ j. choose (ltb j n) (add (cell s j) (cell k j)) (cell s j))
 
--- forward of row i: its cells cubed, times M, plus that round's second-step constant; at rows 10 and 20 K_0 is added too, in columns 0 to 3 only
+-- forward of row i: its cells cubed, times M, plus that round's second-step constant; at rows 10 and 20 K_0 is added
+-- too, in columns 0 to 3 only
 unfoldable pub forward : List ℕ → List ℕ → ℕ → List ℕ
 forward T t i =
     choose (entering i) (plusFirst 4 (secondStep T (round i) (row t i)) (initialConstant T))

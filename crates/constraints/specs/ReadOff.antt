@@ -12,7 +12,8 @@ use Rattle.constraints.specs.Constraints.{row, minus, back}
 abbrev pub firstRow : ℕ → ℕ
 firstRow h = 32 * (h / 3) + 10 * (h % 3) + 1
 
--- the input of hash h: row 0 of the batch for the first of its three hashes; for the others back less K_0 at rows 10 and 20, that is back of rows 11 and 21
+-- the input of hash h: row 0 of the batch for the first of its three hashes; for the others back less K_0 at rows 10
+-- and 20, that is back of rows 11 and 21
 unfoldable pub readInput : List ℕ → List ℕ → ℕ → List ℕ
 readInput T t h = choose (eqb (h % 3) 0) (row t (32 * (h / 3))) (minus (back T t (firstRow h)) (initialConstant T))
 

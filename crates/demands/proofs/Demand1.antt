@@ -13,7 +13,7 @@ use lib.ListN.{length}
 use Rattle.lists.proofs.Bools.{or-cases, and-both}
 use Rattle.words.specs.Words.{AllCanonical}
 use Rattle.numbers.specs.Numbers.{mostBatches, isTapLength, tapWordBatches, traceWordBatches}
-use Rattle.refusals.specs.Refusals.{told, indexed, digest, digestWords}
+use Rattle.refusals.specs.Refusals.{told, digest, digestWords}
 use Rattle.refusals.specs.Answers.{Refuses as IsRefusal, digestAfter, testsAfter, leaves}
 use Rattle.refusals.specs.declared.Refusal.{Refusal}
 use Rattle.refusals.specs.declared.Refusal.the-variants.{NoInverse, WrongInverse, TapLength, DestinationLength}
@@ -39,14 +39,14 @@ use Rattle.readoff.specs.Answers.{readOffAnswer, readOffLeaves, readOffTest}
 use Rattle.readoff.proofs.Answers.{read-off-inputs}
 use Rattle.board.specs.Board.{packTest, packed, packLeaves, unpackAnswer, unpackTest, tapsIn, claimIn, unpackLeaves}
 use Rattle.board.proofs.Round.{claim-is}
-use Rattle.export.specs.Code.{answerCode, digestCode, testsCode, Says}
+use Rattle.export.specs.Code.{answerCode, digestCode, testsCode}
 use Rattle.export.specs.Calls.{written, HandsOver, PrepareCall, hashCallTest, hashCall, chainCallTest, chainCall, buildCallTest, buildCall, BuildCall, ReadOffCall, PackCall, unpackCallTest, unpackCall, UnpackCall}
 use Rattle.export.proofs.Answers.{chain-room, build-room}
 use Rattle.export.proofs.Bits.{RefusalInBits, says, says-accepted}
 use Rattle.export.proofs.Endings as ends
 use Rattle.export.proofs.Endings.{TableCauses}
 use Rattle.export.proofs.Theorems as bits
-use Rattle.demands.specs.Demand1.{Operation, prepare, hash, chain, build, check, read-off, pack, unpack, numbers, callNumbers, OneOf, Refuses, prepare-refuses, hash-refuses, chain-refuses, build-refuses, check-refuses, read-off-refuses, pack-refuses, unpack-refuses, Answered, accepted, refused, HashResult, ChainResult, BuildResult, CheckResult, ReadOffResult, Demand1}
+use Rattle.demands.specs.Demand1.{Operation, prepare, hash, chain, build, check, read-off, pack, unpack, numbers, callNumbers, OneOf, Refuses, prepare-refuses, hash-refuses, chain-refuses, build-refuses, check-refuses, read-off-refuses, pack-refuses, unpack-refuses, Answered, accepted, refused, PrepareResult, HashResult, ChainResult, BuildResult, CheckResult, ReadOffResult, PackResult, UnpackResult, Demand1}
 use Rattle.demands.proofs.Returned.{four-words}
 
 -- ---- numbers of a list, by computing
@@ -151,13 +151,13 @@ module _ (code : ℕ) (ns : List ℕ) (full : ℕ → Type 0) (kept : Type 0) wh
   tests-says (answer.Refused r) n e l b o f k = refused r (rw e (says (told r) b)) o (k (r, refl))
 
 prepare-call : (raw table table′ : List ℕ) (code : ℕ) → PrepareCall raw table code table′
-    → Answered code (callNumbers prepare) (λ tests. (tests ≡ 0) × Prepares raw table answer.Accepted table′) (table′ ≡ table)
+    → Answered code (callNumbers prepare) (PrepareResult raw table table′) (table′ ≡ table)
 prepare-call raw table table′ code h =
     let ns = callNumbers prepare in
-    answer-says code ns (λ tests. (tests ≡ 0) × Prepares raw table answer.Accepted table′) (table′ ≡ table) (h .answer) (h .coded)
+    answer-says code ns (PrepareResult raw table table′) (table′ ≡ table) (h .answer) (h .coded)
     (bits.prepare-bits raw table table′ (h .answer) (h .prepares))
     (ends.prepare-ends (OneOf ns) (one-of 1 ns refl) (one-of 8 ns refl) (λ i l. one-of 2 ns refl) (one-of 3 ns refl) raw table table′ (h .answer) (h .prepares))
-    (λ e. (refl, subst (λ a. Prepares raw table a table′) e (h .prepares)))
+    (λ e. record { none = refl; prepares = subst (λ a. Prepares raw table a table′) e (h .prepares) })
     (λ r. refused-kept raw table table′ (r .0) (subst (λ a. Prepares raw table a table′) (r .1) (h .prepares)))
 
 -- four words that are handed over after the tests t
@@ -286,32 +286,32 @@ module _ (T t : List ℕ) (c0 c1 c2 c3 : ℕ) where
       (λ r. h .list ∙ ap (λ x. leaves x (readTaps T t k) taps) (r .1))
 
 pack-call : (w file file′ : List ℕ) (c0 c1 c2 c3 code : ℕ) → PackCall w (c0 ∷ c1 ∷ c2 ∷ c3 ∷ []) file code file′
-    → Answered code (callNumbers pack) (λ tests. (tests ≡ 0) × (file′ ≡ packed w (c0 ∷ c1 ∷ c2 ∷ c3 ∷ []))) (file′ ≡ file)
+    → Answered code (callNumbers pack) (PackResult w (c0 ∷ c1 ∷ c2 ∷ c3 ∷ []) file′) (file′ ≡ file)
 unfolding packLeaves
 pack-call w file file′ c0 c1 c2 c3 code h =
     let ns = callNumbers pack in
     let claim : List ℕ = c0 ∷ c1 ∷ c2 ∷ c3 ∷ [] in
-    answer-says code ns (λ tests. (tests ≡ 0) × (file′ ≡ packed w claim)) (file′ ≡ file) (packTest w claim (length file)) (h .coded)
+    answer-says code ns (PackResult w claim file′) (file′ ≡ file) (packTest w claim (length file)) (h .coded)
     (bits.pack-bits w claim (length file) refl)
     (ends.pack-ends (OneOf ns) w claim (length file) (one-of 5 ns refl) (one-of 8 ns refl) (λ i l. one-of 9 ns refl) (λ k s p i l. one-of 6 ns refl))
-    (λ e. (refl, h .file ∙ ap (λ x. leaves x (packed w claim) file) e))
+    (λ e. record { none = refl; file-is = h .file ∙ ap (λ x. leaves x (packed w claim) file) e })
     (λ r. h .file ∙ ap (λ x. leaves x (packed w claim) file) (r .1))
 
 unpack-call : (file taps taps′ claim claim′ : List ℕ) (code : ℕ) → UnpackCall file code taps taps′ claim claim′
-    → Answered code (callNumbers unpack) (λ tests. (tests ≡ 0) × (taps′ ≡ tapsIn file) × (claim′ ≡ claimIn file)) ((taps′ ≡ taps) × (claim′ ≡ claim))
+    → Answered code (callNumbers unpack) (UnpackResult file taps′ claim′) ((taps′ ≡ taps) × (claim′ ≡ claim))
 unfolding unpackCall
 unpack-call file taps taps′ claim claim′ code h =
     let ns = callNumbers unpack in
     let t = unpackCallTest file (length taps) (length claim) in
     let d = digest (claimIn file) in
-    digest-says code ns (λ tests. (tests ≡ 0) × (taps′ ≡ tapsIn file) × (claim′ ≡ claimIn file)) ((taps′ ≡ taps) × (claim′ ≡ claim)) t d (h .four .coded)
+    digest-says code ns (UnpackResult file taps′ claim′) ((taps′ ≡ taps) × (claim′ ≡ claim)) t d (h .four .coded)
     (bits.unpack-bits file (length taps) (length claim))
     (ends.unpack-call-ends (OneOf ns) file (one-of 12 ns refl) (one-of 8 ns refl) (λ j l. one-of 13 ns refl) (λ j l. one-of 14 ns refl) (length taps) (length claim))
-    (λ e. (
-      refl,
-      h .list ∙ ap (λ x. leaves x (tapsIn file) taps) e,
-      output-new t d code claim claim′ (h .four) e ∙ sym (claim-is file d refl),
-    ))
+    (λ e. record {
+      none = refl;
+      taps-are = h .list ∙ ap (λ x. leaves x (tapsIn file) taps) e;
+      claim-is = output-new t d code claim claim′ (h .four) e ∙ sym (claim-is file d refl);
+    })
     (λ r. (h .list ∙ ap (λ x. leaves x (tapsIn file) taps) (r .1), output-old t d code claim claim′ (h .four) r))
 
 -- ---- the demand

@@ -24,7 +24,7 @@ use Rattle.hash.proofs.Answers.{hash-passes, chain-passes}
 use Rattle.hash.proofs.Inputs.{IsTap, output-tap}
 use Rattle.trace.specs.Trace.{trace}
 use Rattle.trace.specs.Answers.{buildTest, buildAnswer, buildLeaves}
-use Rattle.trace.proofs.Answers.{BuildInputs, build-inputs}
+use Rattle.trace.proofs.Answers.{build-inputs}
 use Rattle.trace.proofs.TraceCells.{length-trace, trace-canonical}
 use Rattle.trace.proofs.Theorems.{build-accepts, build-leaves}
 use Rattle.constraints.specs.Constraints.{tests}

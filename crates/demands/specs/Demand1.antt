@@ -1,6 +1,6 @@
--- Demand 1 (document 00): the answer to every call is a full result or one of document 01's numbered refusals, for all tables, tap lists, traces and
--- files that can be lent, and a refusal alters no lent buffer.
--- (The contracts have no `requires`, and equate every answer with a definition that has a value for whatever is lent.)
+-- Demand 1 (document 00): the answer to every call is a full result or one of document 01's numbered refusals, for
+-- all tables, tap lists, traces and files that can be lent, and a refusal alters no lent buffer. (The contracts have
+-- no `requires`, and equate every answer with a definition that has a value for whatever is lent.)
 -- Assumes nothing.
 use mathlib.Core.Path.{_≡_}
 use mathlib.Core.List.{List, [], _∷_, List·Memᴰ}
@@ -24,9 +24,11 @@ use Rattle.checker.specs.Answers.{checkAnswer}
 use Rattle.readoff.specs.Answers.{readOffAnswer, readOffLeaves}
 use Rattle.board.specs.Board.{packTest, packed, packLeaves, unpackAnswer, tapsIn, claimIn, unpackLeaves}
 use Rattle.export.specs.Code.{Says, testsCode}
-use Rattle.export.specs.Calls.{HandsOver, PrepareCall, hashCall, chainCall, BuildCall, ReadOffCall, PackCall, UnpackCall}
+use Rattle.export.specs.Calls.{HandsOver, PrepareCall, hashCall, chainCall, BuildCall, ReadOffCall, PackCall}
+use Rattle.export.specs.Calls.{UnpackCall}
 
--- ---- the operations, and the numbers that each can return, in the order of their tests (document 01, "What is turned back")
+-- ---- the operations, and the numbers that each can return, in the order of their tests (document 01, "What is
+-- turned back")
 
 pub data Operation : Type 0 where
   prepare : Operation
@@ -70,18 +72,25 @@ pub data Refuses : Operation → Refusal → Type 0 where
   chain-refuses : (T w : List ℕ) (r : Refusal) → chainAnswer T w ≡ digest.Refused r → Refuses chain r
   build-refuses : (T w : List ℕ) (size : ℕ) (r : Refusal) → buildAnswer T w size ≡ digest.Refused r → Refuses build r
   check-refuses : (T t claim : List ℕ) (r : Refusal) → checkAnswer T t claim ≡ tests.Refused r → Refuses check r
-  read-off-refuses : (T t claim : List ℕ) (size : ℕ) (r : Refusal) → readOffAnswer T t claim size ≡ tests.Refused r → Refuses read-off r
+  read-off-refuses : (T t claim : List ℕ) (size : ℕ) (r : Refusal) → readOffAnswer T t claim size ≡ tests.Refused r
+      → Refuses read-off r
   pack-refuses : (w claim : List ℕ) (size : ℕ) (r : Refusal) → packTest w claim size ≡ answer.Refused r → Refuses pack r
-  unpack-refuses : (file : List ℕ) (size : ℕ) (r : Refusal) → unpackAnswer file size ≡ digest.Refused r → Refuses unpack r
+  unpack-refuses : (file : List ℕ) (size : ℕ) (r : Refusal) → unpackAnswer file size ≡ digest.Refused r
+      → Refuses unpack r
 
 -- ---- a call from another language: what the word says that it returns
 
--- a full result, with the tests walked where the operation counts them; or one of these refusals, and what was lent is as it was
+-- a full result, with the tests walked where the operation counts them; or one of these refusals, and what was lent
+-- is as it was
 pub data Answered (code : ℕ) (ns : List ℕ) (full : ℕ → Type 0) (kept : Type 0) : Type 0 where
   accepted : (tests : ℕ) → Says code (indexed 0 tests) → full tests → Answered code ns full kept
   refused : (r : Refusal) → Says code (told r) → OneOf ns r → kept → Answered code ns full kept
 
 -- the full results: each destination holds all of what it is for. Operations without tests report 0 of them
+pub record PrepareResult (raw old table : List ℕ) (tests : ℕ) : Type 0 where
+  pub none : tests ≡ 0
+  pub prepares : Prepares raw old answer.Accepted table
+
 pub record HashResult (T a b output : List ℕ) (tests : ℕ) : Type 0 where
   pub none : tests ≡ 0
   pub output-is : output ≡ rescue.hash T a b
@@ -114,6 +123,15 @@ pub record ReadOffResult (T t taps : List ℕ) (tests : ℕ) : Type 0 where
   pub all : tests ≡ 372 * k
   pub taps-are : taps ≡ readTaps T t k
 
+pub record PackResult (w claim file : List ℕ) (tests : ℕ) : Type 0 where
+  pub none : tests ≡ 0
+  pub file-is : file ≡ packed w claim
+
+pub record UnpackResult (file taps claim : List ℕ) (tests : ℕ) : Type 0 where
+  pub none : tests ≡ 0
+  pub taps-are : taps ≡ tapsIn file
+  pub claim-is : claim ≡ claimIn file
+
 -- ---- the demand
 
 pub record Demand1 : Type 0 where
@@ -124,29 +142,35 @@ pub record Demand1 : Type 0 where
   pub only-prepare-3 : (o : Operation) → Refuses o NoInverse → o ≡ prepare
   -- Prepare, whose answer is given by a relation, has exactly one answer and leaves exactly one content
   pub prepare-answers : (raw old : List ℕ) → (a : Answer) × ((new : List ℕ) × Prepares raw old a new)
-  pub prepare-answers-once : (raw old : List ℕ) (a b : Answer) (s t : List ℕ) → Prepares raw old a s → Prepares raw old b t → (a ≡ b) × (s ≡ t)
+  pub prepare-answers-once : (raw old : List ℕ) (a b : Answer) (s t : List ℕ) → Prepares raw old a s
+      → Prepares raw old b t → (a ≡ b) × (s ≡ t)
   -- what each operation that writes leaves after a refusal
   pub prepare-keeps : (raw old new : List ℕ) (r : Refusal) → Prepares raw old (answer.Refused r) new → new ≡ old
-  pub build-keeps : (T w old : List ℕ) (r : Refusal) → buildAnswer T w (length old) ≡ digest.Refused r → buildLeaves T w old ≡ old
+  pub build-keeps : (T w old : List ℕ) (r : Refusal) → buildAnswer T w (length old) ≡ digest.Refused r
+      → buildLeaves T w old ≡ old
   pub read-off-keeps : (T t claim old : List ℕ) (r : Refusal) → readOffAnswer T t claim (length old) ≡ tests.Refused r
       → readOffLeaves T t claim old ≡ old
-  pub pack-keeps : (w claim old : List ℕ) (r : Refusal) → packTest w claim (length old) ≡ answer.Refused r → packLeaves w claim old ≡ old
-  pub unpack-keeps : (file old : List ℕ) (r : Refusal) → unpackAnswer file (length old) ≡ digest.Refused r → unpackLeaves file old ≡ old
+  pub pack-keeps : (w claim old : List ℕ) (r : Refusal) → packTest w claim (length old) ≡ answer.Refused r
+      → packLeaves w claim old ≡ old
+  pub unpack-keeps : (file old : List ℕ) (r : Refusal) → unpackAnswer file (length old) ≡ digest.Refused r
+      → unpackLeaves file old ≡ old
   -- the calls: whatever words and lengths are lent, with `′` on what a buffer holds afterwards
   pub prepare-call : (raw table table′ : List ℕ) (code : ℕ) → PrepareCall raw table code table′
-      → Answered code (callNumbers prepare) (λ tests. (tests ≡ 0) × Prepares raw table answer.Accepted table′) (table′ ≡ table)
+      → Answered code (callNumbers prepare) (PrepareResult raw table table′) (table′ ≡ table)
   pub hash-call : (T output output′ : List ℕ) (w0 w1 w2 w3 w4 w5 w6 w7 code : ℕ)
       → HandsOver (hashCall T (w0 ∷ w1 ∷ w2 ∷ w3 ∷ w4 ∷ w5 ∷ w6 ∷ w7 ∷ []) (length output)) code output output′
-      → Answered code (callNumbers hash) (HashResult T (w0 ∷ w1 ∷ w2 ∷ w3 ∷ []) (w4 ∷ w5 ∷ w6 ∷ w7 ∷ []) output′) (output′ ≡ output)
+      → Answered code (callNumbers hash)
+      (HashResult T (w0 ∷ w1 ∷ w2 ∷ w3 ∷ []) (w4 ∷ w5 ∷ w6 ∷ w7 ∷ []) output′) (output′ ≡ output)
   pub chain-call : (T w output output′ : List ℕ) (code : ℕ) → HandsOver (chainCall T w (length output)) code output output′
       → Answered code (callNumbers chain) (ChainResult T w output′) (output′ ≡ output)
   pub build-call : (T w rows rows′ output output′ : List ℕ) (code : ℕ) → BuildCall T w code rows rows′ output output′
       → Answered code (callNumbers build) (BuildResult T w rows′ output′) ((rows′ ≡ rows) × (output′ ≡ output))
   pub check-call : (T t : List ℕ) (c0 c1 c2 c3 code : ℕ) → code ≡ testsCode (checkAnswer T t (c0 ∷ c1 ∷ c2 ∷ c3 ∷ []))
       → Answered code (callNumbers check) (CheckResult t) Unit
-  pub read-off-call : (T t taps taps′ : List ℕ) (c0 c1 c2 c3 code : ℕ) → ReadOffCall T t (c0 ∷ c1 ∷ c2 ∷ c3 ∷ []) code taps taps′
+  pub read-off-call : (T t taps taps′ : List ℕ) (c0 c1 c2 c3 code : ℕ)
+      → ReadOffCall T t (c0 ∷ c1 ∷ c2 ∷ c3 ∷ []) code taps taps′
       → Answered code (callNumbers read-off) (ReadOffResult T t taps′) (taps′ ≡ taps)
   pub pack-call : (w file file′ : List ℕ) (c0 c1 c2 c3 code : ℕ) → PackCall w (c0 ∷ c1 ∷ c2 ∷ c3 ∷ []) file code file′
-      → Answered code (callNumbers pack) (λ tests. (tests ≡ 0) × (file′ ≡ packed w (c0 ∷ c1 ∷ c2 ∷ c3 ∷ []))) (file′ ≡ file)
+      → Answered code (callNumbers pack) (PackResult w (c0 ∷ c1 ∷ c2 ∷ c3 ∷ []) file′) (file′ ≡ file)
   pub unpack-call : (file taps taps′ claim claim′ : List ℕ) (code : ℕ) → UnpackCall file code taps taps′ claim claim′
-      → Answered code (callNumbers unpack) (λ tests. (tests ≡ 0) × (taps′ ≡ tapsIn file) × (claim′ ≡ claimIn file)) ((taps′ ≡ taps) × (claim′ ≡ claim))
+      → Answered code (callNumbers unpack) (UnpackResult file taps′ claim′) ((taps′ ≡ taps) × (claim′ ≡ claim))

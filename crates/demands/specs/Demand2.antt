@@ -1,6 +1,6 @@
--- Demand 2 (document 00): hash, chain and trace are those of the Rescue STARK documentation 1.0 for every accepted table; reading off a built trace,
--- under the output its building returned, yields the taps that it was built from; a packed board file unpacks to its taps and claim, and an accepted
--- file packs to the same bytes.
+-- Demand 2 (document 00): hash, chain and trace are those of the Rescue STARK documentation 1.0 for every accepted
+-- table; reading off a built trace, under the output its building returned, yields the taps that it was built from; a
+-- packed board file unpacks to its taps and claim, and an accepted file packs to the same bytes.
 -- Assumes nothing.
 use mathlib.Core.Path.{_≡_}
 use mathlib.Core.List.{List, _++_}
@@ -24,19 +24,27 @@ use Rattle.board.specs.Board.{packTest, packLeaves, unpackAnswer, unpackLeaves}
 
 pub record Demand2 : Type 0 where
   -- for every accepted table and permitted k, hash, chain and trace of canonical words are those of the definitions
-  pub hashes : (T a b : List ℕ) → tableTest T ≡ answer.Accepted → length a ≡ 4 → AllCanonical a → length b ≡ 4 → AllCanonical b
+  pub hashes : (T a b : List ℕ) → tableTest T ≡ answer.Accepted → length a ≡ 4 → AllCanonical a → length b ≡ 4
+      → AllCanonical b
       → hashAnswer T (a ++ b) ≡ Accepted (digest (hash T a b))
-  pub chains : (T w : List ℕ) (k : ℕ) → tableTest T ≡ answer.Accepted → IsPermitted k → length w ≡ 12 * k + 4 → AllCanonical w
+  pub chains : (T w : List ℕ) (k : ℕ) → tableTest T ≡ answer.Accepted → IsPermitted k → length w ≡ 12 * k + 4
+      → AllCanonical w
       → chainAnswer T w ≡ Accepted (digest (chain T w k))
-  pub builds : (T w old : List ℕ) (k : ℕ) → tableTest T ≡ answer.Accepted → IsPermitted k → length w ≡ 12 * k + 4 → AllCanonical w → length old ≡ 384 * k
+  pub builds : (T w old : List ℕ) (k : ℕ) → tableTest T ≡ answer.Accepted → IsPermitted k → length w ≡ 12 * k + 4
+      → AllCanonical w → length old ≡ 384 * k
       → (buildAnswer T w (length old) ≡ Accepted (digest (chain T w k))) × (buildLeaves T w old ≡ trace T w k)
   -- a trace that Build wrote into old, read off under the output d that it returned
-  pub reads-back : (T w old room : List ℕ) (d : Digest) → buildAnswer T w (length old) ≡ Accepted d → length room ≡ length w
+  pub reads-back : (T w old room : List ℕ) (d : Digest) → buildAnswer T w (length old) ≡ Accepted d
+      → length room ≡ length w
       → (readOffAnswer T (buildLeaves T w old) (digestWords d) (length room) ≡ tests.Accepted (372 * tapWordBatches (length w)))
       × (readOffLeaves T (buildLeaves T w old) (digestWords d) room ≡ w)
   -- a file that Pack wrote into old, unpacked
-  pub unpacks : (w claim old room : List ℕ) → length claim ≡ 4 → packTest w claim (length old) ≡ answer.Accepted → length room ≡ length w
-      → (unpackAnswer (packLeaves w claim old) (length room) ≡ Accepted (digest claim)) × (unpackLeaves (packLeaves w claim old) room ≡ w)
+  pub unpacks : (w claim old room : List ℕ) → length claim ≡ 4 → packTest w claim (length old) ≡ answer.Accepted
+      → length room ≡ length w
+      → (unpackAnswer (packLeaves w claim old) (length room) ≡ Accepted (digest claim))
+      × (unpackLeaves (packLeaves w claim old) room ≡ w)
   -- a file that Unpack accepted with the claim d, packed from the taps that it left in old
-  pub packs : (file old room : List ℕ) (d : Digest) → AllBytes file → unpackAnswer file (length old) ≡ Accepted d → length room ≡ length file
-      → (packTest (unpackLeaves file old) (digestWords d) (length room) ≡ answer.Accepted) × (packLeaves (unpackLeaves file old) (digestWords d) room ≡ file)
+  pub packs : (file old room : List ℕ) (d : Digest) → AllBytes file → unpackAnswer file (length old) ≡ Accepted d
+      → length room ≡ length file
+      → (packTest (unpackLeaves file old) (digestWords d) (length room) ≡ answer.Accepted)
+      × (packLeaves (unpackLeaves file old) (digestWords d) room ≡ file)

@@ -8,7 +8,8 @@ use Rattle.words.specs.Words.{AllCanonical}
 use Rattle.hash.specs.Hash.{chain}
 use Rattle.trace.specs.Trace.{trace}
 
--- w is a list of 3k + 1 taps of words below p that, under T, chains to the claim and has a section 3.1 trace equal to t in every cell
+-- w is a list of 3k + 1 taps of words below p that, under T, chains to the claim and has a section 3.1 trace equal to
+-- t in every cell
 pub record IsListFor (T t claim : List ℕ) (k : ℕ) (w : List ℕ) : Type 0 where
   pub size : length w ≡ 12 * k + 4
   pub canonical : AllCanonical w

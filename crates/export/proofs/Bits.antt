@@ -1,19 +1,12 @@
 -- The parts of a code: each is read back where it is within its bits, and so is every refusal whose values are.
 -- Assumes nothing.
-use mathlib.Core.Path.{_≡_, refl}
 use Prim.Native.Nat.{ℕ, _^_, _<_}
 use native.Mathlib.Omega.{arith}
 use lib.Dec.{lit<}
 use Rattle.refusals.specs.Refusals.{told, indexed}
 use Rattle.refusals.specs.declared.Particulars.{Particulars}
 use Rattle.refusals.specs.declared.Refusal.{Refusal}
-use Rattle.refusals.specs.declared.Answer.{Answer}
-use Rattle.refusals.specs.declared.Answer.the-variants as answer
-use Rattle.refusals.specs.declared.DigestAnswer.{DigestAnswer}
-use Rattle.refusals.specs.declared.DigestAnswer.the-variants as digest
-use Rattle.refusals.specs.declared.TestsAnswer.{TestsAnswer}
-use Rattle.refusals.specs.declared.TestsAnswer.the-variants as tests
-use Rattle.export.specs.Code.{code, particularsCode, answerCode, digestCode, testsCode, numberIn, constraintIn, rowIn, valueIn, Says}
+use Rattle.export.specs.Code.{code, particularsCode, Says}
 
 -- ---- what is told, within the bits
 pub record InBits (p : Particulars) : Type 0 where

@@ -1,6 +1,7 @@
--- What each call from another language answers and leaves (document 01, "What is turned back", for the order of the refusals).
--- Four words that are returned go to a destination like any other: a length other than 4 is refused with 8, where 8 stands in the order.
--- T is the lent table, w a list of taps; size is the length of the destination of four words.
+-- What each call from another language answers and leaves (document 01, "What is turned back", for the order of the
+-- refusals). Four words that are returned go to a destination like any other: a length other than 4 is refused with
+-- 8, where 8 stands in the order. T is the lent table, w a list of taps; size is the length of the destination of
+-- four words.
 -- Assumes nothing.
 use mathlib.Core.Bool.{_&&_}
 use mathlib.Core.List.{List}
@@ -111,7 +112,8 @@ pub record PackCall (taps claim old : List ℕ) (code : ℕ) (new : List ℕ) : 
   pub coded : code ≡ answerCode (packTest taps claim (length old))
   pub file : new ≡ packLeaves taps claim old
 
--- Unpack: 12 (below 4), word 0's 13 then 14, 12, 8, then each element's three kinds and its value; both destinations are tested at 8
+-- Unpack: 12 (below 4), word 0's 13 then 14, 12, 8, then each element's three kinds and its value; both destinations
+-- are tested at 8
 unfoldable pub unpackCallTest : List ℕ → ℕ → ℕ → Answer
 unpackCallTest file taps size =
     unless (leb 4 (length file)) FileLength

@@ -1,6 +1,7 @@
--- The number that an operation returns to another language: one word with fixed bits for what is told of a refusal, or for acceptance.
--- Bits 0 to 5 hold the refusal's number, 0 for acceptance; bits 6 to 11 the constraint; bits 12 to 35 the row; bits 36 to 63 the index, or the tests.
--- Each part is cut to its bits; proofs/Theorems.antt shows that no answer loses anything by that.
+-- The number that an operation returns to another language: one word with fixed bits for what is told of a refusal,
+-- or for acceptance. Bits 0 to 5 hold the refusal's number, 0 for acceptance; bits 6 to 11 the constraint; bits 12 to
+-- 35 the row; bits 36 to 63 the index, or the tests. Each part is cut to its bits; proofs/Theorems.antt shows that no
+-- answer loses anything by that.
 -- Assumes nothing.
 use mathlib.Core.Path.{_≡_}
 use Prim.Native.Nat.{ℕ, _+_, _*_, _/_, _%_, _^_}
@@ -27,7 +28,8 @@ particularsCode p = code (p .number) (p .constraint) (p .row) (p .value)
 abbrev pub refusalCode : Refusal → ℕ
 refusalCode r = particularsCode (told r)
 
--- of an answer. Acceptance is 0, with the tests where the operation counts them; four words are written, and no part of the code
+-- of an answer. Acceptance is 0, with the tests where the operation counts them; four words are written, and no part
+-- of the code
 unfoldable pub answerCode : Answer → ℕ
 answerCode answer.Accepted = 0
 answerCode (answer.Refused r) = refusalCode r

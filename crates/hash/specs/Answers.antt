@@ -1,5 +1,5 @@
--- What Hash and Chain test and answer (document 01, "Hash and chain", and "What is turned back" for the order of the refusals).
--- T is the lent table, words the eight words of two taps, w the lent list of taps.
+-- What Hash and Chain test and answer (document 01, "Hash and chain", and "What is turned back" for the order of the
+-- refusals). T is the lent table, words the eight words of two taps, w the lent list of taps.
 -- Assumes nothing.
 use mathlib.Core.List.{List}
 use Prim.Native.Nat.{ℕ}

@@ -4,7 +4,6 @@ use mathlib.Core.Path.{_≡_, refl, sym, ap, _∙_}
 use mathlib.Core.Bool.{Bool, true, false}
 use Prim.Native.Nat.{ℕ}
 use native.Mathlib.Omega.{arith}
-use Rattle.lists.specs.Lists.{choose}
 use Rattle.refusals.specs.declared.Refusal.{Refusal}
 use Rattle.refusals.specs.declared.Answer.{Answer}
 use Rattle.refusals.specs.declared.Answer.the-variants.{Accepted, Refused}
@@ -13,7 +12,7 @@ use Rattle.refusals.specs.declared.DigestAnswer.{DigestAnswer}
 use Rattle.refusals.specs.declared.DigestAnswer.the-variants as digest
 use Rattle.refusals.specs.declared.TestsAnswer.{TestsAnswer}
 use Rattle.refusals.specs.declared.TestsAnswer.the-variants as tests
-use Rattle.refusals.specs.Answers.{unless, after, Refuses, digestAfter, testsAfter, leaves}
+use Rattle.refusals.specs.Answers.{unless, after, digestAfter, testsAfter, leaves}
 
 pub not-accepted : (r : Refusal) → Refused r ≡ Accepted → ⊥
 not-accepted r e = let z : _≡_ {A = ℕ} 0 1 = cc in omega arith

@@ -1,5 +1,5 @@
--- How an operation answers: its tests one after the other, in document 01's order ("What is turned back"), then its result; and what it leaves in a
--- destination.
+-- How an operation answers: its tests one after the other, in document 01's order ("What is turned back"), then its
+-- result; and what it leaves in a destination.
 -- Assumes nothing.
 use mathlib.Core.Path.{_≡_}
 use mathlib.Core.Bool.{Bool}

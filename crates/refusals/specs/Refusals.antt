@@ -4,7 +4,10 @@ use mathlib.Core.List.{List, [], _∷_}
 use Prim.Native.Nat.{ℕ}
 use lib.ListN.{getD}
 use Rattle.refusals.specs.declared.Refusal.{Refusal}
-use Rattle.refusals.specs.declared.Refusal.the-variants.{TableLength, TableWord, NoInverse, WrongInverse, TapLength, TapWord, TraceLength, DestinationLength, ClaimWord, TraceWord, Constraint, FileLength, WrongKind, WrongValue}
+use Rattle.refusals.specs.declared.Refusal.the-variants.{TableLength, TableWord, NoInverse, WrongInverse}
+use Rattle.refusals.specs.declared.Refusal.the-variants.{TapLength, TapWord, TraceLength, DestinationLength}
+use Rattle.refusals.specs.declared.Refusal.the-variants.{ClaimWord, TraceWord, Constraint, FileLength}
+use Rattle.refusals.specs.declared.Refusal.the-variants.{WrongKind, WrongValue}
 use Rattle.refusals.specs.declared.Particulars.{Particulars}
 use Rattle.refusals.specs.declared.Digest.{Digest}
 

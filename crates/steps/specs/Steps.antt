@@ -13,7 +13,8 @@ use Rattle.constraints.specs.Constraints.{entering}
 abbrev pub thinCube : ℕ → ℕ
 thinCube x = element (element (x * x) * x)
 
--- 2^256 mod p: 2^128 makes up for cubes divided by it, 2^128 for the two divisions by 2^64 (proofs/Scales.antt, `forward-cell`)
+-- 2^256 mod p: 2^128 makes up for cubes divided by it, 2^128 for the two divisions by 2^64 (proofs/Scales.antt,
+-- `forward-cell`)
 abbrev pub forwardScale : ℕ
 forwardScale = 700181197168064166
 

@@ -11,7 +11,8 @@ use Rattle.words.specs.Words.{AllCanonical, firstBad}
 use Rattle.matrix.specs.Matrix.{entry, product, identity, Inverse, Kernel}
 use Rattle.inverse.specs.Inversion.{IsInverse}
 use Rattle.refusals.specs.declared.Refusal.{Refusal}
-use Rattle.refusals.specs.declared.Refusal.the-variants.{TableLength, TableWord, NoInverse, WrongInverse, DestinationLength}
+use Rattle.refusals.specs.declared.Refusal.the-variants.{TableLength, TableWord, NoInverse, WrongInverse}
+use Rattle.refusals.specs.declared.Refusal.the-variants.{DestinationLength}
 use Rattle.refusals.specs.declared.Answer.{Answer}
 use Rattle.refusals.specs.declared.Answer.the-variants.{Accepted, Refused}
 use Rattle.refusals.specs.Answers.{unless}
@@ -91,8 +92,11 @@ rawTest raw size =
     (unless (eqb (firstBad raw) rawWords) (TableWord (firstBad raw))
     Accepted))
 
--- what Prepare answers and leaves in the destination: the prepared table, 3 where M takes some non-zero column to all zeros, or the refusal of its tests
+-- what Prepare answers and leaves in the destination: the prepared table, 3 where M takes some non-zero column to all
+-- zeros, or the refusal of its tests
 pub data Prepares (raw old : List ℕ) : Answer → List ℕ → Type 0 where
-  accepts : (n : List ℕ) → rawTest raw (length old) ≡ Accepted → RawInverse raw n → Prepares raw old Accepted (prepared raw n)
-  no-inverse : rawTest raw (length old) ≡ Accepted → Kernel 12 (entry (rawMatrix raw)) → Prepares raw old (Refused NoInverse) old
+  accepts : (n : List ℕ) → rawTest raw (length old) ≡ Accepted → RawInverse raw n
+      → Prepares raw old Accepted (prepared raw n)
+  no-inverse : rawTest raw (length old) ≡ Accepted → Kernel 12 (entry (rawMatrix raw))
+      → Prepares raw old (Refused NoInverse) old
   refuses : (r : Refusal) → rawTest raw (length old) ≡ Refused r → Prepares raw old (Refused r) old

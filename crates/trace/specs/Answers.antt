@@ -1,5 +1,6 @@
--- What Build tests, answers, and leaves in the destination (document 01, "The 52 constraints", and "What is turned back" for the order of the
--- refusals). T is the lent table, w the lent list of taps, size the length of the destination.
+-- What Build tests, answers, and leaves in the destination (document 01, "The 52 constraints", and "What is turned
+-- back" for the order of the refusals). T is the lent table, w the lent list of taps, size the length of the
+-- destination.
 -- Assumes nothing.
 use mathlib.Core.List.{List}
 use Prim.Native.Nat.{ℕ, _*_}

@@ -10,8 +10,8 @@ use Rattle.hash.specs.Hash.{input, tap, outputAt, middleState, finalState}
 unfoldable pub hashInput : List ℕ → List ℕ → ℕ → List ℕ
 hashInput T w h = input (outputAt T w h) (tap w (h + 1))
 
--- row r of batch b. Row 0: the input of the first hash. Rows 1 to 10, 11 to 20, 21 to 30: middle states 0 to 9 of the three hashes.
--- Row 31: the final state of the third.
+-- row r of batch b. Row 0: the input of the first hash. Rows 1 to 10, 11 to 20, 21 to 30: middle states 0 to 9 of the
+-- three hashes. Row 31: the final state of the third.
 unfoldable pub batchRow : List ℕ → List ℕ → ℕ → ℕ → List ℕ
 batchRow T w b r =
     choose (eqb r 0) (hashInput T w (3 * b))
