@@ -34,8 +34,8 @@ pub fn cell(trace: &[u64], row: RowNumber, column: usize) -> u64
     requires { ⌜ HasRow (now trace) (row .0) × (column < 12) ⌝ }
     ensures { λ r. ⌜ (r ≡ cell (cells-of (now (trace .entry)) (row .0)) column) × Canonical r ⌝ }
 {
-    let start = row.start();
-    trace[start + column]
+    let lent = view::trace_row(trace, row);
+    lent[column]
 }
 
 // The round whose middle state the row holds: rows 1 to 10, 11 to 20, 21 to 30 are rounds 0 to 9.

@@ -1,5 +1,5 @@
 // The batch view: rows of one batch, read out of the lent trace without copying it (document 01, "The trace",
-// "The form each place takes").
+// "The form each place takes"). Every row of a lent trace is read by `trace_row`.
 ghost use mathlib.Core.Path.{_≡_};
 ghost use Prim.Native.Nat.{_+_, _*_, _<_, _≤_, _^_};
 ghost use lib.ListN.{length};

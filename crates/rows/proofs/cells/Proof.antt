@@ -1,17 +1,15 @@
 -- `rows::cells` meets its contract: the cells passed are those of the row that `trace_row` lends, and the words of the
 -- trace are canonical.
 -- Assumes nothing.
-use mathlib.Core.Path.{_≡_, refl, sym, ap, _∙_, subst}
+use mathlib.Core.Path.{_≡_, refl, ap, _∙_}
 use Prim.Native.Nat.{_-_, _≤_}
 use native.Mathlib.Omega.{arith}
 use lib.ListN.{length, length-set, replicate}
 use borrow.Author.Needs.{needs}
 use Rattle.lists.specs.Lists.{cell}
 use Rattle.lists.proofs.Tab.{filled, filled-none, filled-more, filled-all, tab-cell}
-use Rattle.words.specs.Words.{CanonicalTo}
 use Rattle.constraints.specs.Constraints.{row}
-use Rattle.constraints.proofs.RowCells.{length-row}
-use Rattle.rows.proofs.RowLaws.{row-canonical}
+use Rattle.rows.proofs.RowLaws.{length-read, cells-read}
 use Rattle.rows.proofs.cells.Statement.{statement}
 use Rattle.rows.proofs.cells.Tie as tie
 
@@ -27,7 +25,8 @@ trace-row-requires c κs = search needs
 loop-holds : tie.Need-loop-holds Inv-loop μ-loop
 loop-holds c =
     let a = c .before .before in
-    (omega arith, ap length (c .trace-row .ensures) ∙ length-row (a .args .trace .now) (a .args .row .0) (a .pre .inside), refl, filled-none _ _)
+    let size = length-read (a .args .trace .now) (a .args .row .0) (a .pre) (c .trace-row .ensures) in
+    (omega arith, size, refl, filled-none _ _)
 
 mul-out : tie.Need-mul-out Inv-loop μ-loop
 mul-out c = omega arith
@@ -64,7 +63,7 @@ returns c =
     ∙ filled-all 12 _ (replicate 12 0) refl
     ∙ tab-cell 12 (r .result .now) (l .inv .1)
     ∙ r .ensures in
-    (same, subst (CanonicalTo 12) (sym same) (row-canonical (a .args .trace .now) (a .args .row .0) (a .pre)))
+    cells-read (a .args .trace .now) (a .args .row .0) (a .pre) same
 
 pub cells-spec : {M : Type 1} → statement M
 cells-spec =
