@@ -15,13 +15,15 @@ use Rattle.hash.proofs.States.{state-cell}
 use Rattle.constraints.specs.Constraints.{row, round, minus, back}
 use Rattle.constraints.specs.ReadOff.{firstRow, readInput, readWord, readTaps}
 use Rattle.constraints.proofs.OneRound.{backStep-state}
-use Rattle.constraints.proofs.RowCells.{cell-row}
 use Rattle.rows.specs.Lent.{HasRow}
 use Rattle.readoff.specs.Lent.{HasTap}
 
 -- ---- the rows that are read are there
 pub input-row : {t : List ℕ} (h i : ℕ) → HasTap t (h + 1) → i ≤ 32 * (h / 3) + 31 → HasRow t i
 input-row h i p b = record { canonical = p .canonical; inside = omega (arith, p .size, p .inside); small = omega (arith, p .few, p .inside) }
+
+pub first-row : {t : List ℕ} {i : ℕ} → HasTap t i → HasRow t 0
+first-row p = record { canonical = p .canonical; inside = omega (arith, p .size, p .some); small = omega arith }
 
 -- ---- the input of hash h
 module _ (T t : List ℕ) (h i : ℕ) where
@@ -47,11 +49,11 @@ unfolding tab
 four f p q r s = ap₂ _∷_ p (ap₂ _∷_ q (ap₂ _∷_ r (ap₂ _∷_ s refl)))
 
 module _ (T t : List ℕ) (i j : ℕ) (l : j < 4) where
-  pub first-word : i ≡ 0 → cell t j ≡ readWord T t (4 * i + j)
+  pub first-word : i ≡ 0 → {s : List ℕ} → s ≡ row t 0 → cell s j ≡ readWord T t (4 * i + j)
   unfolding readWord
-  first-word z =
+  first-word z q =
       let e : 4 * i + j ≡ j = omega arith in
-      rw (e, lt-ltb j 4 l) (sym (cell-row t 0 j (omega arith) ∙ ap (cell t) (omega arith)))
+      rw (e, lt-ltb j 4 l) (ap (λ x. cell x j) q)
 
   pub next-word : 1 ≤ i → {s : List ℕ} → s ≡ readInput T t (i - 1) → cell s (4 + j) ≡ readWord T t (4 * i + j)
   unfolding readWord

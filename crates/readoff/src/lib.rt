@@ -13,6 +13,7 @@ use numbers::BatchCount;
 use numbers::BatchNumber;
 use numbers::HashNumber;
 use numbers::MOST_BATCHES;
+use numbers::RowNumber;
 use numbers::TapNumber;
 use refusals::Answer;
 use refusals::Refusal;
@@ -38,7 +39,8 @@ fn read_tap(inverse: &[u64], table: &[u64], trace: &[u64], tap: TapNumber) -> [u
     ensures { λ r. ⌜ r ≡ tab 4 (λ j. readWord (now (table .entry)) (now (trace .entry)) (4 * tap .0 + j)) ⌝ }
 {
     if tap.0 == 0 {
-        return [trace[0], trace[1], trace[2], trace[3]];
+        let first = rows::cells(trace, RowNumber(0));
+        return [first[0], first[1], first[2], first[3]];
     }
     let input = read_input(inverse, table, trace, HashNumber(tap.0 - 1));
     [input[4], input[5], input[6], input[7]]

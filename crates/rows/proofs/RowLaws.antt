@@ -1,6 +1,6 @@
 -- The cells of a row of a lent trace, and of its forward and back, as loops fill them in.
 -- Assumes nothing.
-use mathlib.Core.Path.{_≡_, refl, sym, ap, ap₂, _∙_, subst}
+use mathlib.Core.Path.{_≡_, sym, ap, ap₂, _∙_, subst}
 use mathlib.Core.Bool.{Bool, true, false}
 use mathlib.Core.List.{List}
 use Prim.Native.Nat.{ℕ, _+_, _*_, _<_}
@@ -17,21 +17,24 @@ use Rattle.table.specs.Table.{initialConstant}
 use Rattle.hash.specs.Hash.{secondStep}
 use Rattle.hash.proofs.States.{state-cell, same-cells, secondStep-state}
 use Rattle.constraints.specs.Constraints.{row, round, entering, plusFirst, forward, backStep, back}
-use Rattle.constraints.proofs.RowCells.{cell-row}
+use Rattle.constraints.proofs.RowCells.{cell-row, length-row}
 use Rattle.constraints.proofs.ForwardBack.{length-first, cell-plus-first, cell-plus-kept}
 use Rattle.steps.specs.Steps.{columns, tested}
 use Rattle.steps.proofs.Made.{length-columns, cell-columns, cell-before, cell-beyond}
 use Rattle.rows.specs.Lent.{HasRow}
 
-module _ (t : List ℕ) (i : ℕ) (h : HasRow t i) where
-  pub row-canonical : CanonicalTo 12 (row t i)
-  row-canonical j l = subst Canonical (sym (cell-row t i j l)) (h .canonical (12 * i + j) (omega (arith, h .inside)))
+-- s is the row that is read
+module _ (t : List ℕ) (i : ℕ) (h : HasRow t i) {s : List ℕ} (e : s ≡ row t i) where
+  pub length-read : length s ≡ 12
+  length-read = ap length e ∙ length-row t i (h .inside)
 
-  pub cell-read : {start : ℕ} → start ≡ 12 * i → {j : ℕ} → j < 12 → (cell t (start + j) ≡ cell (row t i) j) × Canonical (cell t (start + j))
-  cell-read {start} e {j} l = (
-    ap (λ x. cell t (x + j)) e ∙ sym (cell-row t i j l),
-    h .canonical (start + j) (omega (arith, h .inside)),
-  )
+  pub cell-read : {j : ℕ} → j < 12 → (cell s j ≡ cell (row t i) j) × Canonical (cell s j)
+  cell-read {j} l =
+      let same = ap (λ x. cell x j) e in
+      (same, subst Canonical (sym (same ∙ cell-row t i j l)) (h .canonical (12 * i + j) (omega (arith, h .inside))))
+
+  pub cells-read : (s ≡ row t i) × CanonicalTo 12 s
+  cells-read = (e, λ j l. cell-read l .1)
 
 -- the loop's first four columns are the sums, the others as they were
 pub entering-filled : (s k : List ℕ) → length s ≡ 12 → (out : List ℕ) (m : ℕ) → m ≡ 4

@@ -1,4 +1,5 @@
-// Forward and back of a row of a lent trace (document 01, "The 52 constraints").
+// The rows of a lent trace: the view of a batch, a row's cells, its forward and back (document 01, "The trace",
+// "The 52 constraints").
 ghost use mathlib.Core.Path.{_≡_};
 ghost use Prim.Native.Nat.{_<_, _≤_};
 ghost use Rattle.lists.specs.Lists.{cell};
@@ -11,12 +12,21 @@ ghost use Rattle.rows.specs.Lent.{HasRow};
 use field::Fp;
 use numbers::RowNumber;
 
-// The cells of the row, read through the view of its batch.
+pub mod view;
+
+// The cells of the row, by value.
 pub fn cells(trace: &[u64], row: RowNumber) -> [u64; 12]
     requires { ⌜ HasRow (now trace) (row .0) ⌝ }
     ensures { λ r. ⌜ (r ≡ cells-of (now (trace .entry)) (row .0)) × CanonicalTo 12 r ⌝ }
 {
-    view::cells(trace, row)
+    let lent = view::trace_row(trace, row);
+    let mut out = [0u64; 12];
+    let mut j: usize = 0;
+    while j < 12 {
+        out[j] = lent[j];
+        j += 1;
+    }
+    out
 }
 
 // One cell of the row.
@@ -24,8 +34,8 @@ pub fn cell(trace: &[u64], row: RowNumber, column: usize) -> u64
     requires { ⌜ HasRow (now trace) (row .0) × (column < 12) ⌝ }
     ensures { λ r. ⌜ (r ≡ cell (cells-of (now (trace .entry)) (row .0)) column) × Canonical r ⌝ }
 {
-    let start = row.start();
-    trace[start + column]
+    let lent = view::trace_row(trace, row);
+    lent[column]
 }
 
 // The round whose middle state the row holds: rows 1 to 10, 11 to 20, 21 to 30 are rounds 0 to 9.

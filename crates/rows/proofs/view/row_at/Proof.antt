@@ -1,4 +1,4 @@
--- `view::row_at` meets its contract: the part of twelve words from the row's start is the row.
+-- `rows::view::row_at` meets its contract: the part of twelve words from the row's start is the row.
 -- Assumes nothing.
 use mathlib.Core.Path.{_≡_, ap₂}
 use mathlib.Core.List.{List}
@@ -7,8 +7,8 @@ use native.Mathlib.Omega.{arith}
 use lib.ListN.{take, drop}
 use borrow.Author.Needs.{needs}
 use Rattle.constraints.specs.Constraints.{row}
-use Rattle.view.proofs.row_at.Statement.{statement}
-use Rattle.view.proofs.row_at.Tie as tie
+use Rattle.rows.proofs.view.row_at.Statement.{statement}
+use Rattle.rows.proofs.view.row_at.Tie as tie
 
 part-row : (t : List ℕ) (start i : ℕ) → start ≡ 12 * i → take (start + 12 - start) (drop start t) ≡ row t i
 unfolding row

@@ -1,4 +1,4 @@
--- `view::row_of` meets its contract: a walk of its MIR, by hand. The struct that `view` returns is held in a local and passed to `row`.
+-- `rows::view::row_of` meets its contract: a walk of its MIR, by hand. The struct that `view` returns is held in a local and passed to `row`.
 -- In a local of a body MIR erases the lifetime of the struct's type, so its value is shown to have the type at `erased`.
 -- Assumes nothing.
 use mathlib.Core.Path.{_≡_, refl, ap, _∙_}
@@ -39,25 +39,25 @@ use denote.Triple.Walked.{says, needs, Stays, stay-none, stay-none-slice, walkOf
 use denote.Exit.{yes}
 use denote.Triple.Clauses.{ensured, lasts}
 use Rattle.constraints.specs.Constraints.{row as cells-of}
-use Rattle.view.specs.Lent.{LentRow}
-use Rattle.view.specs.declared.Batch.{Batch}
+use Rattle.rows.specs.Lent.{LentRow}
+use Rattle.rows.specs.declared.view.Batch.{Batch}
 use Rattle.numbers.specs.declared.BatchNumber.{BatchNumber}
-use Rattle.view.proofs.Batch as T
-use Rattle.view.proofs.Batch.Laws as T′
+use Rattle.rows.proofs.view.Batch as T
+use Rattle.rows.proofs.view.Batch.Laws as T′
 use Rattle.numbers.proofs.BatchNumber as N
 use Rattle.numbers.proofs.BatchNumber.Laws as N′
-use Rattle.view.proofs.view as view
-use Rattle.view.proofs.view.Symbol as view-def
-use Rattle.view.proofs.view.Symbol.{name as #view·view}
-use Rattle.view.proofs.view.Met as view-thm
-use Rattle.view.proofs.row as row
-use Rattle.view.proofs.row.Symbol as row-def
-use Rattle.view.proofs.row.Symbol.{name as #view·row}
-use Rattle.view.proofs.row.Met as row-thm
-use Rattle.view.proofs.row_of.Key.{name as #view·row-of}
-use Rattle.view.proofs.row_of as row-of
-use Rattle.view.proofs.row_of.Statement as stated
-use Rattle.view.proofs.row_of.Code as code
+use Rattle.rows.proofs.view.view as view
+use Rattle.rows.proofs.view.view.Symbol as view-def
+use Rattle.rows.proofs.view.view.Symbol.{name as #view·view}
+use Rattle.rows.proofs.view.view.Met as view-thm
+use Rattle.rows.proofs.view.row as row
+use Rattle.rows.proofs.view.row.Symbol as row-def
+use Rattle.rows.proofs.view.row.Symbol.{name as #view·row}
+use Rattle.rows.proofs.view.row.Met as row-thm
+use Rattle.rows.proofs.view.row_of.Key.{name as #view·row-of}
+use Rattle.rows.proofs.view.row_of as row-of
+use Rattle.rows.proofs.view.row_of.Statement as stated
+use Rattle.rows.proofs.view.row_of.Code as code
 
 -- the struct's type, over the signature's lifetimes
 abbrev B : Lfts 1 → RattleType
@@ -191,5 +191,5 @@ row-of-spec 𝓤 H 𝓜 𝓖 𝓡 =
     entered 𝓤 H (tripleOf 𝓤 H (𝓖 .A) row-of.signature (row-of.spec 𝓤 H (𝓖 .A) (𝓜 .mem) (𝓡 .run)))
     (tables 𝓤 H 𝓜 𝓡 code.env .C) (tables 𝓤 H 𝓜 𝓡 code.env .Λ) #view·row-of code.function (code.unfolded 𝓤 H 𝓜 𝓡)
     (row-of-meets 𝓤 H (𝓖 .A) (givenOf 𝓤 H 𝓜 𝓖) (𝓜 .mem) (𝓡 .run) (tablesOf 𝓤 H 𝓜 (tables 𝓤 H 𝓜 𝓡 code.env))
-    (cited 𝓤 H (View 𝓤 H (𝓖 .A) (𝓜 .mem) (𝓡 .run)) 𝓜 𝓡 code.env #view·view view-def.routine code.calls-view·view (view-thm.met 𝓤 H 𝓜 𝓖 𝓡))
-    (cited 𝓤 H (Row 𝓤 H (𝓖 .A) (𝓜 .mem) (𝓡 .run)) 𝓜 𝓡 code.env #view·row row-def.routine code.calls-view·row (row-thm.met 𝓤 H 𝓜 𝓖 𝓡)))
+    (cited 𝓤 H (View 𝓤 H (𝓖 .A) (𝓜 .mem) (𝓡 .run)) 𝓜 𝓡 code.env #view·view view-def.routine code.calls-rows·view·view (view-thm.met 𝓤 H 𝓜 𝓖 𝓡))
+    (cited 𝓤 H (Row 𝓤 H (𝓖 .A) (𝓜 .mem) (𝓡 .run)) 𝓜 𝓡 code.env #view·row row-def.routine code.calls-rows·view·row (row-thm.met 𝓤 H 𝓜 𝓖 𝓡)))

@@ -1,4 +1,4 @@
--- `view::row` meets its contract: a walk of its MIR, by hand. The struct is taken apart, and `row_at` is called with the slice, the batch number and the row's number within the batch.
+-- `rows::view::row` meets its contract: a walk of its MIR, by hand. The struct is taken apart, and `row_at` is called with the slice, the batch number and the row's number within the batch.
 -- The struct is Copy: what it owns is had twice, one copy is kept whole for the exit, and the other is what the callee asks.
 -- Assumes nothing.
 use mathlib.Core.Path.{_≡_, refl}
@@ -43,20 +43,20 @@ use denote.Triple.Walked.{says, needs, Stays, stay-none, walkOf, goes-none, Walk
 use denote.Exit.{yes}
 use denote.Triple.Clauses.{ensured, lasts}
 use Rattle.constraints.specs.Constraints.{row as cells-of}
-use Rattle.view.specs.Lent.{LentRow}
-use Rattle.view.specs.declared.Batch.{Batch}
-use Rattle.view.proofs.Batch as T
-use Rattle.view.proofs.Batch.Laws as T′
+use Rattle.rows.specs.Lent.{LentRow}
+use Rattle.rows.specs.declared.view.Batch.{Batch}
+use Rattle.rows.proofs.view.Batch as T
+use Rattle.rows.proofs.view.Batch.Laws as T′
 use Rattle.numbers.proofs.BatchNumber as N
 use Rattle.numbers.proofs.BatchNumber.Laws as N′
-use Rattle.view.proofs.row_at as row-at
-use Rattle.view.proofs.row_at.Symbol as row-at-def
-use Rattle.view.proofs.row_at.Symbol.{name as #view·row-at}
-use Rattle.view.proofs.row_at.Met as row-at-thm
-use Rattle.view.proofs.row.Key.{name as #view·row}
-use Rattle.view.proofs.row as row
-use Rattle.view.proofs.row.Statement as stated
-use Rattle.view.proofs.row.Code as code
+use Rattle.rows.proofs.view.row_at as row-at
+use Rattle.rows.proofs.view.row_at.Symbol as row-at-def
+use Rattle.rows.proofs.view.row_at.Symbol.{name as #view·row-at}
+use Rattle.rows.proofs.view.row_at.Met as row-at-thm
+use Rattle.rows.proofs.view.row.Key.{name as #view·row}
+use Rattle.rows.proofs.view.row as row
+use Rattle.rows.proofs.view.row.Statement as stated
+use Rattle.rows.proofs.view.row.Code as code
 
 -- the struct's type, over the signature's lifetimes
 abbrev B : Lfts 1 → RattleType
@@ -175,4 +175,4 @@ row-spec 𝓤 H 𝓜 𝓖 𝓡 =
     entered 𝓤 H (tripleOf 𝓤 H (𝓖 .A) row.signature (row.spec 𝓤 H (𝓖 .A) (𝓜 .mem) (𝓡 .run)))
     (tables 𝓤 H 𝓜 𝓡 code.env .C) (tables 𝓤 H 𝓜 𝓡 code.env .Λ) #view·row code.function (code.unfolded 𝓤 H 𝓜 𝓡)
     (row-meets 𝓤 H (𝓖 .A) (givenOf 𝓤 H 𝓜 𝓖) (𝓜 .mem) (𝓡 .run) (tablesOf 𝓤 H 𝓜 (tables 𝓤 H 𝓜 𝓡 code.env))
-    (cited 𝓤 H (RowAt 𝓤 H (𝓖 .A) (𝓜 .mem) (𝓡 .run)) 𝓜 𝓡 code.env #view·row-at row-at-def.routine code.calls-view·row-at (row-at-thm.met 𝓤 H 𝓜 𝓖 𝓡)))
+    (cited 𝓤 H (RowAt 𝓤 H (𝓖 .A) (𝓜 .mem) (𝓡 .run)) 𝓜 𝓡 code.env #view·row-at row-at-def.routine code.calls-rows·view·row-at (row-at-thm.met 𝓤 H 𝓜 𝓖 𝓡)))

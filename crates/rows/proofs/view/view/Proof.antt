@@ -1,4 +1,4 @@
--- `view::view` meets its contract: a walk of its MIR, by hand. The struct is made of the slice and the batch number.
+-- `rows::view::view` meets its contract: a walk of its MIR, by hand. The struct is made of the slice and the batch number.
 -- Both are Copy: what each owns is had twice, one copy is kept for the exit, and of the others the struct is put together.
 -- Assumes nothing.
 use mathlib.Core.Path.{refl}
@@ -35,16 +35,16 @@ use denote.Triple.Spec.{Meets, tripleOf}
 use denote.Triple.Table.{entered}
 use denote.Triple.Walked.{says, Stays, stay-none, stay-none-slice, walkOf, goes-none, goes-none-slice, Walks, ends-at, walked, walk-meets}
 use denote.Exit.{yes}
-use Rattle.view.specs.declared.Batch.{Batch}
+use Rattle.rows.specs.declared.view.Batch.{Batch}
 use Rattle.numbers.specs.declared.BatchNumber.{BatchNumber}
-use Rattle.view.proofs.Batch as T
-use Rattle.view.proofs.Batch.Laws as T′
+use Rattle.rows.proofs.view.Batch as T
+use Rattle.rows.proofs.view.Batch.Laws as T′
 use Rattle.numbers.proofs.BatchNumber as N
 use Rattle.numbers.proofs.BatchNumber.Laws as N′
-use Rattle.view.proofs.view.Key.{name as #view·view}
-use Rattle.view.proofs.view as view
-use Rattle.view.proofs.view.Statement as stated
-use Rattle.view.proofs.view.Code as code
+use Rattle.rows.proofs.view.view.Key.{name as #view·view}
+use Rattle.rows.proofs.view.view as view
+use Rattle.rows.proofs.view.view.Statement as stated
+use Rattle.rows.proofs.view.view.Code as code
 
 abbrev stayed : Stays (view.ended .signature .params) (view.ended .kept)
 stayed = (stay-none-slice (0 ∷ []) tt (plain (λ _. u64)) yes, (stay-none (λ _. N.the-row) yes, tt))

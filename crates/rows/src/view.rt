@@ -1,9 +1,10 @@
-// The batch view: rows of one batch, read out of the lent trace without copying it (document 01, "The trace", "The form each place takes").
+// The batch view: rows of one batch, read out of the lent trace without copying it (document 01, "The trace",
+// "The form each place takes"). Every row of a lent trace is read by `trace_row`.
 ghost use mathlib.Core.Path.{_≡_};
 ghost use Prim.Native.Nat.{_+_, _*_, _<_, _≤_, _^_};
 ghost use lib.ListN.{length};
 ghost use Rattle.constraints.specs.Constraints.{row};
-ghost use Rattle.view.specs.Lent.{LentRow};
+ghost use Rattle.rows.specs.Lent.{LentRow};
 use numbers::BatchNumber;
 use numbers::RowNumber;
 
@@ -53,19 +54,4 @@ pub fn trace_row(trace: &[u64], number: RowNumber) -> &[u64]
     ensures { λ r. ⌜ now r ≡ row (now (trace .entry)) (number .0) ⌝ }
 {
     row_of(trace, number.batch(), number.within())
-}
-
-// The twelve cells of that row, by value.
-pub fn cells(trace: &[u64], number: RowNumber) -> [u64; 12]
-    requires { ⌜ (number .0 < 2 ^ 37) × (12 * number .0 + 12 ≤ length (now trace)) ⌝ }
-    ensures { λ r. ⌜ r ≡ row (now (trace .entry)) (number .0) ⌝ }
-{
-    let lent = trace_row(trace, number);
-    let mut out = [0u64; 12];
-    let mut j: usize = 0;
-    while j < 12 {
-        out[j] = lent[j];
-        j += 1;
-    }
-    out
 }
