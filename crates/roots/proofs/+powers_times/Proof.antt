@@ -62,8 +62,8 @@ passed : (t : ℕ) (c : powers-times-lts.Joined2 (
   powers-times-below t,
   powers-times.Post,
 ) (powers-times-at t) powers-times.Post) →
-    Passed (c .before .before .before .args .acc .now) (c .before .before .before .args .x .now)
-    (c .before .before .before .args .e) (c .if2 .acc)
+    let a = c .before .before .before .args in
+    Passed (a .acc .now) (a .x .now) (a .e) (c .if2 .acc)
 passed t c =
     let a = c .before .before .before in
     let e = a .args .e in
