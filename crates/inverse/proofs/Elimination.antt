@@ -135,7 +135,8 @@ module _ (n : ℕ) (a : ℕ → ℕ → ℕ) where
 
   -- rows w that take no column to zeros that a with the identity beside it does not
   module _ (w : ℕ → ℕ → ℕ) (under : (z : ℕ → ℕ) → Zero P n (n + n) w z → Zero P n (n + n) (beside n a) z) where
-    -- the identity on the left: the inverse is on the right. The column is column k of the right half, and -1 at k below
+    -- the identity on the left: the inverse is on the right. The column is column k of the right half, and below it
+    -- -1 at k
     pub finished : ((i l : ℕ) → i < n → l < n → w i l ≡ identity i l) → Inverse n a (λ i k. w i (n + k))
     unfolding Inverse product
     finished id i k hi hk =
