@@ -1,4 +1,4 @@
--- `hash::hash`: words that pass the tests are two taps, of which Hash is the chain; else the answer is the tests' refusal.
+-- `hash::hash`: words that pass the tests are two taps, and Hash is their chain; else the answer is the tests' refusal.
 -- Assumes nothing.
 use mathlib.Core.Path.{_≡_, sym, ap, _∙_}
 use native.Mathlib.Omega.{arith}
