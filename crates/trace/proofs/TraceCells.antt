@@ -1,5 +1,5 @@
--- The section 3.1 trace of a list of canonical taps: its length, its cells, which are canonical, and its last row, which
--- begins with the chain's output.
+-- The section 3.1 trace of a list of canonical taps: its length, its cells, which are canonical, and its last row,
+-- which begins with the chain's output.
 -- Assumes nothing.
 use mathlib.Core.Path.{_≡_, sym, ap, ap₂, _∙_, subst}
 use mathlib.Core.List.{List}

@@ -74,18 +74,16 @@ opening-requires c κs = (c .before .before .pre .0, c .before .before .pre .1)
 loop-holds : tie.Need-loop-holds Inv-loop μ-loop
 loop-holds c =
     let a = c .before .before .before .args in
-    let z : a .row .0 + 0 ≡ a .row .0 = omega arith in (
+    let r = a .row .0 in
+    let d = a .destination .now in
+    let z : r + 0 ≡ r = omega arith in (
       omega arith,
       canonical-state (c .opening .ensures) (stateAt-state _ _ 0),
       refl,
       λ s e. record {
         at = e;
         rows = sym
-            (ap
-            (λ n. withRows (λ i. middleState (a .table .now) s (i - a .row .0)) (a .row .0) n
-            (a .destination .now))
-            z
-            ∙ rows-none _ (a .row .0) (a .destination .now));
+            (ap (λ n. withRows (λ i. middleState (a .table .now) s (i - r)) r n d) z ∙ rows-none _ r d);
       },
     )
 
@@ -136,13 +134,11 @@ returns c =
     let a = o .before .before .before .args in
     let l = c .before .loop in
     let e : l .round ≡ 10 = omega arith in
+    let r = a .row .0 in
+    let t = a .table .now in
     let p = l .inv .3 (a .input) (o .opening .ensures) in (
-      p .at ∙ ap (stateAt (a .table .now) (a .input)) e,
-      p .rows
-          ∙ ap
-          (λ n. withRows (λ i. middleState (a .table .now) (a .input) (i - a .row .0)) (a .row .0) (a .row .0 + n)
-          (a .destination .now))
-          e,
+      p .at ∙ ap (stateAt t (a .input)) e,
+      p .rows ∙ ap (λ n. withRows (λ i. middleState t (a .input) (i - r)) r (r + n) (a .destination .now)) e,
     )
 
 pub write-rounds-spec : {M : Type 1} → statement M
