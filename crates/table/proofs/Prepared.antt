@@ -44,8 +44,7 @@ module _ (raw n : List ℕ) (size : length raw ≡ rawWords) (size-n : length n 
 
   pub word-constant : (t u : ℕ) → t ≡ 144 + u → 144 ≤ u → cell raw u ≡ cell (prepared raw n) t
   word-constant t u e h =
-      sym
-      (after t u e
+      sym (after t u e
       ∙ ap (cell (n ++ drop 144 raw)) place
       ∙ getD-append-add n (drop 144 raw) (u - 144) 0
       ∙ getD-drop 144 raw (u - 144) 0

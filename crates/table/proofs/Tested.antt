@@ -68,15 +68,13 @@ module _ (t : List ℕ) (c v d : ℕ)
   pub unlike-yes : (v ≡ d → ⊥) → unlike t c ≡ true
   unfolding unlike
   unlike-yes h =
-      rw
-      (ne-eqb (product 12 (entry (matrixOf t)) (entry (inverseOf t)) (c / 12) (c % 12)) (identity (c / 12) (c % 12))
+      rw (ne-eqb (product 12 (entry (matrixOf t)) (entry (inverseOf t)) (c / 12) (c % 12)) (identity (c / 12) (c % 12))
       (λ e. h (value ∙ e ∙ sym wanted)))
 
   pub unlike-no : v ≡ d → unlike t c ≡ false
   unfolding unlike
   unlike-no h =
-      rw
-      (eq-eqb (product 12 (entry (matrixOf t)) (entry (inverseOf t)) (c / 12) (c % 12)) (identity (c / 12) (c % 12))
+      rw (eq-eqb (product 12 (entry (matrixOf t)) (entry (inverseOf t)) (c / 12) (c % 12)) (identity (c / 12) (c % 12))
       (sym value ∙ h ∙ wanted))
 
 -- ---- the scan

@@ -1,5 +1,5 @@
 -- What the table test and Prepare promise (document 01, "The table"): each answer says what is wrong, and where; what
--- Prepare leaves is accepted; and it refuses with 3 exactly where M takes some non-zero column to zeros.
+-- Prepare writes is accepted; and its answer is 3 exactly where its tests pass and M takes some non-zero column to zeros.
 -- Assumes nothing.
 use Prim.Native.Nat.{ℕ, _+_, _*_, _/_, _%_, _≤_, _<_}
 use mathlib.Core.Path.{_≡_, refl, sym, ap, ap₂, _∙_, subst}
@@ -214,8 +214,7 @@ unfolding rawTest
 raw-answers raw room Q q1 q2 q3 q4 = go (eqb (length raw) rawWords) (eqb room tableWords) (eqb (firstBad raw) rawWords)
   where
     go : (x y z : Bool)
-        → Q
-        (choose x (choose y (choose z Accepted (Refused (TableWord (firstBad raw)))) (Refused DestinationLength))
+        → Q (choose x (choose y (choose z Accepted (Refused (TableWord (firstBad raw)))) (Refused DestinationLength))
         (Refused TableLength))
     go false y z = q2
     go true false z = q3
