@@ -64,8 +64,7 @@ chain-passes T w k h = rw (
 -- ---- the output that a state begins with
 pub digest-take : (s : List ℕ) → digest s ≡ digest (take 4 s)
 digest-take s =
-    sym
-    (λ i. record {
+    sym (λ i. record {
       0 = at 0 (omega arith) i;
       1 = at 1 (omega arith) i;
       2 = at 2 (omega arith) i;
