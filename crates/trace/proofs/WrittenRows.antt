@@ -44,8 +44,7 @@ pub row-one : (s : List ℕ) (r : ℕ) (d : List ℕ) → length s ≡ 12
     → take (12 * r) d ++ s ++ drop (12 * r + 12) d ≡ withRows (λ i. s) r (r + 1) d
 unfolding withRows
 row-one s r d e =
-    sym
-    (ap₂ (λ x n. take (12 * r) d ++ x ++ drop n d)
+    sym (ap₂ (λ x n. take (12 * r) d ++ x ++ drop n d)
     (ap (λ n. tab n (λ i. cell s (i % 12))) twelve ∙ tab-ext 12 _ _ same ∙ tab-cell 12 s e) after)
   where
     twelve : 12 * (r + 1 - r) ≡ 12
