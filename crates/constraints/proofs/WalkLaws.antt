@@ -67,8 +67,7 @@ module _ (T t claim : List ℕ) where
   pub not-both : (xs : List Test) (i c n : ℕ) → AllHold T t claim xs → IsFirstFailing T t claim xs i c n → ⊥
   not-both xs i c n a f =
       true≢false
-      (sym
-      (a x
+      (sym (a x
       (subst (λ l. List·Memᴰ x l) (sym (f .order)) (Memᴰ·append-right (f .before) (List·Memᴰ.List·Memᴰ·head refl))))
       ∙ f .fails)
     where
