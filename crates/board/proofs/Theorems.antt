@@ -1,5 +1,5 @@
 -- The board file's promises (demand 2): a packed file unpacks to its taps and claim, an accepted file packs to the same
--- bytes, so that no claim and list have two files; and no element from p on, or from 2^64 on, is ever taken for another.
+-- bytes, so that no claim and list have two files; and no element from p on, or from 2^64 on, is taken for another.
 -- Assumes nothing.
 use mathlib.Core.Path.{_≡_, refl, sym, ap, _∙_}
 use mathlib.Core.List.{List, [], _∷_, _++_}

@@ -17,8 +17,7 @@ use Rattle.board.proofs.test_count.Tie as tie
 
 -- what is answered there is left to the spare bits and k
 kinded : (f : tie.Else1) {o : Answer} → let w = f .before .before .args .word .0 in
-    o
-    ≡ unless (eqb (spareIn w) 0) (WrongValue 0)
+    o ≡ unless (eqb (spareIn w) 0) (WrongValue 0)
     (unless (permitted mostFileBatches (countIn w)) (WrongValue 0) Accepted)
     → o ≡ countTest w
 unfolding countTest
