@@ -62,8 +62,7 @@ module _ (p j : ℕ) where
         ∙ sym (mul-mod-r p (n * n * n) (c * j * j * (c * j * j) * (c * j * j) * (j * j)))
         ∙ ap (λ z. (n * n * n * z) % p) inv
         ∙ ap (λ z. z % p) (mul-one (n * n * n))
-        ∙ sym
-        (cube-flat (n % p)
+        ∙ sym (cube-flat (n % p)
         ∙ mul-eq p (n % p * (n % p)) (n * n) (n % p) n (mul-eq p (n % p) n (n % p) n (mod-mod n p) (mod-mod n p))
         (mod-mod n p))
       where

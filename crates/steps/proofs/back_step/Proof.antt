@@ -1,5 +1,5 @@
--- `steps::back_step`: the cells passed are the cubes of the stored inverse times the differences, as the back scale makes
--- up for the divisions.
+-- `steps::back_step`: the cells passed are the cubes of the stored inverse times the differences, as the back scale
+-- makes up for the divisions.
 -- Assumes nothing.
 use mathlib.Core.Path.{_≡_, refl, ap, _∙_}
 use Prim.Native.Nat.{_-_, _≤_}

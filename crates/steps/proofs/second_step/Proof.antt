@@ -1,5 +1,5 @@
--- `steps::second_step`: the columns passed are M's rows times the cubes, plus the constant, as the forward scale makes up
--- for the divisions.
+-- `steps::second_step`: the columns passed are M's rows times the cubes, plus the constant, as the forward scale makes
+-- up for the divisions.
 -- Assumes nothing.
 use mathlib.Core.Path.{_≡_, refl, ap, _∙_}
 use mathlib.Core.List.{List}

@@ -1,5 +1,4 @@
--- `steps::thin_cube`: two products in Montgomery's form divide by 2^64 each, and one subtraction makes the result
--- canonical.
+-- `steps::thin_cube`: two products in Montgomery's form divide by 2^64 each, and `less_once` brings the result below p.
 -- Assumes nothing.
 use mathlib.Core.Path.{ap, _∙_}
 use Prim.Native.Nat.{_%_}
