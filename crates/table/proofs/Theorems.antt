@@ -1,5 +1,5 @@
 -- What the table test and Prepare promise (document 01, "The table"): each answer says what is wrong, and where; what
--- Prepare writes is accepted; and its answer is 3 exactly where its tests pass and M takes some non-zero column to zeros.
+-- Prepare writes is accepted; its answer is 3 exactly where its tests pass and M takes a non-zero column to zeros.
 -- Assumes nothing.
 use Prim.Native.Nat.{ℕ, _+_, _*_, _/_, _%_, _≤_, _<_}
 use mathlib.Core.Path.{_≡_, refl, sym, ap, ap₂, _∙_, subst}
