@@ -52,7 +52,8 @@ pack-accepted taps claim size e =
       taps-canonical = good-test taps (d .0);
     }
 
-pub pack-complete : (taps claim : List ℕ) (size k : ℕ) → IsPacked taps claim size k → packTest taps claim size ≡ Accepted
+pub pack-complete : (taps claim : List ℕ) (size k : ℕ) → IsPacked taps claim size k
+    → packTest taps claim size ≡ Accepted
 unfolding packTest
 pack-complete taps claim size k h =
     let t = tap-length-complete mostFileBatches (length taps) k (h .taps-size) (h .permitted) in

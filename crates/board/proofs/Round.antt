@@ -17,13 +17,15 @@ use Rattle.elements.specs.Words.{wordAt, AllBytes, bytesOf}
 use Rattle.elements.specs.Elements.{wordsOf, elementsAt}
 use Rattle.elements.proofs.Words.{bytes-unique}
 use Rattle.elements.proofs.Laws.{length-words}
-use Rattle.elements.proofs.Round.{read-accepted, read-back, words-back, length-elements, elements-append, elements-canonical}
+use Rattle.elements.proofs.Round.{read-accepted, read-back, words-back, length-elements}
+use Rattle.elements.proofs.Round.{elements-append, elements-canonical}
 use Rattle.board.specs.Board.{mostFileBatches, countWord, fileOf, batchesIn, claimIn, tapsIn, IsBoard}
 use Rattle.board.proofs.Answers.{batches-is}
 use Rattle.board.proofs.Files as files
 
 -- ---- the file of canonical taps and a canonical claim is a board file, and is read as those
-module _ (taps claim : List ℕ) (k : ℕ) (permitted : IsPermittedTo mostFileBatches k) (t : length taps ≡ 12 * k + 4) (t-canonical : AllCanonical taps) (c : length claim ≡ 4) (c-canonical : AllCanonical claim) where
+module _ (taps claim : List ℕ) (k : ℕ) (permitted : IsPermittedTo mostFileBatches k) (t : length taps ≡ 12 * k + 4)
+    (t-canonical : AllCanonical taps) (c : length claim ≡ 4) (c-canonical : AllCanonical claim) where
   all : AllCanonical (claim ++ taps)
   all = append-canonical claim taps c-canonical t-canonical
 
@@ -35,7 +37,8 @@ module _ (taps claim : List ℕ) (k : ℕ) (permitted : IsPermittedTo mostFileBa
     permitted = permitted;
     word = files.file-first taps claim k (permitted .high) all;
     size = files.file-length taps claim k c t;
-    elements = λ i h. read-accepted (fileOf taps claim k) 1 (claim ++ taps) all (files.file-word taps claim k (permitted .high) all) i (omega (arith, count));
+    elements = λ i h. read-accepted (fileOf taps claim k) 1 (claim ++ taps) all
+        (files.file-word taps claim k (permitted .high) all) i (omega (arith, count));
   }
 
   -- the claim, then the taps, are what is read
@@ -45,19 +48,25 @@ module _ (taps claim : List ℕ) (k : ℕ) (permitted : IsPermittedTo mostFileBa
       let file : List ℕ = fileOf taps claim k in
       let b = batches-is file k packed-board in
       let n : 4 + (12 * batchesIn file + 4) ≡ length (claim ++ taps) = omega (arith, b, count) in
-      sym (elements-append file 1 4 (12 * batchesIn file + 4)) ∙ ap (elementsAt file 1) n ∙ read-back file 1 (claim ++ taps) all (files.file-word taps claim k (permitted .high) all)
+      sym (elements-append file 1 4 (12 * batchesIn file + 4))
+      ∙ ap (elementsAt file 1) n
+      ∙ read-back file 1 (claim ++ taps) all (files.file-word taps claim k (permitted .high) all)
 
   pub packed-claim : claimIn (fileOf taps claim k) ≡ claim
   unfolding claimIn
   packed-claim =
       let file : List ℕ = fileOf taps claim k in
-      sym (take-at (claimIn file) (tapsIn file) 4 (length-elements file 1 4)) ∙ ap (take 4) parts ∙ take-at claim taps 4 c
+      sym (take-at (claimIn file) (tapsIn file) 4 (length-elements file 1 4))
+      ∙ ap (take 4) parts
+      ∙ take-at claim taps 4 c
 
   pub packed-taps : tapsIn (fileOf taps claim k) ≡ taps
   unfolding claimIn
   packed-taps =
       let file : List ℕ = fileOf taps claim k in
-      sym (drop-at (claimIn file) (tapsIn file) 4 (length-elements file 1 4)) ∙ ap (drop 4) parts ∙ drop-at claim taps 4 c
+      sym (drop-at (claimIn file) (tapsIn file) 4 (length-elements file 1 4))
+      ∙ ap (drop 4) parts
+      ∙ drop-at claim taps 4 c
 
 -- ---- a board file is that of the claim and the taps that are read
 
@@ -74,18 +83,21 @@ module _ (file : List ℕ) (bytes : AllBytes file) (h : IsBoard file (batchesIn 
       let n : 4 + (12 * batchesIn file + 4) ≡ 12 * batchesIn file + 8 = omega arith in
       sym (elements-append file 1 4 (12 * batchesIn file + 4)) ∙ ap (elementsAt file 1) n
 
-  board-words : (j : ℕ) → j < length (countWord k ∷ wordsOf elements) → cell (countWord k ∷ wordsOf elements) j ≡ wordAt file j
+  board-words : (j : ℕ) → j < length (countWord k ∷ wordsOf elements)
+      → cell (countWord k ∷ wordsOf elements) j ≡ wordAt file j
   unfolding k elements
   board-words zero l = sym (h .word)
   board-words (suc m) l =
-      words-back file 1 (12 * k + 8) (h .elements) m (omega (arith, length-words elements, length-elements file 1 (12 * k + 8)))
+      words-back file 1 (12 * k + 8) (h .elements) m
+      (omega (arith, length-words elements, length-elements file 1 (12 * k + 8)))
       ∙ ap (wordAt file) (one-add m)
 
   pub board-packs : fileOf (tapsIn file) (claimIn file) (batchesIn file) ≡ file
   unfolding fileOf k elements
   board-packs =
       ap (λ s. bytesOf (countWord k ∷ wordsOf s)) board-elements
-      ∙ bytes-unique file (countWord k ∷ wordsOf elements) bytes (omega (arith, h .size, length-words elements, length-elements file 1 (12 * k + 8))) board-words
+      ∙ bytes-unique file (countWord k ∷ wordsOf elements) bytes
+      (omega (arith, h .size, length-words elements, length-elements file 1 (12 * k + 8))) board-words
 
 -- the taps stand after the claim's four elements
 pub after-claim : (i : ℕ) → 1 + 3 * (4 + i) ≡ 13 + 3 * i
@@ -98,11 +110,13 @@ board-permitted file k h =
     record { low = p .low; high = omega (arith, p .high); one-bit = p .one-bit }
 
 -- what an accepted file holds
-pub board-canonical : (file : List ℕ) → IsBoard file (batchesIn file) → AllCanonical (claimIn file) × AllCanonical (tapsIn file)
+pub board-canonical : (file : List ℕ) → IsBoard file (batchesIn file)
+    → AllCanonical (claimIn file) × AllCanonical (tapsIn file)
 unfolding claimIn tapsIn
 board-canonical file h = (
   elements-canonical file 1 4 (λ i l. h .elements i (omega arith)),
-  elements-canonical file 13 (12 * batchesIn file + 4) (λ i l. rw (after-claim i) at (h .elements (4 + i) (omega arith))),
+  elements-canonical file 13 (12 * batchesIn file + 4)
+      (λ i l. rw (after-claim i) at (h .elements (4 + i) (omega arith))),
 )
 
 pub claim-is : (file : List ℕ) (d : Digest) → digest (claimIn file) ≡ d → claimIn file ≡ digestWords d

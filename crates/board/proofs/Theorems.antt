@@ -1,5 +1,5 @@
--- The board file's promises (demand 2): a packed file unpacks to its taps and claim, an accepted file packs to the same bytes,
--- so that no claim and list have two files; and no element from p on, or from 2^64 on, is ever taken for another.
+-- The board file's promises (demand 2): a packed file unpacks to its taps and claim, an accepted file packs to the same
+-- bytes, so that no claim and list have two files; and no element from p on, or from 2^64 on, is taken for another.
 -- Assumes nothing.
 use mathlib.Core.Path.{_≡_, refl, sym, ap, _∙_}
 use mathlib.Core.List.{List, [], _∷_, _++_}
@@ -24,20 +24,25 @@ use Rattle.board.specs.Board.{IsBoard, ReadTo}
 use Rattle.board.proofs.Answers.{pack-accepted, pack-complete, unpack-accepted, unpack-complete}
 use Rattle.board.proofs.Answers.{unpack-elements, unpack-returns, unpack-refuses, returned}
 use Rattle.board.proofs.Files as files
-use Rattle.board.proofs.Round.{packed-board, packed-claim, packed-taps, board-packs, board-canonical, claim-is, taps-length}
+use Rattle.board.proofs.Round.{packed-board, packed-claim, packed-taps, board-packs}
+use Rattle.board.proofs.Round.{board-canonical, claim-is, taps-length}
 
 -- the file has 144k + 100 bytes
-pub file-length : (taps claim : List ℕ) (k : ℕ) → length claim ≡ 4 → length taps ≡ 12 * k + 4 → length (fileOf taps claim k) ≡ 144 * k + 100
+pub file-length : (taps claim : List ℕ) (k : ℕ) → length claim ≡ 4 → length taps ≡ 12 * k + 4
+    → length (fileOf taps claim k) ≡ 144 * k + 100
 file-length taps claim k c t = files.file-length taps claim k c t
 
 -- a packed board file unpacks to its taps and claim
 pub unpack-pack : (taps claim : List ℕ) (k : ℕ) → IsPermittedTo mostFileBatches k → length taps ≡ 12 * k + 4
     → AllCanonical taps → length claim ≡ 4 → AllCanonical claim
-    → (unpackAnswer (fileOf taps claim k) (length taps) ≡ Accepted (digest claim)) × (tapsIn (fileOf taps claim k) ≡ taps)
+    → (unpackAnswer (fileOf taps claim k) (length taps) ≡ Accepted (digest claim))
+    × (tapsIn (fileOf taps claim k) ≡ taps)
 unpack-pack taps claim k p t ts c cs =
     let file : List ℕ = fileOf taps claim k in
     let board = packed-board taps claim k p t ts c cs in (
-      ap (unpackAnswer file) t ∙ unpack-returns file (12 * k + 4) (unpack-complete file k board) ∙ ap (λ s. Accepted (digest s)) (packed-claim taps claim k p t ts c cs),
+      ap (unpackAnswer file) t
+          ∙ unpack-returns file (12 * k + 4) (unpack-complete file k board)
+          ∙ ap (λ s. Accepted (digest s)) (packed-claim taps claim k p t ts c cs),
       packed-taps taps claim k p t ts c cs,
     )
 
@@ -72,7 +77,8 @@ pack-unpack file size d bytes e =
     )
 
 -- so two accepted files that hold the same claim and taps are equal
-pub one-meaning : (f g : List ℕ) (m n : ℕ) (d : Digest) → AllBytes f → AllBytes g → unpackAnswer f m ≡ Accepted d → unpackAnswer g n ≡ Accepted d → tapsIn f ≡ tapsIn g → f ≡ g
+pub one-meaning : (f g : List ℕ) (m n : ℕ) (d : Digest) → AllBytes f → AllBytes g → unpackAnswer f m ≡ Accepted d
+    → unpackAnswer g n ≡ Accepted d → tapsIn f ≡ tapsIn g → f ≡ g
 one-meaning f g m n d bf bg ef eg t =
     sym (pack-unpack f m d bf ef .1) ∙ ap (λ s. packed s (digestWords d)) t ∙ pack-unpack g n d bg eg .1
 
@@ -84,31 +90,38 @@ accepted-board file size d e =
     let h = unpack-accepted file size (r .0) in
     (h .0, h .1, claim-is file d (r .1))
 
-pub board-accepted : (file : List ℕ) (k : ℕ) → IsBoard file k → unpackAnswer file (12 * k + 4) ≡ Accepted (digest (claimIn file))
+pub board-accepted : (file : List ℕ) (k : ℕ) → IsBoard file k
+    → unpackAnswer file (12 * k + 4) ≡ Accepted (digest (claimIn file))
 board-accepted file k h = unpack-returns file (12 * k + 4) (unpack-complete file k h)
 
 -- so every element of an accepted file is below p
-pub accepted-canonical : (file : List ℕ) (size : ℕ) (d : Digest) → unpackAnswer file size ≡ Accepted d → (i : ℕ) → i < 12 * batchesIn file + 8 → Canonical (elementAt file (1 + 3 * i))
+pub accepted-canonical : (file : List ℕ) (size : ℕ) (d : Digest) → unpackAnswer file size ≡ Accepted d → (i : ℕ)
+    → i < 12 * batchesIn file + 8 → Canonical (elementAt file (1 + 3 * i))
 accepted-canonical file size d e i h = accepted-board file size d e .0 .elements i h .value
 
 -- an element from p on is refused at its first word, however large the number that its payloads spell
-pub no-wrap : (file : List ℕ) (size i : ℕ) → ReadTo file size i → P ≤ elementAt file (1 + 3 * i) → unpackAnswer file size ≡ Refused (WrongValue (1 + 3 * i))
+pub no-wrap : (file : List ℕ) (size i : ℕ) → ReadTo file size i → P ≤ elementAt file (1 + 3 * i)
+    → unpackAnswer file size ≡ Refused (WrongValue (1 + 3 * i))
 no-wrap file size i h large =
     unpack-refuses file size (WrongValue (1 + 3 * i))
     (unpack-elements file size (h .four) (h .count) (h .bytes) (h .room)
-    ∙ first-refused file 1 (12 * batchesIn file + 8) i (WrongValue (1 + 3 * i)) (h .within) (h .before) (too-large file (1 + 3 * i) (h .high) (h .middle) (h .low) large))
+    ∙ first-refused file 1 (12 * batchesIn file + 8) i (WrongValue (1 + 3 * i)) (h .within) (h .before)
+    (too-large file (1 + 3 * i) (h .high) (h .middle) (h .low) large))
 
 -- in particular one of 2^64 or more, which a first payload above 15 makes
-pub no-wrap-64 : (file : List ℕ) (size i : ℕ) → ReadTo file size i → 15 < payloadOf (wordAt file (1 + 3 * i)) → (2 ^ 64 ≤ elementAt file (1 + 3 * i)) × (unpackAnswer file size ≡ Refused (WrongValue (1 + 3 * i)))
+pub no-wrap-64 : (file : List ℕ) (size i : ℕ) → ReadTo file size i → 15 < payloadOf (wordAt file (1 + 3 * i))
+    → (2 ^ 64 ≤ elementAt file (1 + 3 * i)) × (unpackAnswer file size ≡ Refused (WrongValue (1 + 3 * i)))
 no-wrap-64 file size i h above =
     let large = no-word file (1 + 3 * i) above in
     (large, no-wrap file size i h (omega (arith, large)))
 
--- the file of zeros (document 01, "Known days"): 00000001, then 40000000, 80000000, C0000000 twenty times. `times` is a list n times
+-- the file of zeros (document 01, "Known days"): 00000001, then 40000000, 80000000, C0000000 twenty times.
+-- `times` is a list n times
 abbrev pub times : ℕ → List ℕ → List ℕ
 times zero s = []
 times (suc n) s = s ++ times n s
 
-pub zero-file : fileOf (replicate 16 0) (replicate 4 0) 1 ≡ bytesOf (0x00000001 ∷ times 20 (0x40000000 ∷ 0x80000000 ∷ 0xC0000000 ∷ []))
+pub zero-file : fileOf (replicate 16 0) (replicate 4 0) 1
+    ≡ bytesOf (0x00000001 ∷ times 20 (0x40000000 ∷ 0x80000000 ∷ 0xC0000000 ∷ []))
 unfolding fileOf each
 zero-file = refl

@@ -19,16 +19,21 @@ pub record Equations (T t claim : List ℕ) (k : ℕ) : Type 0 where
   -- 1 to 4
   pub zero-columns : (i j : ℕ) → i < 32 * k → within i ≡ 0 → j < 4 → cell (row t i) (8 + j) ≡ 0
   -- 5 to 8
-  pub new-zeros : (i j : ℕ) → i < 32 * k → entering i ≡ true → j < 4 → cell (back T t (i + 1)) (8 + j) ≡ cell (initialConstant T) (8 + j)
+  pub new-zeros : (i j : ℕ) → i < 32 * k → entering i ≡ true → j < 4
+      → cell (back T t (i + 1)) (8 + j) ≡ cell (initialConstant T) (8 + j)
   -- 9 to 20
-  pub starts : (i j : ℕ) → i < 32 * k → within i ≡ 0 → j < 12 → add (cell (row t i) j) (cell (initialConstant T) j) ≡ cell (back T t (i + 1)) j
+  pub starts : (i j : ℕ) → i < 32 * k → within i ≡ 0 → j < 12
+      → add (cell (row t i) j) (cell (initialConstant T) j) ≡ cell (back T t (i + 1)) j
   -- 21 to 32
-  pub output-kept : (i j : ℕ) → i < 32 * k → 1 ≤ within i → within i ≤ 29 → j < 4 → cell (forward T t i) j ≡ cell (back T t (i + 1)) j
-  pub goes-on : (i j : ℕ) → i < 32 * k → 1 ≤ within i → within i ≤ 29 → entering i ≡ false → j < 12 → cell (forward T t i) j ≡ cell (back T t (i + 1)) j
+  pub output-kept : (i j : ℕ) → i < 32 * k → 1 ≤ within i → within i ≤ 29 → j < 4
+      → cell (forward T t i) j ≡ cell (back T t (i + 1)) j
+  pub goes-on : (i j : ℕ) → i < 32 * k → 1 ≤ within i → within i ≤ 29 → entering i ≡ false → j < 12
+      → cell (forward T t i) j ≡ cell (back T t (i + 1)) j
   -- 33 to 44
   pub ends : (i j : ℕ) → i < 32 * k → within i ≡ 30 → j < 12 → cell (forward T t i) j ≡ cell (row t (i + 1)) j
   -- 45 to 48
-  pub joins : (i j : ℕ) → i < 32 * k → within i ≡ 31 → (i + 1 ≡ 32 * k → ⊥) → j < 4 → cell (row t i) j ≡ cell (row t (i + 1)) j
+  pub joins : (i j : ℕ) → i < 32 * k → within i ≡ 31 → (i + 1 ≡ 32 * k → ⊥) → j < 4
+      → cell (row t i) j ≡ cell (row t (i + 1)) j
   -- 49 to 52
   pub claims : (i j : ℕ) → i < 32 * k → i + 1 ≡ 32 * k → j < 4 → cell (row t i) j ≡ cell claim j
 
@@ -41,13 +46,16 @@ module _ (T t claim : List ℕ) where
         let e : 1 + j + 7 ≡ 8 + j = omega arith in
         rw (le-leb (1 + j) 4 (omega arith), e)
 
-    at-new-zeros : j < 4 → holds T t claim i (5 + j) ≡ eqb (cell (back T t (i + 1)) (8 + j)) (cell (initialConstant T) (8 + j))
+    at-new-zeros : j < 4
+        → holds T t claim i (5 + j) ≡ eqb (cell (back T t (i + 1)) (8 + j)) (cell (initialConstant T) (8 + j))
     unfolding holds
     at-new-zeros h =
         let e : 5 + j + 3 ≡ 8 + j = omega arith in
         rw (lt-leb (5 + j) 4 (omega arith), le-leb (5 + j) 8 (omega arith), e)
 
-    at-starts : j < 12 → holds T t claim i (9 + j) ≡ eqb (add (cell (row t i) j) (cell (initialConstant T) j)) (cell (back T t (i + 1)) j)
+    at-starts : j < 12
+        → holds T t claim i (9 + j)
+        ≡ eqb (add (cell (row t i) j) (cell (initialConstant T) j)) (cell (back T t (i + 1)) j)
     unfolding holds
     at-starts h =
         let e : 9 + j - 9 ≡ j = omega arith in
@@ -57,48 +65,86 @@ module _ (T t claim : List ℕ) where
     unfolding holds
     at-goes-on h =
         let e : 21 + j - 21 ≡ j = omega arith in
-        rw (lt-leb (21 + j) 4 (omega arith), lt-leb (21 + j) 8 (omega arith), lt-leb (21 + j) 20 (omega arith), le-leb (21 + j) 32 (omega arith), e)
+        rw (
+          lt-leb (21 + j) 4 (omega arith),
+          lt-leb (21 + j) 8 (omega arith),
+          lt-leb (21 + j) 20 (omega arith),
+          le-leb (21 + j) 32 (omega arith),
+          e,
+        )
 
     at-ends : j < 12 → holds T t claim i (33 + j) ≡ eqb (cell (forward T t i) j) (cell (row t (i + 1)) j)
     unfolding holds
     at-ends h =
         let e : 33 + j - 33 ≡ j = omega arith in
-        rw (lt-leb (33 + j) 4 (omega arith), lt-leb (33 + j) 8 (omega arith), lt-leb (33 + j) 20 (omega arith), lt-leb (33 + j) 32 (omega arith), le-leb (33 + j) 44 (omega arith), e)
+        rw (
+          lt-leb (33 + j) 4 (omega arith),
+          lt-leb (33 + j) 8 (omega arith),
+          lt-leb (33 + j) 20 (omega arith),
+          lt-leb (33 + j) 32 (omega arith),
+          le-leb (33 + j) 44 (omega arith),
+          e,
+        )
 
     at-joins : j < 4 → holds T t claim i (45 + j) ≡ eqb (cell (row t i) j) (cell (row t (i + 1)) j)
     unfolding holds
     at-joins h =
         let e : 45 + j - 45 ≡ j = omega arith in
-        rw (lt-leb (45 + j) 4 (omega arith), lt-leb (45 + j) 8 (omega arith), lt-leb (45 + j) 20 (omega arith), lt-leb (45 + j) 32 (omega arith), lt-leb (45 + j) 44 (omega arith), le-leb (45 + j) 48 (omega arith), e)
+        rw (
+          lt-leb (45 + j) 4 (omega arith),
+          lt-leb (45 + j) 8 (omega arith),
+          lt-leb (45 + j) 20 (omega arith),
+          lt-leb (45 + j) 32 (omega arith),
+          lt-leb (45 + j) 44 (omega arith),
+          le-leb (45 + j) 48 (omega arith),
+          e,
+        )
 
     at-claims : j < 4 → holds T t claim i (49 + j) ≡ eqb (cell (row t i) j) (cell claim j)
     unfolding holds
     at-claims h =
         let e : 49 + j - 49 ≡ j = omega arith in
-        rw (lt-leb (49 + j) 4 (omega arith), lt-leb (49 + j) 8 (omega arith), lt-leb (49 + j) 20 (omega arith), lt-leb (49 + j) 32 (omega arith), lt-leb (49 + j) 44 (omega arith), lt-leb (49 + j) 48 (omega arith), e)
+        rw (
+          lt-leb (49 + j) 4 (omega arith),
+          lt-leb (49 + j) 8 (omega arith),
+          lt-leb (49 + j) 20 (omega arith),
+          lt-leb (49 + j) 32 (omega arith),
+          lt-leb (49 + j) 44 (omega arith),
+          lt-leb (49 + j) 48 (omega arith),
+          e,
+        )
 
   -- ---- the tests hold where the equations do
-  pub equations-hold : (k : ℕ) → Equations T t claim k → (i c : ℕ) → i < 32 * k → applies k i c ≡ true → holds T t claim i c ≡ true
+  pub equations-hold : (k : ℕ) → Equations T t claim k → (i c : ℕ) → i < 32 * k → applies k i c ≡ true
+      → holds T t claim i c ≡ true
   equations-hold k q i c l e = go (applies-cases k i c e)
     where
       go : Applies k i c → holds T t claim i c ≡ true
-      go (families.zero-columns j h n r) = ap (holds T t claim i) n ∙ at-zero-columns i j h ∙ eq-eqb _ _ (q .zero-columns i j l r h)
-      go (families.new-zeros j h n r) = ap (holds T t claim i) n ∙ at-new-zeros i j h ∙ eq-eqb _ _ (q .new-zeros i j l r h)
+      go (families.zero-columns j h n r) =
+          ap (holds T t claim i) n ∙ at-zero-columns i j h ∙ eq-eqb _ _ (q .zero-columns i j l r h)
+      go (families.new-zeros j h n r) =
+          ap (holds T t claim i) n ∙ at-new-zeros i j h ∙ eq-eqb _ _ (q .new-zeros i j l r h)
       go (families.starts j h n r) = ap (holds T t claim i) n ∙ at-starts i j h ∙ eq-eqb _ _ (q .starts i j l r h)
-      go (families.output-kept j h n r s) = ap (holds T t claim i) n ∙ at-goes-on i j (omega arith) ∙ eq-eqb _ _ (q .output-kept i j l r s h)
-      go (families.goes-on j f h n r s m) = ap (holds T t claim i) n ∙ at-goes-on i j h ∙ eq-eqb _ _ (q .goes-on i j l r s m h)
+      go (families.output-kept j h n r s) =
+          ap (holds T t claim i) n ∙ at-goes-on i j (omega arith) ∙ eq-eqb _ _ (q .output-kept i j l r s h)
+      go (families.goes-on j f h n r s m) =
+          ap (holds T t claim i) n ∙ at-goes-on i j h ∙ eq-eqb _ _ (q .goes-on i j l r s m h)
       go (families.ends j h n r) = ap (holds T t claim i) n ∙ at-ends i j h ∙ eq-eqb _ _ (q .ends i j l r h)
       go (families.joins j h n r m) = ap (holds T t claim i) n ∙ at-joins i j h ∙ eq-eqb _ _ (q .joins i j l r m h)
       go (families.claims j h n r) = ap (holds T t claim i) n ∙ at-claims i j h ∙ eq-eqb _ _ (q .claims i j l r h)
 
   -- ---- and the equations hold where the tests do
-  pub hold-equations : (k : ℕ) → ((i c : ℕ) → i < 32 * k → applies k i c ≡ true → holds T t claim i c ≡ true) → Equations T t claim k
+  pub hold-equations : (k : ℕ) → ((i c : ℕ) → i < 32 * k → applies k i c ≡ true → holds T t claim i c ≡ true)
+      → Equations T t claim k
   hold-equations k a = record {
-    zero-columns = λ i j l r h. eqb-true _ _ (sym (at-zero-columns i j h) ∙ test i (1 + j) l (families.zero-columns j h refl r));
+    zero-columns =
+        λ i j l r h. eqb-true _ _ (sym (at-zero-columns i j h) ∙ test i (1 + j) l (families.zero-columns j h refl r));
     new-zeros = λ i j l r h. eqb-true _ _ (sym (at-new-zeros i j h) ∙ test i (5 + j) l (families.new-zeros j h refl r));
     starts = λ i j l r h. eqb-true _ _ (sym (at-starts i j h) ∙ test i (9 + j) l (families.starts j h refl r));
-    output-kept = λ i j l r s h. eqb-true _ _ (sym (at-goes-on i j (omega arith)) ∙ test i (21 + j) l (families.output-kept j h refl r s));
-    goes-on = λ i j l r s m h. eqb-true _ _ (sym (at-goes-on i j h) ∙ test i (21 + j) l (column i j (decLt j 4) h r s m));
+    output-kept = λ i j l r s h. eqb-true _ _
+        (sym (at-goes-on i j (omega arith)) ∙ test i (21 + j) l (families.output-kept j h refl r s));
+    goes-on =
+        λ i j l r s m h. eqb-true _ _ (sym (at-goes-on i j h) ∙ test i (21 + j) l (column i j (decLt j 4) h r s m));
     ends = λ i j l r h. eqb-true _ _ (sym (at-ends i j h) ∙ test i (33 + j) l (families.ends j h refl r));
     joins = λ i j l r m h. eqb-true _ _ (sym (at-joins i j h) ∙ test i (45 + j) l (families.joins j h refl r m));
     claims = λ i j l r h. eqb-true _ _ (sym (at-claims i j h) ∙ test i (49 + j) l (families.claims j h refl r));
@@ -107,6 +153,7 @@ module _ (T t claim : List ℕ) where
       test : (i c : ℕ) → i < 32 * k → Applies k i c → holds T t claim i c ≡ true
       test i c l y = a i c l (applies-yes k i c y)
 
-      column : (i j : ℕ) → Dec (j < 4) → j < 12 → 1 ≤ within i → within i ≤ 29 → entering i ≡ false → Applies k i (21 + j)
+      column : (i j : ℕ) → Dec (j < 4) → j < 12 → 1 ≤ within i → within i ≤ 29 → entering i ≡ false
+          → Applies k i (21 + j)
       column i j (yes b) h r s m = families.output-kept j b refl r s
       column i j (no b) h r s m = families.goes-on j (omega arith) h refl r s m

@@ -34,7 +34,15 @@ module _ (k i c : ℕ) where
   pub applies-cases : applies k i c ≡ true → Applies k i c
   unfolding applies
   applies-cases e =
-      ⊎-elim l₁ (λ e. ⊎-elim l₂ (λ e. ⊎-elim l₃ (λ e. ⊎-elim l₄ (λ e. ⊎-elim l₅ (λ e. ⊎-elim l₆ (λ e. ⊎-elim l₇ l₈ (or-cases _ _ e)) (or-cases _ _ e)) (or-cases _ _ e)) (or-cases _ _ e)) (or-cases _ _ e)) (or-cases _ _ e)) (or-cases _ _ e)
+      ⊎-elim l₁
+      (λ e. ⊎-elim l₂
+      (λ e. ⊎-elim l₃
+      (λ e. ⊎-elim l₄
+      (λ e. ⊎-elim l₅ (λ e. ⊎-elim l₆ (λ e. ⊎-elim l₇ l₈ (or-cases _ _ e)) (or-cases _ _ e)) (or-cases _ _ e))
+      (or-cases _ _ e))
+      (or-cases _ _ e))
+      (or-cases _ _ e))
+      (or-cases _ _ e)
     where
       -- the lines of the list, two of them for constraints 21 to 32
       l₁ : (between 1 4 c && eqb (within i) 0) ≡ true → Applies k i c
@@ -94,8 +102,11 @@ module _ (k i c : ℕ) where
   applies-yes (zero-columns j l e r) = simp (in-range 1 4 c (omega arith) (omega arith), eq-eqb (within i) 0 r)
   applies-yes (new-zeros j l e r) = simp (in-range 5 8 c (omega arith) (omega arith), r, or-true)
   applies-yes (starts j l e r) = simp (in-range 9 20 c (omega arith) (omega arith), eq-eqb (within i) 0 r, or-true)
-  applies-yes (output-kept j l e r s) = simp (in-range 21 24 c (omega arith) (omega arith), in-range 1 29 (within i) r s, or-true)
-  applies-yes (goes-on j f l e r s n) = simp (in-range 25 32 c (omega arith) (omega arith), in-range 1 29 (within i) r s, n, or-true)
+  applies-yes (output-kept j l e r s) =
+      simp (in-range 21 24 c (omega arith) (omega arith), in-range 1 29 (within i) r s, or-true)
+  applies-yes (goes-on j f l e r s n) =
+      simp (in-range 25 32 c (omega arith) (omega arith), in-range 1 29 (within i) r s, n, or-true)
   applies-yes (ends j l e r) = simp (in-range 33 44 c (omega arith) (omega arith), eq-eqb (within i) 30 r, or-true)
-  applies-yes (joins j l e r n) = simp (in-range 45 48 c (omega arith) (omega arith), eq-eqb (within i) 31 r, ne-eqb (i + 1) (32 * k) n, or-true)
+  applies-yes (joins j l e r n) =
+      simp (in-range 45 48 c (omega arith) (omega arith), eq-eqb (within i) 31 r, ne-eqb (i + 1) (32 * k) n, or-true)
   applies-yes (claims j l e r) = simp (in-range 49 52 c (omega arith) (omega arith), eq-eqb (i + 1) (32 * k) r, or-true)

@@ -27,7 +27,8 @@ enters i (inl e) = rw (eq-eqb (within i) 10 e)
 enters i (inr e) = simp (eq-eqb (within i) 20 e, or-true)
 
 pub enters-at : (i : ℕ) → entering i ≡ true → (within i ≡ 10) ⊎ (within i ≡ 20)
-enters-at i e = ⊎-map (eqb-true (within i) 10) (eqb-true (within i) 20) (or-cases (eqb (within i) 10) (eqb (within i) 20) e)
+enters-at i e =
+    ⊎-map (eqb-true (within i) 10) (eqb-true (within i) 20) (or-cases (eqb (within i) 10) (eqb (within i) 20) e)
 
 pub enters-not : (i : ℕ) → (within i ≡ 10 → ⊥) → (within i ≡ 20 → ⊥) → entering i ≡ false
 enters-not i p q = rw (ne-eqb (within i) 10 p, ne-eqb (within i) 20 q)
@@ -57,10 +58,13 @@ entering-row h e = go (ℕ-discrete (h % 3) 0)
     go (no z) = enters (firstRow h + 9) (inr (omega (arith, within-of h 9 (omega arith))))
 
 pub entering-hash : (i : ℕ) → entering i ≡ true → (h : ℕ) × (h % 3 ≡ 2 → ⊥) × (i ≡ firstRow h + 9)
-entering-hash i e = ⊎-elim (λ (z : within i ≡ 10). (3 * (i / 32), (λ x. omega arith), omega arith)) (λ (z : within i ≡ 20). (3 * (i / 32) + 1, (λ x. omega arith), omega arith)) (enters-at i e)
+entering-hash i e =
+    ⊎-elim (λ (z : within i ≡ 10). (3 * (i / 32), (λ x. omega arith), omega arith))
+    (λ (z : within i ≡ 20). (3 * (i / 32) + 1, (λ x. omega arith), omega arith)) (enters-at i e)
 
 -- a row of 1 to 29 at which none enters is followed by one of the same hash
-pub round-hash : (i : ℕ) → 1 ≤ within i → within i ≤ 29 → entering i ≡ false → (h : ℕ) × (j : ℕ) × (j < 9) × (i ≡ firstRow h + j)
+pub round-hash : (i : ℕ) → 1 ≤ within i → within i ≤ 29 → entering i ≡ false
+    → (h : ℕ) × (j : ℕ) × (j < 9) × (i ≡ firstRow h + j)
 round-hash i p q e =
     let ten : within i ≡ 10 → ⊥ = λ z. enters-not-at i e (inl z) in
     let twenty : within i ≡ 20 → ⊥ = λ z. enters-not-at i e (inr z) in
@@ -91,18 +95,21 @@ module _ (T t : List ℕ) (h j : ℕ) (l : j < 10) where
   back-is = ap (λ r. backStep T r (row t (firstRow h + j))) (round-of h j l)
 
   -- forward where no tap enters
-  pub forward-is : entering (firstRow h + j) ≡ false → forward T t (firstRow h + j) ≡ secondStep T j (row t (firstRow h + j))
+  pub forward-is : entering (firstRow h + j) ≡ false
+      → forward T t (firstRow h + j) ≡ secondStep T j (row t (firstRow h + j))
   unfolding forward
   forward-is e = rw (e, round-of h j l)
 
   -- and columns 0 to 3 where one does
   pub forward-enters : entering (firstRow h + j) ≡ true → (c : ℕ) → c < 4
-      → cell (forward T t (firstRow h + j)) c ≡ add (cell (secondStep T j (row t (firstRow h + j))) c) (cell (initialConstant T) c)
+      → cell (forward T t (firstRow h + j)) c
+      ≡ add (cell (secondStep T j (row t (firstRow h + j))) c) (cell (initialConstant T) c)
   unfolding forward
   forward-enters e c q =
       rw (e, round-of h j l)
       (cell-plus-first 4 (secondStep T j (row t (firstRow h + j))) (initialConstant T) c (omega arith) q)
 
   -- a row is the first step from its back
-  pub row-from-back : IsTable T → IsState (row t (firstRow h + j)) → row t (firstRow h + j) ≡ firstStep T j (back T t (firstRow h + j))
+  pub row-from-back : IsTable T → IsState (row t (firstRow h + j))
+      → row t (firstRow h + j) ≡ firstStep T j (back T t (firstRow h + j))
   row-from-back accepted s = sym (ap (firstStep T j) back-is ∙ first-back T accepted j l s)

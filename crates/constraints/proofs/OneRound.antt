@@ -1,4 +1,5 @@
--- One step there and back: `backStep` undoes `firstStep`, and `firstStep` undoes `backStep`, on states of twelve canonical cells.
+-- One step there and back: `backStep` undoes `firstStep`, and `firstStep` undoes `backStep`, on states of twelve
+-- canonical cells.
 -- Assumes nothing.
 use mathlib.Core.Path.{_≡_, ap, _∙_}
 use mathlib.Core.List.{List}
@@ -14,7 +15,8 @@ use Rattle.matrix.specs.Matrix.{times}
 use Rattle.table.specs.Table.{IsTable, matrixOf, inverseOf, firstStepConstant}
 use Rattle.table.proofs.Theorems.{undo-mix, mix-undo}
 use Rattle.hash.specs.Hash.{roots, cubes, plus, mix, firstStep}
-use Rattle.hash.proofs.States.{IsState, state-cell, same-state, tab-state, roots-state, cubes-state, plus-state, times-state, cell-roots, cell-cubes, cell-plus, first-constant-state}
+use Rattle.hash.proofs.States.{IsState, state-cell, same-state, tab-state, roots-state, cubes-state, plus-state}
+use Rattle.hash.proofs.States.{times-state, cell-roots, cell-cubes, cell-plus, first-constant-state}
 use Rattle.constraints.specs.Constraints.{minus, backStep}
 
 -- ---- addition and subtraction
@@ -29,19 +31,27 @@ cell-minus s k j h = cell-tab 12 _ j h
 pub plus-minus : {s k : List ℕ} → IsState s → IsState k → plus (minus s k) k ≡ s
 plus-minus {s} {k} p q =
     same-state (plus-state (minus s k) k) p
-    (λ j h. cell-plus (minus s k) k j h ∙ ap (λ x. add x (cell k j)) (cell-minus s k j h) ∙ sub-add (cell s j) (cell k j) (state-cell p j) (state-cell q j))
+    (λ j h. cell-plus (minus s k) k j h
+    ∙ ap (λ x. add x (cell k j)) (cell-minus s k j h)
+    ∙ sub-add (cell s j) (cell k j) (state-cell p j) (state-cell q j))
 
 pub minus-plus : {s k : List ℕ} → IsState s → IsState k → minus (plus s k) k ≡ s
 minus-plus {s} {k} p q =
     same-state (minus-state (plus s k) k) p
-    (λ j h. cell-minus (plus s k) k j h ∙ ap (λ x. sub x (cell k j)) (cell-plus s k j h) ∙ add-sub (cell s j) (cell k j) (state-cell p j) (state-cell q j))
+    (λ j h. cell-minus (plus s k) k j h
+    ∙ ap (λ x. sub x (cell k j)) (cell-plus s k j h)
+    ∙ add-sub (cell s j) (cell k j) (state-cell p j) (state-cell q j))
 
 -- ---- cubes and roots
 cubes-roots : {s : List ℕ} → IsState s → cubes (roots s) ≡ s
-cubes-roots {s} p = same-state (cubes-state (roots s)) p (λ j h. cell-cubes (roots s) j h ∙ ap cube (cell-roots s j h) ∙ cube-root (cell s j) (state-cell p j))
+cubes-roots {s} p =
+    same-state (cubes-state (roots s)) p
+    (λ j h. cell-cubes (roots s) j h ∙ ap cube (cell-roots s j h) ∙ cube-root (cell s j) (state-cell p j))
 
 roots-cubes : {s : List ℕ} → IsState s → roots (cubes s) ≡ s
-roots-cubes {s} p = same-state (roots-state (cubes s)) p (λ j h. cell-roots (cubes s) j h ∙ ap root (cell-cubes s j h) ∙ root-cube (cell s j) (state-cell p j))
+roots-cubes {s} p =
+    same-state (roots-state (cubes s)) p
+    (λ j h. cell-roots (cubes s) j h ∙ ap root (cell-cubes s j h) ∙ root-cube (cell s j) (state-cell p j))
 
 -- ---- the first step of round r
 pub backStep-state : (T : List ℕ) (r : ℕ) (s : List ℕ) → IsState (backStep T r s)
@@ -52,15 +62,18 @@ module _ (T : List ℕ) (accepted : IsTable T) (r : ℕ) (h : r < 10) where
   pub back-first : {s : List ℕ} → IsState s → backStep T r (firstStep T r s) ≡ s
   unfolding backStep firstStep mix
   back-first {s} p =
-      ap (λ x. cubes (times (inverseOf T) x)) (minus-plus (times-state (matrixOf T) (roots s)) (first-constant-state T accepted r h))
+      ap (λ x. cubes (times (inverseOf T) x))
+      (minus-plus (times-state (matrixOf T) (roots s)) (first-constant-state T accepted r h))
       ∙ ap cubes (undo-mix T accepted (roots s) (roots-state s .size) (λ i l. state-cell (roots-state s) i))
       ∙ cubes-roots p
 
   pub first-back : {x : List ℕ} → IsState x → firstStep T r (backStep T r x) ≡ x
   unfolding backStep firstStep mix
   first-back {x} p =
-      ap (λ y. plus (times (matrixOf T) y) (firstStepConstant T r)) (roots-cubes (times-state (inverseOf T) (minus x (firstStepConstant T r))))
-      ∙ ap (λ y. plus y (firstStepConstant T r)) (mix-undo T accepted less (less-state .size) (λ i l. state-cell less-state i))
+      ap (λ y. plus (times (matrixOf T) y) (firstStepConstant T r))
+      (roots-cubes (times-state (inverseOf T) (minus x (firstStepConstant T r))))
+      ∙ ap (λ y. plus y (firstStepConstant T r))
+      (mix-undo T accepted less (less-state .size) (λ i l. state-cell less-state i))
       ∙ plus-minus p (first-constant-state T accepted r h)
     where
       less : List ℕ

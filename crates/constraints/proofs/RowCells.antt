@@ -25,7 +25,8 @@ row-state t a i h =
     record { size = e; canonical = λ j l. omega (arith, cell-row t i j (omega arith), cell-lt t a (12 * i + j)) }
 
 -- two traces of n rows whose rows are the same are the same
-pub same-rows : (n : ℕ) (s t : List ℕ) → length s ≡ 12 * n → length t ≡ 12 * n → ((i : ℕ) → i < n → row s i ≡ row t i) → s ≡ t
+pub same-rows : (n : ℕ) (s t : List ℕ) → length s ≡ 12 * n → length t ≡ 12 * n
+    → ((i : ℕ) → i < n → row s i ≡ row t i) → s ≡ t
 same-rows n s t p q h = same-cells (12 * n) s t p q same
   where
     same : (m : ℕ) → m < 12 * n → cell s m ≡ cell t m

@@ -1,4 +1,5 @@
--- A trace of k batches has 372 × k tests: 16 at row 0, 8 at rows 10 and 20, 4 at row 31, and 12 at each other row of a batch.
+-- A trace of k batches has 372 × k tests: 16 at row 0, 8 at rows 10 and 20, 4 at row 31, and 12 at each other row of a
+-- batch.
 -- Assumes nothing.
 use mathlib.Core.Path.{_≡_, refl, sym, ap, ap₂, _∙_}
 use mathlib.Core.Bool.{Bool, true, false, _&&_, _||_, not}
@@ -34,7 +35,8 @@ length-rowTests k i c zero = refl
 length-rowTests k i c (suc n) = go (applies k i c) (length-rowTests k i (c + 1) n)
   where
     go : (b : Bool) → length (rowTests k i (c + 1) n) ≡ count (applies k i) (c + 1) n
-        → length (keep b (record { at = i; number = c }) (rowTests k i (c + 1) n)) ≡ choose b 1 0 + count (applies k i) (c + 1) n
+        → length (keep b (record { at = i; number = c }) (rowTests k i (c + 1) n))
+        ≡ choose b 1 0 + count (applies k i) (c + 1) n
     go true e = omega arith
     go false e = omega arith
 
@@ -69,7 +71,9 @@ count-at r last h l = go (decLt r 31)
     go : Dec (r < 31) → count (appliesAt r last) 1 52 ≡ testsAt r
     go (yes b) =
         ap (λ x. count (appliesAt r x) 1 52) (l b)
-        ∙ eqb-true _ _ (not-false _ (none-first 31 (λ x. not (eqb (count (appliesAt x false) 1 52) (testsAt x))) rows-but-the-last r b))
+        ∙ eqb-true _ _
+        (not-false _
+        (none-first 31 (λ x. not (eqb (count (appliesAt x false) 1 52) (testsAt x))) rows-but-the-last r b))
     go (no b) =
         let e : r ≡ 31 = omega arith in
         ap (λ x. count (appliesAt x last) 1 52) e ∙ last-row last ∙ ap testsAt (sym e)
@@ -78,7 +82,8 @@ pub length-row-tests : (k i : ℕ) → length (rowTests k i 1 52) ≡ testsAt (w
 length-row-tests k i =
     length-rowTests k i 1 52
     ∙ count-ext (applies k i) (appliesAt (within i) (lastRow k i)) 1 52 (applies-at k i)
-    ∙ count-at (within i) (lastRow k i) (omega arith) (λ h. ne-eqb (i + 1) (32 * k) (λ (e : i + 1 ≡ 32 * k). omega arith))
+    ∙ count-at (within i) (lastRow k i) (omega arith)
+    (λ h. ne-eqb (i + 1) (32 * k) (λ (e : i + 1 ≡ 32 * k). omega arith))
 
 -- ---- the tests of n rows, and of k batches
 length-testsFrom : (k i n : ℕ) → length (testsFrom k i n) ≡ sum n (λ m. testsAt (within (i + m)))

@@ -3,15 +3,18 @@
 use mathlib.Core.Path.{_≡_, refl, sym, ap, _∙_}
 use mathlib.Core.Bool.{Bool, true, false}
 use mathlib.Core.Logic.{_⊎_, inl, inr, _↔_}
-use mathlib.Core.List.{List, _++_, List·Memᴰ, List·Memᴰ·cases-cons, List·Memᴰ·append-cases, List·Memᴰ·not-nil, Memᴰ·append-left, Memᴰ·append-right, Memᴰ·cast}
+use mathlib.Core.List.{List, _++_, List·Memᴰ, List·Memᴰ·cases-cons, List·Memᴰ·append-cases}
+use mathlib.Core.List.{List·Memᴰ·not-nil, Memᴰ·append-left, Memᴰ·append-right, Memᴰ·cast}
 use Prim.Native.Nat.{ℕ, zero, suc, _+_, _*_, _≤_, _<_}
 use native.Mathlib.Decide.{ℕ-discrete}
 use native.Mathlib.Omega.{arith}
 use Rattle.constraints.specs.Constraints.{Test, keep, applies, rowTests, testsFrom, tests}
-use Rattle.constraints.proofs.Families.{Applies, applies-cases, zero-columns, new-zeros, starts, output-kept, goes-on, ends, joins, claims}
+use Rattle.constraints.proofs.Families.{Applies, applies-cases, zero-columns, new-zeros, starts}
+use Rattle.constraints.proofs.Families.{output-kept, goes-on, ends, joins, claims}
 
 -- ---- a test of the list is one of a row of the trace, and its constraint applies there
-pub in-row : (k i c n : ℕ) (x : Test) → List·Memᴰ x (rowTests k i c n) → (x .at ≡ i) × (c ≤ x .number) × (applies k i (x .number) ≡ true)
+pub in-row : (k i c n : ℕ) (x : Test) → List·Memᴰ x (rowTests k i c n)
+    → (x .at ≡ i) × (c ≤ x .number) × (applies k i (x .number) ≡ true)
 unfolding rowTests
 in-row k i c zero x m = absurd (List·Memᴰ·not-nil m)
 in-row k i c (suc n) x m = go (applies k i c) refl (λ p. later (in-row k i (c + 1) n x p)) m
@@ -25,21 +28,26 @@ in-row k i c (suc n) x m = go (applies k i c) refl (λ p. later (in-row k i (c +
     later : (x .at ≡ i) × (c + 1 ≤ x .number) × (applies k i (x .number) ≡ true) → Says
     later s = (s .0, omega (arith, s .1), s .2)
 
-    here : applies k i c ≡ true → (x ≡ record { at = i; number = c }) ⊎ List·Memᴰ x rest → (List·Memᴰ x rest → Says) → Says
-    here e (inl p) r = (ap (λ y. y .at) p, omega (arith, ap (λ y. y .number) p), ap (λ y. applies k i (y .number)) p ∙ e)
+    here : applies k i c ≡ true → (x ≡ record { at = i; number = c }) ⊎ List·Memᴰ x rest → (List·Memᴰ x rest → Says)
+        → Says
+    here e (inl p) r =
+        (ap (λ y. y .at) p, omega (arith, ap (λ y. y .number) p), ap (λ y. applies k i (y .number)) p ∙ e)
     here e (inr p) r = r p
 
-    go : (b : Bool) → applies k i c ≡ b → (List·Memᴰ x rest → Says) → List·Memᴰ x (keep b (record { at = i; number = c }) rest) → Says
+    go : (b : Bool) → applies k i c ≡ b → (List·Memᴰ x rest → Says)
+        → List·Memᴰ x (keep b (record { at = i; number = c }) rest) → Says
     go true e r p = here e (List·Memᴰ·cases-cons p) r
     go false e r p = r p
 
-pub in-rows : (k i n : ℕ) (x : Test) → List·Memᴰ x (testsFrom k i n) → (i ≤ x .at) × (x .at < i + n) × (applies k (x .at) (x .number) ≡ true)
+pub in-rows : (k i n : ℕ) (x : Test) → List·Memᴰ x (testsFrom k i n)
+    → (i ≤ x .at) × (x .at < i + n) × (applies k (x .at) (x .number) ≡ true)
 unfolding testsFrom
 in-rows k i zero x m = absurd (List·Memᴰ·not-nil m)
 in-rows k i (suc n) x m = go (List·Memᴰ·append-cases (rowTests k i 1 52) m) (in-rows k (i + 1) n x)
   where
     go : List·Memᴰ x (rowTests k i 1 52) ⊎ List·Memᴰ x (testsFrom k (i + 1) n)
-        → (List·Memᴰ x (testsFrom k (i + 1) n) → (i + 1 ≤ x .at) × (x .at < i + 1 + n) × (applies k (x .at) (x .number) ≡ true))
+        → (List·Memᴰ x (testsFrom k (i + 1) n)
+        → (i + 1 ≤ x .at) × (x .at < i + 1 + n) × (applies k (x .at) (x .number) ≡ true))
         → (i ≤ x .at) × (x .at < i + suc n) × (applies k (x .at) (x .number) ≡ true)
     go (inl p) r =
         let s = in-row k i 1 52 x p in
@@ -49,7 +57,8 @@ in-rows k i (suc n) x m = go (List·Memᴰ·append-cases (rowTests k i 1 52) m) 
         (omega (arith, s .0), omega (arith, s .1), s .2)
 
 -- ---- each of these is a test of the list
-row-in : (k i c n d : ℕ) → c ≤ d → d < c + n → applies k i d ≡ true → List·Memᴰ (record { at = i; number = d }) (rowTests k i c n)
+row-in : (k i c n d : ℕ) → c ≤ d → d < c + n → applies k i d ≡ true
+    → List·Memᴰ (record { at = i; number = d }) (rowTests k i c n)
 unfolding rowTests
 row-in k i c zero d l h a = absurd (omega arith)
 row-in k i c (suc n) d l h a = go (applies k i c) refl (ℕ-discrete c d) (λ f. row-in k i (c + 1) n d f (omega arith) a)
@@ -66,7 +75,8 @@ row-in k i c (suc n) d l h a = go (applies k i c) refl (ℕ-discrete c d) (λ f.
         absurd (let z : _≡_ {A = ℕ} 0 1 = cc in omega arith)
     go false e (no p) r = r (omega arith)
 
-rows-in : (k i n e d : ℕ) → i ≤ e → e < i + n → 1 ≤ d → d < 53 → applies k e d ≡ true → List·Memᴰ (record { at = e; number = d }) (testsFrom k i n)
+rows-in : (k i n e d : ℕ) → i ≤ e → e < i + n → 1 ≤ d → d < 53 → applies k e d ≡ true
+    → List·Memᴰ (record { at = e; number = d }) (testsFrom k i n)
 unfolding testsFrom
 rows-in k i zero e d p q l h a = absurd (omega arith)
 rows-in k i (suc n) e d p q l h a = go (ℕ-discrete i e) (λ f. rows-in k (i + 1) n e d f (omega arith) l h a)
@@ -92,10 +102,15 @@ number-range k i c (claims j h e r) = (omega arith, omega arith)
 -- the tests of a trace of k batches are the constraints that apply, at its 32k rows
 pub test-list : (k : ℕ) (x : Test) → List·Memᴰ x (tests k) ↔ ((x .at < 32 * k) × (applies k (x .at) (x .number) ≡ true))
 unfolding tests
-test-list k x = (λ m. from (in-rows k 0 (32 * k) x m), λ s. to s (number-range k (x .at) (x .number) (applies-cases k (x .at) (x .number) (s .1))))
+test-list k x = (
+  λ m. from (in-rows k 0 (32 * k) x m),
+  λ s. to s (number-range k (x .at) (x .number) (applies-cases k (x .at) (x .number) (s .1))),
+)
   where
-    from : (0 ≤ x .at) × (x .at < 0 + 32 * k) × (applies k (x .at) (x .number) ≡ true) → (x .at < 32 * k) × (applies k (x .at) (x .number) ≡ true)
+    from : (0 ≤ x .at) × (x .at < 0 + 32 * k) × (applies k (x .at) (x .number) ≡ true)
+        → (x .at < 32 * k) × (applies k (x .at) (x .number) ≡ true)
     from s = (omega (arith, s .1), s .2)
 
-    to : (x .at < 32 * k) × (applies k (x .at) (x .number) ≡ true) → (1 ≤ x .number) × (x .number < 53) → List·Memᴰ x (testsFrom k 0 (32 * k))
+    to : (x .at < 32 * k) × (applies k (x .at) (x .number) ≡ true) → (1 ≤ x .number) × (x .number < 53)
+        → List·Memᴰ x (testsFrom k 0 (32 * k))
     to s r = rows-in k 0 (32 * k) (x .at) (x .number) (omega arith) (omega (arith, s .0)) (r .0) (r .1) (s .1)

@@ -19,18 +19,23 @@ pub data Rising : List Test → Type 0 where
   none : Rising []
   more : {x : Test} {xs : List Test} → ((y : Test) → List·Memᴰ y xs → Earlier x y) → Rising xs → Rising (x ∷ xs)
 
-joined : {xs : List Test} (ys : List Test) → Rising xs → Rising ys → ((x y : Test) → List·Memᴰ x xs → List·Memᴰ y ys → Earlier x y) → Rising (xs ++ ys)
+joined : {xs : List Test} (ys : List Test) → Rising xs → Rising ys
+    → ((x y : Test) → List·Memᴰ x xs → List·Memᴰ y ys → Earlier x y) → Rising (xs ++ ys)
 joined ys none q h = q
 joined ys (more {x = x} {xs = xs} f p) q h =
-    more (λ y m. ⊎-elim (f y) (h x y (List·Memᴰ.List·Memᴰ·head refl)) (List·Memᴰ·append-cases xs m)) (joined ys p q (λ z y a b. h z y (List·Memᴰ.List·Memᴰ·tail a) b))
+    more (λ y m. ⊎-elim (f y) (h x y (List·Memᴰ.List·Memᴰ·head refl)) (List·Memᴰ·append-cases xs m))
+    (joined ys p q (λ z y a b. h z y (List·Memᴰ.List·Memᴰ·tail a) b))
 
 row-rising : (k i c n : ℕ) → Rising (rowTests k i c n)
 unfolding rowTests
 row-rising k i c zero = none
 row-rising k i c (suc n) = go (applies k i c) (row-rising k i (c + 1) n)
   where
-    go : (b : Bool) → Rising (rowTests k i (c + 1) n) → Rising (keep b (record { at = i; number = c }) (rowTests k i (c + 1) n))
-    go true r = more {x = record { at = i; number = c }} (λ y m. (let s = in-row k i (c + 1) n y m in by-number (sym (s .0)) (omega (arith, s .1)))) r
+    go : (b : Bool) → Rising (rowTests k i (c + 1) n)
+        → Rising (keep b (record { at = i; number = c }) (rowTests k i (c + 1) n))
+    go true r =
+        more {x = record { at = i; number = c }}
+        (λ y m. (let s = in-row k i (c + 1) n y m in by-number (sym (s .0)) (omega (arith, s .1)))) r
     go false r = r
 
 rows-rising : (k i n : ℕ) → Rising (testsFrom k i n)

@@ -20,7 +20,8 @@ module _ (T t claim : List ℕ) where
   none-to-hold : AllHold T t claim []
   none-to-hold x m = absurd (List·Memᴰ·not-nil m)
 
-  one-more-holds : (x : Test) (xs : List Test) → holds T t claim (x .at) (x .number) ≡ true → AllHold T t claim xs → AllHold T t claim (x ∷ xs)
+  one-more-holds : (x : Test) (xs : List Test) → holds T t claim (x .at) (x .number) ≡ true → AllHold T t claim xs
+      → AllHold T t claim (x ∷ xs)
   one-more-holds x xs e a y m = go (List·Memᴰ·cases-cons m)
     where
       go : (y ≡ x) ⊎ List·Memᴰ y xs → holds T t claim (y .at) (y .number) ≡ true
@@ -54,7 +55,8 @@ module _ (T t claim : List ℕ) where
   walk-ends (x ∷ xs) n = go (holds T t claim (x .at) (x .number)) refl (walk-ends xs (n + 1))
     where
       go : (b : Bool) → holds T t claim (x .at) (x .number) ≡ b → Ends xs (n + 1) (walk T t claim xs (n + 1))
-          → Ends (x ∷ xs) n (unless b (Constraint (record { 0 = x .at }) (x .number) (n + 1)) (walk T t claim xs (n + 1)))
+          → Ends (x ∷ xs) n
+          (unless b (Constraint (record { 0 = x .at }) (x .number) (n + 1)) (walk T t claim xs (n + 1)))
       go true e r = one-more-end x xs n _ e r
       go false e r =
           stops (x .at) (x .number) 1
@@ -63,14 +65,20 @@ module _ (T t claim : List ℕ) where
 
   -- the two ends exclude each other: the test that fails is one of the list
   pub not-both : (xs : List Test) (i c n : ℕ) → AllHold T t claim xs → IsFirstFailing T t claim xs i c n → ⊥
-  not-both xs i c n a f = true≢false (sym (a x (subst (λ l. List·Memᴰ x l) (sym (f .order)) (Memᴰ·append-right (f .before) (List·Memᴰ.List·Memᴰ·head refl)))) ∙ f .fails)
+  not-both xs i c n a f =
+      true≢false
+      (sym (a x
+      (subst (λ l. List·Memᴰ x l) (sym (f .order)) (Memᴰ·append-right (f .before) (List·Memᴰ.List·Memᴰ·head refl))))
+      ∙ f .fails)
     where
       x : Test
       x = record { at = i; number = c }
 
   -- a walk stops at the test that fails, where all before it hold
-  walk-stops : (xs : List Test) (i c : ℕ) (rest : List Test) (n : ℕ) → AllHold T t claim xs → holds T t claim i c ≡ false
-      → walk T t claim (xs ++ record { at = i; number = c } ∷ rest) n ≡ Refused (Constraint (record { 0 = i }) c (n + (length xs + 1)))
+  walk-stops : (xs : List Test) (i c : ℕ) (rest : List Test) (n : ℕ) → AllHold T t claim xs
+      → holds T t claim i c ≡ false
+      → walk T t claim (xs ++ record { at = i; number = c } ∷ rest) n
+      ≡ Refused (Constraint (record { 0 = i }) c (n + (length xs + 1)))
   unfolding walk
   walk-stops [] i c rest n a e =
       let z : n + 1 ≡ n + (0 + 1) = omega arith in
@@ -78,7 +86,8 @@ module _ (T t claim : List ℕ) where
   walk-stops (x ∷ xs) i c rest n a e =
       let z : n + 1 + (length xs + 1) ≡ n + (suc (length xs) + 1) = omega arith in
       rw (a x (List·Memᴰ.List·Memᴰ·head refl))
-      (walk-stops xs i c rest (n + 1) (λ y m. a y (List·Memᴰ.List·Memᴰ·tail m)) e ∙ ap (λ m. Refused (Constraint (record { 0 = i }) c m)) z)
+      (walk-stops xs i c rest (n + 1) (λ y m. a y (List·Memᴰ.List·Memᴰ·tail m)) e
+      ∙ ap (λ m. Refused (Constraint (record { 0 = i }) c m)) z)
 
   -- ---- through all tests
   module _ (k : ℕ) where

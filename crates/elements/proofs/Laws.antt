@@ -1,4 +1,5 @@
--- An element's three words spell it, and no other element has them: the words of a list of elements are read as those elements.
+-- An element's three words spell it, and no other element has them: the words of a list of elements are read as those
+-- elements.
 -- Assumes nothing.
 use mathlib.Core.Path.{_≡_, refl, sym, ap, ap₂, _∙_}
 use mathlib.Core.List.{List, [], _∷_, _++_}
@@ -19,7 +20,8 @@ use Rattle.elements.proofs.Shifts.{above}
 use Rattle.elements.proofs.Words.{length-bytes}
 
 -- three payloads joined by shifts, where the first is below 16
-pub spelled : (a b c : ℕ) → a < 2 ^ 4 → b < 2 ^ 30 → c < 2 ^ 30 → bitOr (bitOr (a * 2 ^ 60 % 2 ^ 64) (b * 2 ^ 30 % 2 ^ 64)) c ≡ a * 2 ^ 60 + b * 2 ^ 30 + c
+pub spelled : (a b c : ℕ) → a < 2 ^ 4 → b < 2 ^ 30 → c < 2 ^ 30
+    → bitOr (bitOr (a * 2 ^ 60 % 2 ^ 64) (b * 2 ^ 30 % 2 ^ 64)) c ≡ a * 2 ^ 60 + b * 2 ^ 30 + c
 spelled a b c ha hb hc =
     let small : b * 2 ^ 30 % 2 ^ 64 ≡ b * 2 ^ 30 = mod-eq-of-lt (omega arith) in
     let two = above 64 a 60 (b * 2 ^ 30 % 2 ^ 64) (omega arith) (omega arith) in
@@ -27,16 +29,19 @@ spelled a b c ha hb hc =
     ap (λ (x : ℕ). bitOr x c) (two ∙ e) ∙ or-shifted (a * 2 ^ 30 + b) 30 c hc ∙ omega arith
 
 -- a 64-bit number is what its three words spell
-pub words-spell : (x : ℕ) → x < 2 ^ 64 → elementOf (joined 1 (x / 2 ^ 60)) (joined 2 (x / 2 ^ 30 % 2 ^ 30)) (joined 3 (x % 2 ^ 30)) ≡ x
+pub words-spell : (x : ℕ) → x < 2 ^ 64
+    → elementOf (joined 1 (x / 2 ^ 60)) (joined 2 (x / 2 ^ 30 % 2 ^ 30)) (joined 3 (x % 2 ^ 30)) ≡ x
 words-spell x h = omega (arith, shr-shr x 30 30)
 
 -- words of the three kinds are those of the element that they spell
-pub spell-words : (a b c : ℕ) → kindOf a ≡ 1 → kindOf b ≡ 2 → kindOf c ≡ 3 → elementWords (elementOf a b c) ≡ a ∷ b ∷ c ∷ []
+pub spell-words : (a b c : ℕ) → kindOf a ≡ 1 → kindOf b ≡ 2 → kindOf c ≡ 3
+    → elementWords (elementOf a b c) ≡ a ∷ b ∷ c ∷ []
 spell-words a b c ha hb hc =
     ap₂ _∷_ (omega arith) (ap₂ _∷_ (omega arith) (ap (λ w. w ∷ []) (omega arith)))
 
 -- three words of a file spell the element there
-pub read-three : (file : List ℕ) (j a b c x : ℕ) → a ≡ wordAt file j → b ≡ wordAt file (j + 1) → c ≡ wordAt file (j + 2) → x ≡ elementOf a b c → x ≡ elementAt file j
+pub read-three : (file : List ℕ) (j a b c x : ℕ) → a ≡ wordAt file j → b ≡ wordAt file (j + 1)
+    → c ≡ wordAt file (j + 2) → x ≡ elementOf a b c → x ≡ elementAt file j
 unfolding elementAt
 read-three file j a b c x p q r e = e ∙ rw (p, q, r)
 
@@ -46,7 +51,8 @@ unfolding elementAt
 no-word file j h = omega arith
 
 -- ---- writing: three words, one after the other
-pub write-three : (l l₁ l₂ l₃ : List ℕ) (j a b c : ℕ) → l₁ ≡ sets l (4 * j) (wordBytes a) → l₂ ≡ sets l₁ (4 * (j + 1)) (wordBytes b) → l₃ ≡ sets l₂ (4 * (j + 2)) (wordBytes c)
+pub write-three : (l l₁ l₂ l₃ : List ℕ) (j a b c : ℕ) → l₁ ≡ sets l (4 * j) (wordBytes a)
+    → l₂ ≡ sets l₁ (4 * (j + 1)) (wordBytes b) → l₃ ≡ sets l₂ (4 * (j + 2)) (wordBytes c)
     → l₃ ≡ sets l (4 * j) (bytesOf (a ∷ b ∷ c ∷ []))
 unfolding each
 write-three l l₁ l₂ l₃ j a b c p q r =
@@ -61,17 +67,22 @@ three-words x = refl
 pub length-words : (xs : List ℕ) → length (wordsOf xs) ≡ 3 * length xs
 length-words xs = length-each 3 elementWords three-words xs
 
-pub cell-words : (xs : List ℕ) (i t : ℕ) → i < length xs → t < 3 → cell (wordsOf xs) (3 * i + t) ≡ cell (elementWords (cell xs i)) t
+pub cell-words : (xs : List ℕ) (i t : ℕ) → i < length xs → t < 3
+    → cell (wordsOf xs) (3 * i + t) ≡ cell (elementWords (cell xs i)) t
 cell-words xs i t h m = cell-each 3 elementWords three-words xs i t h m
 
 -- the elements passed, and the next
-pub write-next : (l l₁ l₂ xs : List ℕ) (i j : ℕ) → i < length xs → l₁ ≡ sets l (4 * j) (bytesOf (wordsOf (take i xs))) → l₂ ≡ sets l₁ (4 * (j + 3 * i)) (bytesOf (elementWords (cell xs i)))
+pub write-next : (l l₁ l₂ xs : List ℕ) (i j : ℕ) → i < length xs
+    → l₁ ≡ sets l (4 * j) (bytesOf (wordsOf (take i xs)))
+    → l₂ ≡ sets l₁ (4 * (j + 3 * i)) (bytesOf (elementWords (cell xs i)))
     → l₂ ≡ sets l (4 * j) (bytesOf (wordsOf (take (i + 1) xs)))
 unfolding each
 write-next l l₁ l₂ xs i j h p q =
     let done : List ℕ = bytesOf (wordsOf (take i xs)) in
     let next : List ℕ = bytesOf (elementWords (cell xs i)) in
-    let size : length done ≡ 4 * (3 * i) = length-bytes (wordsOf (take i xs)) ∙ ap (λ n. 4 * n) (length-words (take i xs) ∙ ap (λ n. 3 * n) (length-take-le i xs (omega arith))) in
+    let size : length done ≡ 4 * (3 * i) =
+    length-bytes (wordsOf (take i xs))
+    ∙ ap (λ n. 4 * n) (length-words (take i xs) ∙ ap (λ n. 3 * n) (length-take-le i xs (omega arith))) in
     let at : 4 * (j + 3 * i) ≡ 4 * j + length done = omega (arith, size) in
     let more : bytesOf (wordsOf (take (i + 1) xs)) ≡ done ++ next =
     ap (λ n. bytesOf (wordsOf (take n xs))) (add-one i)

@@ -24,7 +24,8 @@ three-below x (suc (suc zero)) h m = omega arith
 three-below x (suc (suc (suc t))) h m = absurd (omega arith)
 
 -- where the three words of a canonical element stand, it is read
-three-read : (file : List ℕ) (j x : ℕ) → x < P → ((t : ℕ) → t < 3 → wordAt file (j + t) ≡ cell (elementWords x) t) → IsElement file j × (elementAt file j ≡ x)
+three-read : (file : List ℕ) (j x : ℕ) → x < P → ((t : ℕ) → t < 3 → wordAt file (j + t) ≡ cell (elementWords x) t)
+    → IsElement file j × (elementAt file j ≡ x)
 unfolding elementAt
 three-read file j x h w =
     let z : j + 0 ≡ j = omega arith in
@@ -35,7 +36,8 @@ three-read file j x h w =
     (record { high = omega (arith, a); middle = omega (arith, b); low = omega (arith, c); value = rw v h }, v)
 
 -- an accepted element has the words that stand there
-three-words : (file : List ℕ) (j : ℕ) → IsElement file j → (t : ℕ) → t < 3 → cell (elementWords (elementAt file j)) t ≡ wordAt file (j + t)
+three-words : (file : List ℕ) (j : ℕ) → IsElement file j → (t : ℕ) → t < 3
+    → cell (elementWords (elementAt file j)) t ≡ wordAt file (j + t)
 unfolding elementAt
 three-words file j h t m = ap (λ s. cell s t) (spell-words _ _ _ (h .high) (h .middle) (h .low)) ∙ at t m
   where
@@ -55,10 +57,12 @@ words-below xs all m h =
     let e : m ≡ 3 * (m / 3) + m % 3 = omega arith in
     let t : m % 3 < 3 = mod-lt m (omega arith) in
     let c = all (m / 3) (omega arith) in
-    rw (ap (cell (wordsOf xs)) e ∙ cell-words xs (m / 3) (m % 3) (omega arith) t) (three-below (cell xs (m / 3)) (m % 3) (omega arith) t)
+    rw (ap (cell (wordsOf xs)) e ∙ cell-words xs (m / 3) (m % 3) (omega arith) t)
+    (three-below (cell xs (m / 3)) (m % 3) (omega arith) t)
 
 -- where the words of canonical elements stand from word j on, each is accepted, and they are what is read
-module _ (file : List ℕ) (j : ℕ) (xs : List ℕ) (all : AllCanonical xs) (words : (m : ℕ) → m < 3 * length xs → wordAt file (j + m) ≡ cell (wordsOf xs) m) where
+module _ (file : List ℕ) (j : ℕ) (xs : List ℕ) (all : AllCanonical xs)
+    (words : (m : ℕ) → m < 3 * length xs → wordAt file (j + m) ≡ cell (wordsOf xs) m) where
   element : (i : ℕ) → i < length xs → IsElement file (j + 3 * i) × (elementAt file (j + 3 * i) ≡ cell xs i)
   element i h = three-read file (j + 3 * i) (cell xs i) (all i h) at
     where
@@ -75,7 +79,8 @@ module _ (file : List ℕ) (j : ℕ) (xs : List ℕ) (all : AllCanonical xs) (wo
   read-back = sym (tab-unique (length xs) xs (λ i. elementAt file (j + 3 * i)) refl (λ i h. sym (element i h .1)))
 
 -- where n elements from word j on are accepted, their words are the file's
-pub words-back : (file : List ℕ) (j n : ℕ) → ((i : ℕ) → i < n → IsElement file (j + 3 * i)) → (m : ℕ) → m < 3 * n → cell (wordsOf (elementsAt file j n)) m ≡ wordAt file (j + m)
+pub words-back : (file : List ℕ) (j n : ℕ) → ((i : ℕ) → i < n → IsElement file (j + 3 * i)) → (m : ℕ) → m < 3 * n
+    → cell (wordsOf (elementsAt file j n)) m ≡ wordAt file (j + m)
 unfolding elementsAt
 words-back file j n h m l =
     let i : ℕ = m / 3 in
@@ -95,7 +100,8 @@ unfolding elementsAt
 length-elements file j n = length-tab n (λ i. elementAt file (j + 3 * i))
 
 -- n elements, and m more
-pub elements-append : (file : List ℕ) (j n m : ℕ) → elementsAt file j (n + m) ≡ elementsAt file j n ++ elementsAt file (j + 3 * n) m
+pub elements-append : (file : List ℕ) (j n m : ℕ)
+    → elementsAt file j (n + m) ≡ elementsAt file j n ++ elementsAt file (j + 3 * n) m
 unfolding elementsAt
 elements-append file j n m =
     tab-add n m (λ i. elementAt file (j + 3 * i))
@@ -105,7 +111,8 @@ elements-append file j n m =
     next i = omega arith
 
 -- accepted elements are canonical
-pub elements-canonical : (file : List ℕ) (j n : ℕ) → ((i : ℕ) → i < n → IsElement file (j + 3 * i)) → AllCanonical (elementsAt file j n)
+pub elements-canonical : (file : List ℕ) (j n : ℕ) → ((i : ℕ) → i < n → IsElement file (j + 3 * i))
+    → AllCanonical (elementsAt file j n)
 unfolding elementsAt
 elements-canonical file j n h i l =
     let b : i < n = omega (arith, length-tab n (λ i. elementAt file (j + 3 * i))) in

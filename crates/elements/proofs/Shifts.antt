@@ -15,7 +15,8 @@ below w a k b fits low = ap (λ (x : ℕ). bitOr b x) (mod-eq-of-lt fits) ∙ or
 
 -- four bytes, low byte first
 pub four : (a b c d : ℕ) → a < 2 ^ 8 → b < 2 ^ 8 → c < 2 ^ 8 → d < 2 ^ 8
-    → bitOr (bitOr (bitOr a (b * 2 ^ 8 % 2 ^ 32)) (c * 2 ^ 16 % 2 ^ 32)) (d * 2 ^ 24 % 2 ^ 32) ≡ a + b * 2 ^ 8 + c * 2 ^ 16 + d * 2 ^ 24
+    → bitOr (bitOr (bitOr a (b * 2 ^ 8 % 2 ^ 32)) (c * 2 ^ 16 % 2 ^ 32)) (d * 2 ^ 24 % 2 ^ 32)
+    ≡ a + b * 2 ^ 8 + c * 2 ^ 16 + d * 2 ^ 24
 four a b c d ha hb hc hd =
     ap (λ (x : ℕ). bitOr (bitOr x (c * 2 ^ 16 % 2 ^ 32)) (d * 2 ^ 24 % 2 ^ 32)) (below 32 b 8 a (omega arith) ha)
     ∙ ap (λ (x : ℕ). bitOr x (d * 2 ^ 24 % 2 ^ 32)) (below 32 c 16 (b * 2 ^ 8 + a) (omega arith) (omega arith))

@@ -1,4 +1,5 @@
--- What the tests of elements come to: acceptance says kinds and values, and a walk element by element ends at the first that is refused.
+-- What the tests of elements come to: acceptance says kinds and values, and a walk element by element ends at the first
+-- that is refused.
 -- Assumes nothing.
 use mathlib.Core.Path.{_≡_, refl, sym, ap, _∙_}
 use mathlib.Core.List.{List}
@@ -23,14 +24,20 @@ accepted file j e =
     let b = passed _ _ _ (a .1) in
     let c = passed _ _ _ (b .1) in
     let d = passed _ _ _ (c .1) in
-    record { high = eqb-true _ _ (a .0); middle = eqb-true _ _ (b .0); low = eqb-true _ _ (c .0); value = ltb-true _ _ (d .0) }
+    record {
+      high = eqb-true _ _ (a .0);
+      middle = eqb-true _ _ (b .0);
+      low = eqb-true _ _ (c .0);
+      value = ltb-true _ _ (d .0);
+    }
 
 pub accepts : (file : List ℕ) (j : ℕ) → IsElement file j → elementTest file j ≡ Accepted
 unfolding elementTest
 accepts file j h = simp (eq-eqb _ _ (h .high), eq-eqb _ _ (h .middle), eq-eqb _ _ (h .low), lt-ltb _ _ (h .value))
 
 -- three right kinds, and a value from p on
-pub too-large : (file : List ℕ) (j : ℕ) → kindOf (wordAt file j) ≡ 1 → kindOf (wordAt file (j + 1)) ≡ 2 → kindOf (wordAt file (j + 2)) ≡ 3 → P ≤ elementAt file j → elementTest file j ≡ Refused (WrongValue j)
+pub too-large : (file : List ℕ) (j : ℕ) → kindOf (wordAt file j) ≡ 1 → kindOf (wordAt file (j + 1)) ≡ 2
+    → kindOf (wordAt file (j + 2)) ≡ 3 → P ≤ elementAt file j → elementTest file j ≡ Refused (WrongValue j)
 unfolding elementTest
 too-large file j a b c h = simp (eq-eqb _ _ a, eq-eqb _ _ b, eq-eqb _ _ c, le-ltb _ _ h)
 
@@ -41,19 +48,22 @@ tests-none file j = refl
 
 -- what is left after i of n elements, the next of them tested
 tests-next : (file : List ℕ) (j n i : ℕ) → i < n
-    → elementsTest file (j + 3 * i) (n - i) ≡ after (elementTest file (j + 3 * i)) (elementsTest file (j + 3 * (i + 1)) (n - (i + 1)))
+    → elementsTest file (j + 3 * i) (n - i)
+    ≡ after (elementTest file (j + 3 * i)) (elementsTest file (j + 3 * (i + 1)) (n - (i + 1)))
 unfolding elementsTest
 tests-next file j n i h =
     let e : n - i ≡ suc (n - (i + 1)) = omega arith in
     let f : j + 3 * i + 3 ≡ j + 3 * (i + 1) = omega arith in
-    ap (elementsTest file (j + 3 * i)) e ∙ ap (λ k. after (elementTest file (j + 3 * i)) (elementsTest file k (n - (i + 1)))) f
+    ap (elementsTest file (j + 3 * i)) e
+    ∙ ap (λ k. after (elementTest file (j + 3 * i)) (elementsTest file k (n - (i + 1)))) f
 
 -- a walk goes on where the next is accepted, and stops where it is refused
 pub tests-on : (file : List ℕ) (j n i : ℕ) (t : Answer) → i < n → t ≡ elementTest file (j + 3 * i) → t ≡ Accepted
     → elementsTest file (j + 3 * (i + 1)) (n - (i + 1)) ≡ elementsTest file (j + 3 * i) (n - i)
 tests-on file j n i t h e a = sym (tests-next file j n i h ∙ rw (sym e ∙ a))
 
-pub tests-stop : (file : List ℕ) (j n i : ℕ) (t : Answer) (r : Refusal) → i < n → t ≡ elementTest file (j + 3 * i) → t ≡ Refused r
+pub tests-stop : (file : List ℕ) (j n i : ℕ) (t : Answer) (r : Refusal) → i < n → t ≡ elementTest file (j + 3 * i)
+    → t ≡ Refused r
     → t ≡ elementsTest file (j + 3 * i) (n - i)
 tests-stop file j n i t r h e a = a ∙ sym (tests-next file j n i h ∙ rw (sym e ∙ a))
 
@@ -61,24 +71,31 @@ next : (j i : ℕ) → j + 3 + 3 * i ≡ j + 3 * suc i
 next j i = omega arith
 
 -- all are accepted exactly where each is
-pub each-accepted : (file : List ℕ) (j n : ℕ) → elementsTest file j n ≡ Accepted → (i : ℕ) → i < n → IsElement file (j + 3 * i)
+pub each-accepted : (file : List ℕ) (j n : ℕ) → elementsTest file j n ≡ Accepted → (i : ℕ) → i < n
+    → IsElement file (j + 3 * i)
 unfolding elementsTest
 each-accepted file j zero e i h = absurd (omega arith)
 each-accepted file j (suc n) e zero h =
     let s : j ≡ j + 3 * 0 = omega arith in
     rw s at (accepted file j (both-accepted (elementTest file j) (elementsTest file (j + 3) n) e .0))
 each-accepted file j (suc n) e (suc i) h =
-    rw (next j i) at (each-accepted file (j + 3) n (both-accepted (elementTest file j) (elementsTest file (j + 3) n) e .1) i (omega arith))
+    rw (next j i) at
+    (each-accepted file (j + 3) n (both-accepted (elementTest file j) (elementsTest file (j + 3) n) e .1) i
+    (omega arith))
 
-pub all-accepted : (file : List ℕ) (j n : ℕ) → ((i : ℕ) → i < n → IsElement file (j + 3 * i)) → elementsTest file j n ≡ Accepted
+pub all-accepted : (file : List ℕ) (j n : ℕ) → ((i : ℕ) → i < n → IsElement file (j + 3 * i))
+    → elementsTest file j n ≡ Accepted
 unfolding elementsTest
 all-accepted file j zero h = refl
 all-accepted file j (suc n) h =
     let s : j + 3 * 0 ≡ j = omega arith in
-    rw (accepts file j (rw s at (h 0 (omega arith)))) (all-accepted file (j + 3) n (λ i l. rw (next j i) (h (suc i) (omega arith))))
+    rw (accepts file j (rw s at (h 0 (omega arith))))
+    (all-accepted file (j + 3) n (λ i l. rw (next j i) (h (suc i) (omega arith))))
 
 -- the first that is refused decides
-pub first-refused : (file : List ℕ) (j n i : ℕ) (r : Refusal) → i < n → ((k : ℕ) → k < i → IsElement file (j + 3 * k)) → elementTest file (j + 3 * i) ≡ Refused r → elementsTest file j n ≡ Refused r
+pub first-refused : (file : List ℕ) (j n i : ℕ) (r : Refusal) → i < n
+    → ((k : ℕ) → k < i → IsElement file (j + 3 * k)) → elementTest file (j + 3 * i) ≡ Refused r
+    → elementsTest file j n ≡ Refused r
 unfolding elementsTest
 first-refused file j zero i r h b e = absurd (omega arith)
 first-refused file j (suc n) zero r h b e =
@@ -86,4 +103,5 @@ first-refused file j (suc n) zero r h b e =
     rw (rw s at e)
 first-refused file j (suc n) (suc i) r h b e =
     let s : j + 3 * 0 ≡ j = omega arith in
-    rw (accepts file j (rw s at (b 0 (omega arith)))) (first-refused file (j + 3) n i r (omega arith) (λ k l. rw (next j k) (b (suc k) (omega arith))) (rw (next j i) e))
+    rw (accepts file j (rw s at (b 0 (omega arith))))
+    (first-refused file (j + 3) n i r (omega arith) (λ k l. rw (next j k) (b (suc k) (omega arith))) (rw (next j i) e))

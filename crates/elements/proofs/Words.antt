@@ -1,4 +1,5 @@
--- Kind and payload split a word and join to it; a word's bytes read back as the word, and the words of a list of bytes spell that list.
+-- Kind and payload split a word and join to it; a word's bytes read back as the word, and the words of a list of bytes
+-- spell that list.
 -- Assumes nothing.
 use mathlib.Core.Path.{_≡_, refl, sym, ap, _∙_}
 use mathlib.Core.List.{List, [], _∷_}
@@ -29,11 +30,13 @@ four-bytes w = refl
 pub length-bytes : (ws : List ℕ) → length (bytesOf ws) ≡ 4 * length ws
 length-bytes ws = length-each 4 wordBytes four-bytes ws
 
-pub cell-bytes : (ws : List ℕ) (j b : ℕ) → j < length ws → b < 4 → cell (bytesOf ws) (4 * j + b) ≡ cell (wordBytes (cell ws j)) b
+pub cell-bytes : (ws : List ℕ) (j b : ℕ) → j < length ws → b < 4
+    → cell (bytesOf ws) (4 * j + b) ≡ cell (wordBytes (cell ws j)) b
 cell-bytes ws j b h m = cell-each 4 wordBytes four-bytes ws j b h m
 
 -- a number of 32 bits from its four bytes
-four-sum : (w : ℕ) → w < 2 ^ 32 → w % 2 ^ 8 + w / 2 ^ 8 % 2 ^ 8 * 2 ^ 8 + w / 2 ^ 16 % 2 ^ 8 * 2 ^ 16 + w / 2 ^ 24 % 2 ^ 8 * 2 ^ 24 ≡ w
+four-sum : (w : ℕ) → w < 2 ^ 32
+    → w % 2 ^ 8 + w / 2 ^ 8 % 2 ^ 8 * 2 ^ 8 + w / 2 ^ 16 % 2 ^ 8 * 2 ^ 16 + w / 2 ^ 24 % 2 ^ 8 * 2 ^ 24 ≡ w
 four-sum w h =
     let top : w / 2 ^ 24 % 2 ^ 8 ≡ w / 2 ^ 24 = omega arith in
     omega (arith, shr-shr w 8 8, shr-shr w 16 8)
@@ -52,10 +55,18 @@ pub word-bytes : (ws : List ℕ) (j : ℕ) → j < length ws → cell ws j < 2 ^
 unfolding wordAt
 word-bytes ws j h fits =
     let e : 4 * j ≡ 4 * j + 0 = omega arith in
-    omega (arith, four-sum (cell ws j) fits, ap (cell (bytesOf ws)) e ∙ cell-bytes ws j 0 h (omega arith), cell-bytes ws j 1 h (omega arith), cell-bytes ws j 2 h (omega arith), cell-bytes ws j 3 h (omega arith))
+    omega (
+      arith,
+      four-sum (cell ws j) fits,
+      ap (cell (bytesOf ws)) e ∙ cell-bytes ws j 0 h (omega arith),
+      cell-bytes ws j 1 h (omega arith),
+      cell-bytes ws j 2 h (omega arith),
+      cell-bytes ws j 3 h (omega arith),
+    )
 
 -- a word read from bytes has those bytes
-bytes-at : (s : List ℕ) (j b : ℕ) → b < 4 → cell (cell s (4 * j) ∷ cell s (4 * j + 1) ∷ cell s (4 * j + 2) ∷ cell s (4 * j + 3) ∷ []) b ≡ cell s (4 * j + b)
+bytes-at : (s : List ℕ) (j b : ℕ) → b < 4
+    → cell (cell s (4 * j) ∷ cell s (4 * j + 1) ∷ cell s (4 * j + 2) ∷ cell s (4 * j + 3) ∷ []) b ≡ cell s (4 * j + b)
 bytes-at s j zero m =
     let e : 4 * j ≡ 4 * j + 0 = omega arith in
     ap (cell s) e
@@ -64,14 +75,17 @@ bytes-at s j (suc (suc zero)) m = refl
 bytes-at s j (suc (suc (suc zero))) m = refl
 bytes-at s j (suc (suc (suc (suc b)))) m = absurd (omega arith)
 
-bytes-word : (s : List ℕ) (j b : ℕ) → AllBytes s → 4 * j + 4 ≤ length s → b < 4 → cell (wordBytes (wordAt s j)) b ≡ cell s (4 * j + b)
+bytes-word : (s : List ℕ) (j b : ℕ) → AllBytes s → 4 * j + 4 ≤ length s → b < 4
+    → cell (wordBytes (wordAt s j)) b ≡ cell s (4 * j + b)
 unfolding wordAt
 bytes-word s j b all h m =
-    four-digits _ _ _ _ b (all (4 * j) (omega arith)) (all (4 * j + 1) (omega arith)) (all (4 * j + 2) (omega arith)) (all (4 * j + 3) (omega arith)) m
+    four-digits _ _ _ _ b (all (4 * j) (omega arith)) (all (4 * j + 1) (omega arith)) (all (4 * j + 2) (omega arith))
+    (all (4 * j + 3) (omega arith)) m
     ∙ bytes-at s j b m
 
 -- a list of bytes is spelled by its words
-pub bytes-unique : (s ws : List ℕ) → AllBytes s → length s ≡ 4 * length ws → ((j : ℕ) → j < length ws → cell ws j ≡ wordAt s j) → bytesOf ws ≡ s
+pub bytes-unique : (s ws : List ℕ) → AllBytes s → length s ≡ 4 * length ws
+    → ((j : ℕ) → j < length ws → cell ws j ≡ wordAt s j) → bytesOf ws ≡ s
 bytes-unique s ws all size same = ext-getD 0 (bytesOf ws) s (length-bytes ws ∙ sym size) at
   where
     at : (i : ℕ) → i < length (bytesOf ws) → cell (bytesOf ws) i ≡ cell s i

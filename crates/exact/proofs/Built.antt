@@ -1,4 +1,5 @@
--- The section 3.1 trace of a list of canonical taps, with the chain's output as the claim, meets the equations of the 52 constraints, and the list is read off it again.
+-- The section 3.1 trace of a list of canonical taps, with the chain's output as the claim, meets the equations of the
+-- 52 constraints, and the list is read off it again.
 -- Assumes nothing.
 use mathlib.Core.Path.{_≡_, refl, sym, ap, _∙_}
 use mathlib.Core.Bool.{Bool, true, false}
@@ -14,11 +15,13 @@ use Rattle.field.specs.Field.{P, add}
 use Rattle.words.specs.Words.{AllCanonical}
 use Rattle.table.specs.Table.{IsTable, initialConstant}
 use Rattle.hash.specs.Hash.{plus, secondStep, chain, stateAt, middleState, finalState}
-use Rattle.hash.proofs.States.{state-cell, same-cells, cell-plus, stateAt-zero, stateAt-suc, stateAt-state, initial-state}
+use Rattle.hash.proofs.States.{state-cell, same-cells, cell-plus, stateAt-zero}
+use Rattle.hash.proofs.States.{stateAt-suc, stateAt-state, initial-state}
 use Rattle.hash.proofs.Inputs.{cell-take, cell-tap, output-zero}
 use Rattle.trace.specs.Trace.{hashInput, traceRow, trace}
 use Rattle.trace.proofs.RowKinds.{row-start, row-middle, row-end}
-use Rattle.trace.proofs.TraceCells.{next-output, last-row-output, hashInput-state, input-output, input-next-tap, input-zeros}
+use Rattle.trace.proofs.TraceCells.{next-output, last-row-output, hashInput-state}
+use Rattle.trace.proofs.TraceCells.{input-output, input-next-tap, input-zeros}
 use Rattle.constraints.specs.Constraints.{row, within, entering, forward, minus, backStep, back}
 use Rattle.constraints.specs.ReadOff.{firstRow, readInput, readTaps}
 use Rattle.constraints.proofs.OneRound.{back-first, minus-plus}
@@ -48,12 +51,16 @@ module _ (T w : List ℕ) (k : ℕ) (accepted : IsTable T) (size : length w ≡ 
         ∙ ap (backStep T j) (middle-row j m)
         ∙ back-first T accepted j m (stateAt-state T (hashInput T w h) j)
 
-    second-round : (j : ℕ) → j < 10 → secondStep T j (row (trace T w k) (firstRow h + j)) ≡ stateAt T (hashInput T w h) (suc j)
+    second-round : (j : ℕ) → j < 10
+        → secondStep T j (row (trace T w k) (firstRow h + j)) ≡ stateAt T (hashInput T w h) (suc j)
     second-round j m = ap (secondStep T j) (middle-row j m) ∙ sym (stateAt-suc T (hashInput T w h) j)
 
     -- back of the first row is the input plus K_0
     back-start : back T (trace T w k) (firstRow h) ≡ plus (hashInput T w h) (initialConstant T)
-    back-start = ap (back T (trace T w k)) (sym (add-zero (firstRow h))) ∙ back-round 0 (omega arith) ∙ stateAt-zero T (hashInput T w h)
+    back-start =
+        ap (back T (trace T w k)) (sym (add-zero (firstRow h)))
+        ∙ back-round 0 (omega arith)
+        ∙ stateAt-zero T (hashInput T w h)
 
   -- ---- every input is read off
   input-back : (h : ℕ) → h < 3 * k → readInput T (trace T w k) h ≡ hashInput T w h
@@ -93,7 +100,8 @@ module _ (T w : List ℕ) (k : ℕ) (accepted : IsTable T) (size : length w ≡ 
               ∙ ap (cell w) e
 
   -- ---- the equations
-  next-output-cell : (h j : ℕ) → h + 1 < 3 * k → j < 4 → cell (hashInput T w (h + 1)) j ≡ cell (finalState T (hashInput T w h)) j
+  next-output-cell : (h j : ℕ) → h + 1 < 3 * k → j < 4
+      → cell (hashInput T w (h + 1)) j ≡ cell (finalState T (hashInput T w h)) j
   next-output-cell h j l m =
       input-output T w k size canonical (h + 1) j l m
       ∙ ap (λ s. cell s j) (next-output T w h)
@@ -105,10 +113,12 @@ module _ (T w : List ℕ) (k : ℕ) (accepted : IsTable T) (size : length w ≡ 
       ap (λ s. cell s (8 + j)) (ap (row (trace T w k)) e ∙ start-row (i / 32) (omega arith))
       ∙ input-zeros T w k size canonical (3 * (i / 32)) j (omega arith) m
 
-  new-zeros : (i j : ℕ) → i < 32 * k → entering i ≡ true → j < 4 → cell (back T (trace T w k) (i + 1)) (8 + j) ≡ cell (initialConstant T) (8 + j)
+  new-zeros : (i j : ℕ) → i < 32 * k → entering i ≡ true → j < 4
+      → cell (back T (trace T w k) (i + 1)) (8 + j) ≡ cell (initialConstant T) (8 + j)
   new-zeros i j l r m = go (entering-hash i r)
     where
-      go : (h : ℕ) × (h % 3 ≡ 2 → ⊥) × (i ≡ firstRow h + 9) → cell (back T (trace T w k) (i + 1)) (8 + j) ≡ cell (initialConstant T) (8 + j)
+      go : (h : ℕ) × (h % 3 ≡ 2 → ⊥) × (i ≡ firstRow h + 9)
+          → cell (back T (trace T w k) (i + 1)) (8 + j) ≡ cell (initialConstant T) (8 + j)
       go s =
           let h = s .0 in
           let e : i + 1 ≡ firstRow (h + 1) = omega arith in
@@ -119,15 +129,18 @@ module _ (T w : List ℕ) (k : ℕ) (accepted : IsTable T) (size : length w ≡ 
           ∙ c
           ∙ omega (arith, z, K₀-cell (8 + j))
 
-  starts : (i j : ℕ) → i < 32 * k → within i ≡ 0 → j < 12 → add (cell (row (trace T w k) i) j) (cell (initialConstant T) j) ≡ cell (back T (trace T w k) (i + 1)) j
+  starts : (i j : ℕ) → i < 32 * k → within i ≡ 0 → j < 12
+      → add (cell (row (trace T w k) i) j) (cell (initialConstant T) j) ≡ cell (back T (trace T w k) (i + 1)) j
   starts i j l r m =
       let e : i ≡ 32 * (i / 32) = omega arith in
       let f : firstRow (3 * (i / 32)) ≡ i + 1 = omega arith in
-      ap (λ s. add (cell s j) (cell (initialConstant T) j)) (ap (row (trace T w k)) e ∙ start-row (i / 32) (omega arith))
+      ap (λ s. add (cell s j) (cell (initialConstant T) j))
+      (ap (row (trace T w k)) e ∙ start-row (i / 32) (omega arith))
       ∙ sym (cell-plus (hashInput T w (3 * (i / 32))) (initialConstant T) j m)
       ∙ ap (λ s. cell s j) (sym (back-start (3 * (i / 32)) (omega arith)) ∙ ap (back T (trace T w k)) f)
 
-  goes-on : (i j : ℕ) → i < 32 * k → 1 ≤ within i → within i ≤ 29 → entering i ≡ false → j < 12 → cell (forward T (trace T w k) i) j ≡ cell (back T (trace T w k) (i + 1)) j
+  goes-on : (i j : ℕ) → i < 32 * k → 1 ≤ within i → within i ≤ 29 → entering i ≡ false → j < 12
+      → cell (forward T (trace T w k) i) j ≡ cell (back T (trace T w k) (i + 1)) j
   goes-on i j l r s n m = ap (λ x. cell x j) (go (round-hash i r s n))
     where
       go : (h : ℕ) × (c : ℕ) × (c < 9) × (i ≡ firstRow h + c) → forward T (trace T w k) i ≡ back T (trace T w k) (i + 1)
@@ -142,18 +155,22 @@ module _ (T w : List ℕ) (k : ℕ) (accepted : IsTable T) (size : length w ≡ 
           ∙ sym (back-round h (omega arith) (suc c) (omega arith))
           ∙ ap (back T (trace T w k)) f
 
-  output-kept : (i j : ℕ) → i < 32 * k → 1 ≤ within i → within i ≤ 29 → j < 4 → cell (forward T (trace T w k) i) j ≡ cell (back T (trace T w k) (i + 1)) j
+  output-kept : (i j : ℕ) → i < 32 * k → 1 ≤ within i → within i ≤ 29 → j < 4
+      → cell (forward T (trace T w k) i) j ≡ cell (back T (trace T w k) (i + 1)) j
   unfolding finalState
   output-kept i j l r s m = go (entering i) refl
     where
-      at : (h : ℕ) × (h % 3 ≡ 2 → ⊥) × (i ≡ firstRow h + 9) → entering i ≡ true → cell (forward T (trace T w k) i) j ≡ cell (back T (trace T w k) (i + 1)) j
+      at : (h : ℕ) × (h % 3 ≡ 2 → ⊥) × (i ≡ firstRow h + 9) → entering i ≡ true
+          → cell (forward T (trace T w k) i) j ≡ cell (back T (trace T w k) (i + 1)) j
       at x n =
           let h = x .0 in
           let e : i ≡ firstRow h + 9 = x .2 in
           let f : firstRow (h + 1) ≡ i + 1 = omega arith in
           ap (λ y. cell (forward T (trace T w k) y) j) e
           ∙ forward-enters T (trace T w k) h 9 (omega arith) (ap entering (sym e) ∙ n) j m
-          ∙ ap (λ y. add y (cell (initialConstant T) j)) (ap (λ y. cell y j) (second-round h (omega arith) 9 (omega arith)) ∙ sym (next-output-cell h j (omega arith) m))
+          ∙ ap (λ y. add y (cell (initialConstant T) j))
+          (ap (λ y. cell y j) (second-round h (omega arith) 9 (omega arith))
+          ∙ sym (next-output-cell h j (omega arith) m))
           ∙ sym (cell-plus (hashInput T w (h + 1)) (initialConstant T) j (omega arith))
           ∙ ap (λ y. cell y j) (sym (back-start (h + 1) (omega arith)) ∙ ap (back T (trace T w k)) f)
 
@@ -161,7 +178,8 @@ module _ (T w : List ℕ) (k : ℕ) (accepted : IsTable T) (size : length w ≡ 
       go true n = at (entering-hash i n) n
       go false n = goes-on i j l r s n (omega arith)
 
-  ends : (i j : ℕ) → i < 32 * k → within i ≡ 30 → j < 12 → cell (forward T (trace T w k) i) j ≡ cell (row (trace T w k) (i + 1)) j
+  ends : (i j : ℕ) → i < 32 * k → within i ≡ 30 → j < 12
+      → cell (forward T (trace T w k) i) j ≡ cell (row (trace T w k) (i + 1)) j
   unfolding finalState
   ends i j l r m =
       let h : ℕ = 3 * (i / 32) + 2 in
@@ -169,19 +187,22 @@ module _ (T w : List ℕ) (k : ℕ) (accepted : IsTable T) (size : length w ≡ 
       let f : 32 * (i / 32) + 31 ≡ i + 1 = omega arith in
       ap (λ y. cell y j)
       (ap (forward T (trace T w k)) e
-      ∙ forward-is T (trace T w k) h 9 (omega arith) (ap entering (sym e) ∙ enters-not i (λ z. omega arith) (λ z. omega arith))
+      ∙ forward-is T (trace T w k) h 9 (omega arith)
+      (ap entering (sym e) ∙ enters-not i (λ z. omega arith) (λ z. omega arith))
       ∙ second-round h (omega arith) 9 (omega arith)
       ∙ sym (end-row (i / 32) (omega arith))
       ∙ ap (row (trace T w k)) f)
 
-  joins : (i j : ℕ) → i < 32 * k → within i ≡ 31 → (i + 1 ≡ 32 * k → ⊥) → j < 4 → cell (row (trace T w k) i) j ≡ cell (row (trace T w k) (i + 1)) j
+  joins : (i j : ℕ) → i < 32 * k → within i ≡ 31 → (i + 1 ≡ 32 * k → ⊥) → j < 4
+      → cell (row (trace T w k) i) j ≡ cell (row (trace T w k) (i + 1)) j
   joins i j l r n m =
       let e : i ≡ 32 * (i / 32) + 31 = omega arith in
       let f : 32 * (i / 32 + 1) ≡ i + 1 = omega arith in
       let g : 3 * (i / 32) + 2 + 1 ≡ 3 * (i / 32 + 1) = omega arith in
       ap (λ y. cell y j) (ap (row (trace T w k)) e ∙ end-row (i / 32) (omega arith))
       ∙ sym (next-output-cell (3 * (i / 32) + 2) j (omega arith) m)
-      ∙ ap (λ y. cell y j) (ap (hashInput T w) g ∙ sym (start-row (i / 32 + 1) (omega arith)) ∙ ap (row (trace T w k)) f)
+      ∙ ap (λ y. cell y j)
+      (ap (hashInput T w) g ∙ sym (start-row (i / 32 + 1) (omega arith)) ∙ ap (row (trace T w k)) f)
 
   claims : (i j : ℕ) → i < 32 * k → i + 1 ≡ 32 * k → j < 4 → cell (row (trace T w k) i) j ≡ cell (chain T w k) j
   claims i j l r m =
@@ -191,4 +212,14 @@ module _ (T w : List ℕ) (k : ℕ) (accepted : IsTable T) (size : length w ≡ 
       ∙ ap (λ y. cell y j) (last-row-output T w k (omega arith))
 
   pub meets-equations : Equations T (trace T w k) (chain T w k) k
-  meets-equations = record { zero-columns = zero-columns; new-zeros = new-zeros; starts = starts; output-kept = output-kept; goes-on = goes-on; ends = ends; joins = joins; claims = claims }
+  meets-equations =
+      record {
+        zero-columns = zero-columns;
+        new-zeros = new-zeros;
+        starts = starts;
+        output-kept = output-kept;
+        goes-on = goes-on;
+        ends = ends;
+        joins = joins;
+        claims = claims;
+      }

@@ -1,5 +1,6 @@
--- Exactness (document 00, demand 3): for every accepted table, permitted k, and trace and claim of words below p, what acceptance and refusal mean.
--- They hold for every invertible M: no maximum-distance property is asked for. Of the claim only the length is asked, since no output holds a word of p or above.
+-- Exactness (document 00, demand 3): for every accepted table, permitted k, and trace and claim of words below p, what
+-- acceptance and refusal mean. It holds for every invertible M: no maximum-distance property is asked for. Of the claim
+-- only the length is asked, since no output holds a word of p or above.
 -- Assumes nothing.
 use mathlib.Core.Path.{_≡_, refl, sym, ap, _∙_}
 use mathlib.Core.Logic.{_↔_}
@@ -30,7 +31,8 @@ use Rattle.exact.proofs.Built.{reads-back, meets-equations}
 -- every test of the order holds exactly where the equations do
 tests-say : (T t claim : List ℕ) (k : ℕ) → AllHold T t claim (tests k) ↔ Equations T t claim k
 tests-say T t claim k = (
-  λ a. hold-equations T t claim k (λ i c l e. a (record { at = i; number = c }) (test-list k (record { at = i; number = c }) .1 (l, e))),
+  λ a. hold-equations T t claim k
+      (λ i c l e. a (record { at = i; number = c }) (test-list k (record { at = i; number = c }) .1 (l, e))),
   λ q x m. (let s = test-list k x .0 m in equations-hold T t claim k q (x .at) (x .number) (s .0) (s .1)),
 )
 
@@ -44,7 +46,8 @@ reported T t claim k = (
 
 -- ---- lists of taps and the traces built from them
 module _ (T : List ℕ) (k : ℕ) (table : IsTable T) (permitted : IsPermitted k) where
-  -- a built trace is accepted under the output its building returned, and reading it off yields the taps that it was built from
+  -- a built trace is accepted under the output its building returned, and reading it off yields the taps that it was
+  -- built from
   pub reading-off-a-built-trace : (w : List ℕ) → length w ≡ 12 * k + 4 → AllCanonical w
       → (constraintTest T (trace T w k) (chain T w k) k ≡ Accepted) × (readTaps T (trace T w k) k ≡ w)
   reading-off-a-built-trace w size canonical = (
@@ -54,12 +57,16 @@ module _ (T : List ℕ) (k : ℕ) (table : IsTable T) (permitted : IsPermitted k
   )
 
   -- two lists that have the same trace are the same
-  pub one-list-a-trace : (w v : List ℕ) → length w ≡ 12 * k + 4 → AllCanonical w → length v ≡ 12 * k + 4 → AllCanonical v → trace T w k ≡ trace T v k → w ≡ v
+  pub one-list-a-trace : (w v : List ℕ) → length w ≡ 12 * k + 4 → AllCanonical w → length v ≡ 12 * k + 4
+      → AllCanonical v → trace T w k ≡ trace T v k → w ≡ v
   one-list-a-trace w v size canonical size′ canonical′ e =
-      sym (reading-off-a-built-trace w size canonical .1) ∙ ap (λ t. readTaps T t k) e ∙ reading-off-a-built-trace v size′ canonical′ .1
+      sym (reading-off-a-built-trace w size canonical .1)
+      ∙ ap (λ t. readTaps T t k) e
+      ∙ reading-off-a-built-trace v size′ canonical′ .1
 
 -- ---- any trace and any claim
-module _ (T t claim : List ℕ) (k : ℕ) (table : IsTable T) (permitted : IsPermitted k) (size : length t ≡ 384 * k) (canonical : AllCanonical t) (four : length claim ≡ 4) where
+module _ (T t claim : List ℕ) (k : ℕ) (table : IsTable T) (permitted : IsPermitted k) (size : length t ≡ 384 * k)
+    (canonical : AllCanonical t) (four : length claim ≡ 4) where
   -- an accepted trace reports the whole of the order, which is 372 × k tests
   pub whole-order : (n : ℕ) → testsAfter (constraintTest T t claim k) (length (tests k)) ≡ counted.Accepted n
       → (n ≡ length (tests k)) × (n ≡ 372 * k)
@@ -85,9 +92,12 @@ module _ (T t claim : List ℕ) (k : ℕ) (table : IsTable T) (permitted : IsPer
 
   -- and no other list has it
   pub only-one : (w v : List ℕ) → IsListFor T t claim k w → IsListFor T t claim k v → w ≡ v
-  only-one w v l m = one-list-a-trace T k table permitted w v (l .size) (l .canonical) (m .size) (m .canonical) (l .traced ∙ sym (m .traced))
+  only-one w v l m =
+      one-list-a-trace T k table permitted w v (l .size) (l .canonical) (m .size) (m .canonical)
+      (l .traced ∙ sym (m .traced))
 
-  -- a trace that is not accepted is refused with 11, and with row, constraint and place of the first test of the order that fails
+  -- a trace that is not accepted is refused with 11, and with row, constraint and place of the first test of the order
+  -- that fails
   pub first-failing : (constraintTest T t claim k ≡ Accepted → ⊥)
       → (i : ℕ) × (c : ℕ) × (n : ℕ) × (constraintTest T t claim k ≡ Refused (Constraint (record { 0 = i }) c n))
       × IsFirstFailing T t claim (tests k) i c n

@@ -19,7 +19,8 @@ use Rattle.hash.proofs.States.{state-cell, same-state, same-cells}
 use Rattle.hash.proofs.Inputs.{by-fours, cell-take, cell-tap, output-zero}
 use Rattle.trace.specs.Trace.{hashInput, traceRow, trace}
 use Rattle.trace.proofs.RowKinds.{RowKind, start, middle, end, row-kind, row-start, row-middle, row-end}
-use Rattle.trace.proofs.TraceCells.{length-trace, cell-trace, next-output, output-is-tap, hashInput-state, input-output, input-next-tap, input-zeros, traceRow-state}
+use Rattle.trace.proofs.TraceCells.{length-trace, cell-trace, next-output, output-is-tap, hashInput-state}
+use Rattle.trace.proofs.TraceCells.{input-output, input-next-tap, input-zeros, traceRow-state}
 use Rattle.constraints.specs.Constraints.{row}
 use Rattle.constraints.specs.ReadOff.{readInput, readWord, readTaps}
 use Rattle.constraints.proofs.RowCells.{cell-row, length-row, same-rows}
@@ -38,7 +39,8 @@ unfolding readTaps readWord
 first-tap-read T t k j h = cell-tab (12 * k + 4) (readWord T t) j (omega arith) ∙ rw (lt-ltb j 4 h)
 
 -- w_(h+1) from columns 4 to 7 of the input of hash h
-pub next-tap-read : (T t : List ℕ) (k h j : ℕ) → h < 3 * k → j < 4 → cell (readTaps T t k) (4 * (h + 1) + j) ≡ cell (readInput T t h) (4 + j)
+pub next-tap-read : (T t : List ℕ) (k h j : ℕ) → h < 3 * k → j < 4
+    → cell (readTaps T t k) (4 * (h + 1) + j) ≡ cell (readInput T t h) (4 + j)
 unfolding readTaps readWord
 next-tap-read T t k h j l m =
     let x : (4 * (h + 1) + j) / 4 - 1 ≡ h = omega arith in
@@ -47,14 +49,16 @@ next-tap-read T t k h j l m =
     ∙ rw (le-ltb (4 * (h + 1) + j) 4 (omega arith), x, y)
 
 -- the rows of a section 3.1 trace are its rows
-pub row-of-trace : (T w : List ℕ) (k : ℕ) → length w ≡ 12 * k + 4 → AllCanonical w → (i : ℕ) → i < 32 * k → row (trace T w k) i ≡ traceRow T w i
+pub row-of-trace : (T w : List ℕ) (k : ℕ) → length w ≡ 12 * k + 4 → AllCanonical w → (i : ℕ) → i < 32 * k
+    → row (trace T w k) i ≡ traceRow T w i
 row-of-trace T w k size canonical i l =
     same-cells 12 (row (trace T w k) i) (traceRow T w i)
     (length-row (trace T w k) i (omega (arith, length-trace T w k)))
     (traceRow-state T w k size canonical i l .size)
     (λ j h. cell-row (trace T w k) i j h ∙ cell-trace T w k i j l h)
 
-module _ (T t claim : List ℕ) (k : ℕ) (accepted : IsTable T) (some : 1 ≤ k) (size : length t ≡ 384 * k) (canonical : AllCanonical t)
+module _ (T t claim : List ℕ) (k : ℕ) (accepted : IsTable T) (some : 1 ≤ k) (size : length t ≡ 384 * k)
+    (canonical : AllCanonical t)
     (four : length claim ≡ 4) (q : Equations T t claim k) where
   read-canonical : AllCanonical (readTaps T t k)
   read-canonical n l = go (decLt n 4)
@@ -63,22 +67,34 @@ module _ (T t claim : List ℕ) (k : ℕ) (accepted : IsTable T) (some : 1 ≤ k
       within = omega (arith, length-read T t k)
 
       go : Dec (n < 4) → cell (readTaps T t k) n < P
-      go (yes h) = omega (arith, first-tap-read T t k n h, state-cell (sound.row-is-state T t claim k accepted size canonical q 0 (omega arith)) n)
+      go (yes h) =
+          omega (
+            arith,
+            first-tap-read T t k n h,
+            state-cell (sound.row-is-state T t claim k accepted size canonical q 0 (omega arith)) n,
+          )
       go (no h) =
           let e : 4 * (n / 4 - 1 + 1) + n % 4 ≡ n = omega arith in
           let f = next-tap-read T t k (n / 4 - 1) (n % 4) (omega (arith, within)) (omega arith) in
-          let g = state-cell (sound.read-state T t claim k accepted size canonical q (n / 4 - 1) (omega (arith, within))) (4 + n % 4) in
+          let g =
+          state-cell (sound.read-state T t claim k accepted size canonical q (n / 4 - 1) (omega (arith, within)))
+          (4 + n % 4) in
           subst (λ m. cell (readTaps T t k) m < P) e (omega arith)
 
   -- ---- the inputs along the chain are those that were read off
-  input-from-output : (h : ℕ) → h < 3 * k → ((j : ℕ) → j < 4 → cell (outputAt T (readTaps T t k) h) j ≡ cell (readInput T t h) j)
+  input-from-output : (h : ℕ) → h < 3 * k
+      → ((j : ℕ) → j < 4 → cell (outputAt T (readTaps T t k) h) j ≡ cell (readInput T t h) j)
       → hashInput T (readTaps T t k) h ≡ readInput T t h
   input-from-output h l left =
-      same-state (hashInput-state T w k (length-read T t k) read-canonical h l) (sound.read-state T t claim k accepted size canonical q h l)
+      same-state (hashInput-state T w k (length-read T t k) read-canonical h l)
+      (sound.read-state T t claim k accepted size canonical q h l)
       (by-fours (λ j. cell (hashInput T w h) j ≡ cell (readInput T t h) j)
       (λ j m. input-output T w k (length-read T t k) read-canonical h j l m ∙ left j m)
-      (λ j m. input-next-tap T w k (length-read T t k) read-canonical h j l m ∙ cell-tap w (h + 1) j m ∙ next-tap-read T t k h j l m)
-      (λ j m. input-zeros T w k (length-read T t k) read-canonical h j l m ∙ sym (sound.zeros-read T t claim k accepted size canonical q h j l m)))
+      (λ j m. input-next-tap T w k (length-read T t k) read-canonical h j l m
+      ∙ cell-tap w (h + 1) j m
+      ∙ next-tap-read T t k h j l m)
+      (λ j m. input-zeros T w k (length-read T t k) read-canonical h j l m
+      ∙ sym (sound.zeros-read T t claim k accepted size canonical q h j l m)))
     where
       w : List ℕ
       w = readTaps T t k
@@ -141,7 +157,8 @@ module _ (T t claim : List ℕ) (k : ℕ) (accepted : IsTable T) (some : 1 ≤ k
   chain-read : chain T (readTaps T t k) k ≡ claim
   unfolding chain
   chain-read =
-      same-cells 4 (outputAt T (readTaps T t k) (3 * k)) claim (output-is-tap T (readTaps T t k) k (length-read T t k) read-canonical (3 * k) .size) four
+      same-cells 4 (outputAt T (readTaps T t k) (3 * k)) claim
+      (output-is-tap T (readTaps T t k) k (length-read T t k) read-canonical (3 * k) .size) four
       (λ j m.
       ap (λ n. cell (outputAt T (readTaps T t k) n) j) last
       ∙ ap (λ s. cell s j) (next-output T (readTaps T t k) (3 * k - 1))
@@ -153,4 +170,5 @@ module _ (T t claim : List ℕ) (k : ℕ) (accepted : IsTable T) (some : 1 ≤ k
       last = omega arith
 
   pub is-list-for : IsListFor T t claim k (readTaps T t k)
-  is-list-for = record { size = length-read T t k; canonical = read-canonical; chains = chain-read; traced = trace-read }
+  is-list-for =
+      record { size = length-read T t k; canonical = read-canonical; chains = chain-read; traced = trace-read }

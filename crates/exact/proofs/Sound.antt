@@ -1,4 +1,5 @@
--- From the equations of the 52 constraints to the middle states: every row of a trace that meets them holds what the hash of the input read off gives there.
+-- From the equations of the 52 constraints to the middle states: every row of a trace that meets them holds what the
+-- hash of the input read off gives there.
 -- Assumes nothing.
 use mathlib.Core.Path.{_≡_, sym, ap, _∙_, subst}
 use mathlib.Core.Bool.{false}
@@ -15,15 +16,18 @@ use Rattle.field.proofs.Ring.{add-sub, sub-self}
 use Rattle.words.specs.Words.{AllCanonical}
 use Rattle.table.specs.Table.{IsTable, initialConstant}
 use Rattle.hash.specs.Hash.{plus, firstStep, secondStep, stateAt, middleState, finalState}
-use Rattle.hash.proofs.States.{IsState, state-cell, same-state, cell-plus, plus-state, secondStep-state, stateAt-zero, stateAt-suc, finalState-state, initial-state}
+use Rattle.hash.proofs.States.{IsState, state-cell, same-state, cell-plus, plus-state, secondStep-state}
+use Rattle.hash.proofs.States.{stateAt-zero, stateAt-suc, finalState-state, initial-state}
 use Rattle.constraints.specs.Constraints.{row, within, entering, forward, minus, back}
 use Rattle.constraints.specs.ReadOff.{firstRow, readInput}
 use Rattle.constraints.proofs.OneRound.{minus-state, cell-minus, plus-minus}
 use Rattle.constraints.proofs.RowCells.{row-state}
 use Rattle.constraints.proofs.Equations.{Equations}
-use Rattle.constraints.proofs.ForwardBack.{enters-not, entering-row, within-of, back-state, forward-is, forward-enters, row-from-back}
+use Rattle.constraints.proofs.ForwardBack.{enters-not, entering-row, within-of, back-state}
+use Rattle.constraints.proofs.ForwardBack.{forward-is, forward-enters, row-from-back}
 
-module _ (T t claim : List ℕ) (k : ℕ) (accepted : IsTable T) (size : length t ≡ 384 * k) (canonical : AllCanonical t) (q : Equations T t claim k) where
+module _ (T t claim : List ℕ) (k : ℕ) (accepted : IsTable T) (size : length t ≡ 384 * k)
+    (canonical : AllCanonical t) (q : Equations T t claim k) where
   pub row-is-state : (i : ℕ) → i < 32 * k → IsState (row t i)
   row-is-state i l = row-state t canonical i (omega arith)
 
@@ -54,9 +58,11 @@ module _ (T t claim : List ℕ) (k : ℕ) (accepted : IsTable T) (size : length 
           let i : 32 * (h / 3) + 1 ≡ firstRow h = omega arith in
           ap (λ s. plus s (initialConstant T)) (start-read h e)
           ∙ same-state (plus-state _ _) (back-state T t (32 * (h / 3) + 1))
-          (λ j b. cell-plus (row t (32 * (h / 3))) (initialConstant T) j b ∙ q .starts (32 * (h / 3)) j (omega arith) (omega arith) b)
+          (λ j b. cell-plus (row t (32 * (h / 3))) (initialConstant T) j b
+          ∙ q .starts (32 * (h / 3)) j (omega arith) (omega arith) b)
           ∙ ap (back T t) i
-      go (no e) = ap (λ s. plus s (initialConstant T)) (enter-read h e) ∙ plus-minus (back-state T t (firstRow h)) K₀-state
+      go (no e) =
+          ap (λ s. plus s (initialConstant T)) (enter-read h e) ∙ plus-minus (back-state T t (firstRow h)) K₀-state
 
   -- ---- the rounds: back of row `firstRow h + j` is the state before round j
   module _ (h : ℕ) (l : h < 3 * k) where
@@ -66,7 +72,8 @@ module _ (T t claim : List ℕ) (k : ℕ) (accepted : IsTable T) (size : length 
     goes-on : (j : ℕ) → j < 9 → secondStep T j (row t (firstRow h + j)) ≡ back T t (firstRow h + j + 1)
     goes-on j b =
         same-state (secondStep-state T j (row t (firstRow h + j))) (back-state T t (firstRow h + j + 1))
-        (λ c m. ap (λ s. cell s c) (sym (forward-is T t h j (omega arith) not-entering)) ∙ q .goes-on (firstRow h + j) c (omega arith) (omega (arith, w)) (omega (arith, w)) not-entering m)
+        (λ c m. ap (λ s. cell s c) (sym (forward-is T t h j (omega arith) not-entering))
+        ∙ q .goes-on (firstRow h + j) c (omega arith) (omega (arith, w)) (omega (arith, w)) not-entering m)
       where
         w : within (firstRow h + j) ≡ 10 * (h % 3) + 1 + j
         w = within-of h j (omega arith)
@@ -76,7 +83,8 @@ module _ (T t claim : List ℕ) (k : ℕ) (accepted : IsTable T) (size : length 
 
     back-round : (j : ℕ) → j < 10 → back T t (firstRow h + j) ≡ stateAt T (readInput T t h) j
     unfolding middleState
-    back-round zero b = ap (back T t) (add-zero (firstRow h)) ∙ sym (read-back h l) ∙ sym (stateAt-zero T (readInput T t h))
+    back-round zero b =
+        ap (back T t) (add-zero (firstRow h)) ∙ sym (read-back h l) ∙ sym (stateAt-zero T (readInput T t h))
     back-round (suc j) b =
         ap (back T t) next
         ∙ sym (goes-on j (omega arith))
@@ -100,7 +108,8 @@ module _ (T t claim : List ℕ) (k : ℕ) (accepted : IsTable T) (size : length 
   pub end-row : (b : ℕ) → b < k → row t (32 * b + 31) ≡ finalState T (readInput T t (3 * b + 2))
   end-row b l =
       same-state (row-is-state (32 * b + 31) (omega arith)) (finalState-state T (readInput T t h))
-      (λ j m. sym (ends j m) ∙ ap (λ s. cell s j) (forward-is T t h 9 (omega arith) not-entering ∙ last-round h (omega arith)))
+      (λ j m. sym (ends j m)
+      ∙ ap (λ s. cell s j) (forward-is T t h 9 (omega arith) not-entering ∙ last-round h (omega arith)))
     where
       h : ℕ
       h = 3 * b + 2
@@ -117,10 +126,13 @@ module _ (T t claim : List ℕ) (k : ℕ) (accepted : IsTable T) (size : length 
       ends : (j : ℕ) → j < 12 → cell (forward T t (firstRow h + 9)) j ≡ cell (row t (32 * b + 31)) j
       ends j m =
           let n : 32 * b + 30 + 1 ≡ 32 * b + 31 = omega arith in
-          ap (λ x. cell (forward T t x) j) i ∙ q .ends (32 * b + 30) j (omega arith) (omega arith) m ∙ ap (λ x. cell (row t x) j) n
+          ap (λ x. cell (forward T t x) j) i
+          ∙ q .ends (32 * b + 30) j (omega arith) (omega arith) m
+          ∙ ap (λ x. cell (row t x) j) n
 
   -- columns 0 to 3 of an input are the output before it
-  pub output-read : (h j : ℕ) → h + 1 < 3 * k → j < 4 → cell (readInput T t (h + 1)) j ≡ cell (finalState T (readInput T t h)) j
+  pub output-read : (h j : ℕ) → h + 1 < 3 * k → j < 4
+      → cell (readInput T t (h + 1)) j ≡ cell (finalState T (readInput T t h)) j
   output-read h j l m = go (ℕ-discrete (h % 3) 2)
     where
       go : Dec (h % 3 ≡ 2) → cell (readInput T t (h + 1)) j ≡ cell (finalState T (readInput T t h)) j
@@ -140,20 +152,23 @@ module _ (T t claim : List ℕ) (k : ℕ) (accepted : IsTable T) (size : length 
           ∙ sym (q .output-kept (firstRow h + 9) j (omega arith) (omega (arith, w)) (omega (arith, w)) m)
           ∙ forward-enters T t h 9 (omega arith) (entering-row h e) j m
           ∙ ap (λ s. add (cell s j) (cell (initialConstant T) j)) (last-round h (omega arith)))
-          ∙ add-sub (cell (finalState T (readInput T t h)) j) (cell (initialConstant T) j) (state-cell (finalState-state T _) j) (state-cell K₀-state j)
+          ∙ add-sub (cell (finalState T (readInput T t h)) j) (cell (initialConstant T) j)
+          (state-cell (finalState-state T _) j) (state-cell K₀-state j)
 
   -- columns 8 to 11 are zeros
   pub zeros-read : (h j : ℕ) → h < 3 * k → j < 4 → cell (readInput T t h) (8 + j) ≡ 0
   zeros-read h j l m = go (ℕ-discrete (h % 3) 0)
     where
       go : Dec (h % 3 ≡ 0) → cell (readInput T t h) (8 + j) ≡ 0
-      go (yes e) = ap (λ s. cell s (8 + j)) (start-read h e) ∙ q .zero-columns (32 * (h / 3)) j (omega arith) (omega arith) m
+      go (yes e) =
+          ap (λ s. cell s (8 + j)) (start-read h e) ∙ q .zero-columns (32 * (h / 3)) j (omega arith) (omega arith) m
       go (no e) =
           let x : firstRow h ≡ firstRow (h - 1) + 9 + 1 = omega arith in
           ap (λ s. cell s (8 + j)) (enter-read h e)
           ∙ cell-minus (back T t (firstRow h)) (initialConstant T) (8 + j) (omega arith)
           ∙ ap (λ n. sub n (cell (initialConstant T) (8 + j)))
-          (ap (λ i. cell (back T t i) (8 + j)) x ∙ q .new-zeros (firstRow (h - 1) + 9) j (omega arith) (entering-row (h - 1) (λ z. omega arith)) m)
+          (ap (λ i. cell (back T t i) (8 + j)) x
+          ∙ q .new-zeros (firstRow (h - 1) + 9) j (omega arith) (entering-row (h - 1) (λ z. omega arith)) m)
           ∙ sub-self (cell (initialConstant T) (8 + j)) (state-cell K₀-state (8 + j))
 
   -- the claim is the output of the last hash
@@ -161,4 +176,5 @@ module _ (T t claim : List ℕ) (k : ℕ) (accepted : IsTable T) (size : length 
   claim-read j l m =
       let x : 32 * (k - 1) + 31 + 1 ≡ 32 * k = omega arith in
       let y : 3 * (k - 1) + 2 ≡ 3 * k - 1 = omega arith in
-      sym (q .claims (32 * (k - 1) + 31) j (omega arith) x m) ∙ ap (λ s. cell s j) (end-row (k - 1) (omega arith) ∙ ap (λ n. finalState T (readInput T t n)) y)
+      sym (q .claims (32 * (k - 1) + 31) j (omega arith) x m)
+      ∙ ap (λ s. cell s j) (end-row (k - 1) (omega arith) ∙ ap (λ n. finalState T (readInput T t n)) y)

@@ -2,12 +2,14 @@
 -- Assumes nothing.
 use Prim.Native.Nat.{ℕ, _+_, _*_, _-_, _/_, _%_, _^_, _<_, _≤_}
 use mathlib.Core.Path.{_≡_, refl, sym, ap, ap₂, _∙_, subst}
-use native.Mathlib.Nat.{add-mul-mod-self-left, mod-mod, mod-lt, mod-eq-of-lt, mul-one, mul-comm, mul-assoc, mod-add-div, mul-le-mul, lt-of-le-of-lt, div-lt-iff-lt-mul, mul-lt-mul-of-pos-right}
+use native.Mathlib.Nat.{add-mul-mod-self-left, mod-mod, mod-lt, mod-eq-of-lt, mul-one, mul-comm, mul-assoc, mod-add-div}
+use native.Mathlib.Nat.{mul-le-mul, lt-of-le-of-lt, div-lt-iff-lt-mul, mul-lt-mul-of-pos-right}
 use native.Mathlib.Omega.{arith}
 use lib.Dec.{lit<}
 use lib.Pow.{shr-lt}
 use Rattle.field.specs.Field.{P, mul}
-use Rattle.field.specs.Montgomery.{Short, element, reduceWord, timesWord, enterWord, unitInverse, wordInverse, unitSquare}
+use Rattle.field.specs.Montgomery.{Short, element, reduceWord, timesWord, enterWord}
+use Rattle.field.specs.Montgomery.{unitInverse, wordInverse, unitSquare}
 use Rattle.field.proofs.Modular.{mul-mod-l, mul-mod-r}
 
 -- numbers that differ by multiples of m
@@ -17,7 +19,11 @@ same m x y u v e = sym (add-mul-mod-self-left x m u) ∙ ap (λ z. z % m) e ∙ 
 -- ---- a k with an inverse j: dividing by k
 module _ (p k j : ℕ) (inv : (k * j) % p ≡ 1) where
   undo : (a : ℕ) → (a * k * j) % p ≡ a % p
-  undo a = ap (λ z. z % p) (mul-assoc a k j) ∙ sym (mul-mod-r p a (k * j)) ∙ ap (λ z. (a * z) % p) inv ∙ ap (λ z. z % p) (mul-one a)
+  undo a =
+      ap (λ z. z % p) (mul-assoc a k j)
+      ∙ sym (mul-mod-r p a (k * j))
+      ∙ ap (λ z. (a * z) % p) inv
+      ∙ ap (λ z. z % p) (mul-one a)
 
   divided : (r t : ℕ) → (r * k) % p ≡ t % p → r % p ≡ (t * j) % p
   divided r t e = sym (undo r) ∙ sym (mul-mod-l p (r * k) j) ∙ ap (λ z. (z * j) % p) e ∙ mul-mod-l p t j
@@ -50,7 +56,9 @@ lower-equal l f h e =
     ∙ mod-eq-of-lt h
 
 pub factor-small : (f : ℕ) → f < 2 ^ 64 → f * P / 2 ^ 64 < P
-factor-small f h = div-lt-iff-lt-mul {k = 2 ^ 64} {x = f * P} {y = P} (lit< tt) .1 (subst (λ x. f * P < x) (mul-comm (2 ^ 64) P) (mul-lt-mul-of-pos-right h (lit< tt)))
+factor-small f h =
+    div-lt-iff-lt-mul {k = 2 ^ 64} {x = f * P} {y = P} (lit< tt) .1
+    (subst (λ x. f * P < x) (mul-comm (2 ^ 64) P) (mul-lt-mul-of-pos-right h (lit< tt)))
 
 pub upper-small : (a b : ℕ) → Short a → Short b → a * b / 2 ^ 64 < P
 upper-small a b ha hb = omega (arith, low)
@@ -64,27 +72,40 @@ upper-small a b ha hb = omega (arith, low)
 reduced : (t h l f u r : ℕ) → t ≡ h * 2 ^ 64 + l → f * P ≡ u * 2 ^ 64 + l → r + u ≡ h + P → (r * 2 ^ 64) % P ≡ t % P
 reduced t h l f u r et ef er = same P (r * 2 ^ 64) t f (2 ^ 64) (go P f er ef et)
   where
-    go : (p f′ : ℕ) → r + u ≡ h + p → f′ * p ≡ u * 2 ^ 64 + l → t ≡ h * 2 ^ 64 + l → r * 2 ^ 64 + p * f′ ≡ t + p * 2 ^ 64
+    go : (p f′ : ℕ) → r + u ≡ h + p → f′ * p ≡ u * 2 ^ 64 + l → t ≡ h * 2 ^ 64 + l
+        → r * 2 ^ 64 + p * f′ ≡ t + p * 2 ^ 64
     go p f′ a b c = omega arith
 
 -- what is taken off, from its words
 split : (l f u : ℕ) → l < 2 ^ 64 → f ≡ l * wordInverse % 2 ^ 64 → u ≡ f * P / 2 ^ 64 → f * P ≡ u * 2 ^ 64 + l
-split l f u h ef eu = sym (mod-add-div (f * P) (2 ^ 64)) ∙ turned (f * P % 2 ^ 64) (f * P / 2 ^ 64) ∙ ap₂ (λ x y. x * 2 ^ 64 + y) (sym eu) (lower-equal l f h ef)
+split l f u h ef eu =
+    sym (mod-add-div (f * P) (2 ^ 64))
+    ∙ turned (f * P % 2 ^ 64) (f * P / 2 ^ 64)
+    ∙ ap₂ (λ x y. x * 2 ^ 64 + y) (sym eu) (lower-equal l f h ef)
   where
     turned : (x y : ℕ) → x + 2 ^ 64 * y ≡ y * 2 ^ 64 + x
     turned x y = omega arith
 
-pub reduce-law : (h l f u r : ℕ) → l < 2 ^ 64 → f ≡ l * wordInverse % 2 ^ 64 → u ≡ f * P / 2 ^ 64 → r + u ≡ h + P → r % P ≡ element (h * 2 ^ 64 + l)
-reduce-law h l f u r hl ef eu er = divided P (2 ^ 64) unitInverse inverse-of-unit r (h * 2 ^ 64 + l) (reduced (h * 2 ^ 64 + l) h l f u r refl (split l f u hl ef eu) er)
+pub reduce-law : (h l f u r : ℕ) → l < 2 ^ 64 → f ≡ l * wordInverse % 2 ^ 64 → u ≡ f * P / 2 ^ 64 → r + u ≡ h + P
+    → r % P ≡ element (h * 2 ^ 64 + l)
+reduce-law h l f u r hl ef eu er =
+    divided P (2 ^ 64) unitInverse inverse-of-unit r (h * 2 ^ 64 + l)
+    (reduced (h * 2 ^ 64 + l) h l f u r refl (split l f u hl ef eu) er)
 
-times-law : (a b l f u r : ℕ) → l ≡ a * b % 2 ^ 64 → f ≡ l * wordInverse % 2 ^ 64 → u ≡ f * P / 2 ^ 64 → r + u ≡ a * b / 2 ^ 64 + P → element r ≡ mul (element a) (element b)
-times-law a b l f u r el ef eu er = product-form P (2 ^ 64) unitInverse inverse-of-unit a b r (reduced (a * b) (a * b / 2 ^ 64) l f u r split-t (split l f u l-low ef eu) er)
+times-law : (a b l f u r : ℕ) → l ≡ a * b % 2 ^ 64 → f ≡ l * wordInverse % 2 ^ 64 → u ≡ f * P / 2 ^ 64
+    → r + u ≡ a * b / 2 ^ 64 + P → element r ≡ mul (element a) (element b)
+times-law a b l f u r el ef eu er =
+    product-form P (2 ^ 64) unitInverse inverse-of-unit a b r
+    (reduced (a * b) (a * b / 2 ^ 64) l f u r split-t (split l f u l-low ef eu) er)
   where
     l-low : l < 2 ^ 64
     l-low = subst (λ x. x < 2 ^ 64) (sym el) (mod-lt (a * b) (lit< tt))
 
     split-t : a * b ≡ a * b / 2 ^ 64 * 2 ^ 64 + l
-    split-t = sym (mod-add-div (a * b) (2 ^ 64)) ∙ turned (a * b % 2 ^ 64) (a * b / 2 ^ 64) ∙ ap (λ x. a * b / 2 ^ 64 * 2 ^ 64 + x) (sym el)
+    split-t =
+        sym (mod-add-div (a * b) (2 ^ 64))
+        ∙ turned (a * b % 2 ^ 64) (a * b / 2 ^ 64)
+        ∙ ap (λ x. a * b / 2 ^ 64 * 2 ^ 64 + x) (sym el)
       where
         turned : (x y : ℕ) → x + 2 ^ 64 * y ≡ y * 2 ^ 64 + x
         turned x y = omega arith
@@ -122,7 +143,9 @@ module _ (a b : ℕ) (ha : Short a) (hb : Short b) where
 
   pub times-element : element (timesWord a b) ≡ mul (element a) (element b)
   unfolding factor timesWord reduceWord
-  times-element = times-law a b (a * b % 2 ^ 64) factor (factor * P / 2 ^ 64) (timesWord a b) refl refl refl (restored (a * b / 2 ^ 64) (factor * P / 2 ^ 64) off-small)
+  times-element =
+      times-law a b (a * b % 2 ^ 64) factor (factor * P / 2 ^ 64) (timesWord a b) refl refl refl
+      (restored (a * b / 2 ^ 64) (factor * P / 2 ^ 64) off-small)
     where
       restored : (h u : ℕ) → u < P → ((h + P) - u) + u ≡ h + P
       restored h u l = omega arith
@@ -131,7 +154,8 @@ module _ (a b : ℕ) (ha : Short a) (hb : Short b) where
   pub times-divided : timesWord a b % P ≡ element (a * b)
   unfolding factor timesWord reduceWord
   times-divided =
-      reduce-law (a * b / 2 ^ 64) (a * b % 2 ^ 64) factor (factor * P / 2 ^ 64) (timesWord a b) (mod-lt (a * b) (lit< tt)) refl refl (restored (a * b / 2 ^ 64) (factor * P / 2 ^ 64) off-small)
+      reduce-law (a * b / 2 ^ 64) (a * b % 2 ^ 64) factor (factor * P / 2 ^ 64) (timesWord a b)
+      (mod-lt (a * b) (lit< tt)) refl refl (restored (a * b / 2 ^ 64) (factor * P / 2 ^ 64) off-small)
       ∙ ap element (joined (a * b % 2 ^ 64) (a * b / 2 ^ 64) ∙ mod-add-div (a * b) (2 ^ 64))
     where
       restored : (h u : ℕ) → u < P → ((h + P) - u) + u ≡ h + P

@@ -46,7 +46,12 @@ chain-inputs T w e =
     let a = both-accepted (tableTest T) _ e in
     let b = passed _ _ _ (a .1) in
     let s = tap-length-sound mostBatches (length w) (b .0) in
-    record { table = test-sound T (a .0); permitted = s .1; size = s .0; canonical = good-test w (passed _ _ _ (b .1) .0) }
+    record {
+      table = test-sound T (a .0);
+      permitted = s .1;
+      size = s .0;
+      canonical = good-test w (passed _ _ _ (b .1) .0);
+    }
 
 pub chain-passes : (T w : List ℕ) (k : ℕ) → ChainInputs T w k → chainTest T w ≡ Accepted
 unfolding chainTest
@@ -58,7 +63,13 @@ chain-passes T w k h = rw (
 
 -- ---- the output that a state begins with
 pub digest-take : (s : List ℕ) → digest s ≡ digest (take 4 s)
-digest-take s = sym (λ i. record { 0 = at 0 (omega arith) i; 1 = at 1 (omega arith) i; 2 = at 2 (omega arith) i; 3 = at 3 (omega arith) i })
+digest-take s =
+    sym (λ i. record {
+      0 = at 0 (omega arith) i;
+      1 = at 1 (omega arith) i;
+      2 = at 2 (omega arith) i;
+      3 = at 3 (omega arith) i;
+    })
   where
     at : (j : ℕ) → j < 4 → cell (take 4 s) j ≡ cell s j
     at j h = getD-take 4 s j 0 h

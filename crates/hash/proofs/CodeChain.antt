@@ -22,9 +22,13 @@ first-four (a ∷ b ∷ c ∷ []) h = absurd (omega arith)
 first-four (a ∷ b ∷ c ∷ d ∷ s) h = refl
 
 -- w_n, from its first word at n₀
-pub tap-words : (w : List ℕ) (n n₀ : ℕ) → 4 * n + 4 ≤ length w → n₀ ≡ 4 * n → cell w n₀ ∷ cell w (n₀ + 1) ∷ cell w (n₀ + 2) ∷ cell w (n₀ + 3) ∷ [] ≡ tap w n
+pub tap-words : (w : List ℕ) (n n₀ : ℕ) → 4 * n + 4 ≤ length w → n₀ ≡ 4 * n
+    → cell w n₀ ∷ cell w (n₀ + 1) ∷ cell w (n₀ + 2) ∷ cell w (n₀ + 3) ∷ [] ≡ tap w n
 unfolding tap
-tap-words w n n₀ h e = (λ i. at 0 n₀ (omega arith) i ∷ at 1 (n₀ + 1) (omega arith) i ∷ at 2 (n₀ + 2) (omega arith) i ∷ at 3 (n₀ + 3) (omega arith) i ∷ []) ∙ first-four (drop (4 * n) w) (omega (arith, length-drop (4 * n) w))
+tap-words w n n₀ h e =
+    (λ i. at 0 n₀ (omega arith) i ∷ at 1 (n₀ + 1) (omega arith) i
+    ∷ at 2 (n₀ + 2) (omega arith) i ∷ at 3 (n₀ + 3) (omega arith) i ∷ [])
+    ∙ first-four (drop (4 * n) w) (omega (arith, length-drop (4 * n) w))
   where
     at : (j m : ℕ) → m ≡ 4 * n + j → cell w m ≡ cell (drop (4 * n) w) j
     at j m q = ap (cell w) q ∙ sym (getD-drop (4 * n) w j 0)
@@ -34,7 +38,9 @@ pub input-words : (s w : List ℕ) (n n₀ : ℕ) →
     4 ≤ length s →
     4 * n + 4 ≤ length w →
     n₀ ≡ 4 * n →
-    cell s 0 ∷ cell s 1 ∷ cell s 2 ∷ cell s 3 ∷ cell w n₀ ∷ cell w (n₀ + 1) ∷ cell w (n₀ + 2) ∷ cell w (n₀ + 3) ∷ 0 ∷ 0 ∷ 0 ∷ 0 ∷ [] ≡ input (take 4 s) (tap w n)
+    cell s 0 ∷ cell s 1 ∷ cell s 2 ∷ cell s 3
+    ∷ cell w n₀ ∷ cell w (n₀ + 1) ∷ cell w (n₀ + 2) ∷ cell w (n₀ + 3) ∷ 0 ∷ 0 ∷ 0 ∷ 0 ∷ []
+    ≡ input (take 4 s) (tap w n)
 unfolding input
 input-words s w n n₀ hs hw e = ap₂ input (first-four s hs) (tap-words w n n₀ hw e)
 
@@ -48,7 +54,9 @@ module _ (T w : List ℕ) where
 
   module _ (h : ℕ) (s r : List ℕ) (e : take 4 s ≡ outputAt T w h) (q : r ≡ input (take 4 s) (tap w (h + 1))) where
     pub input-canonical : AllCanonical w → 4 * h + 8 ≤ length w → CanonicalTo 12 r
-    input-canonical a l = canonical-state q (input-state (subst IsTap (sym e) (output-tap T w a (omega arith) h)) (tap-is-tap w a (h + 1) (omega arith)))
+    input-canonical a l =
+        canonical-state q
+        (input-state (subst IsTap (sym e) (output-tap T w a (omega arith) h)) (tap-is-tap w a (h + 1) (omega arith)))
 
     -- after hash h
     pub goes-on : (f : List ℕ) → f ≡ finalState T r → take 4 f ≡ outputAt T w (h + 1)

@@ -5,7 +5,8 @@ use mathlib.Core.List.{List, _++_}
 use Prim.Native.Nat.{ℕ, zero, suc, _+_, _*_, _-_, _≤_, _<_}
 use native.Mathlib.Decide.{decLt}
 use native.Mathlib.Omega.{arith}
-use lib.ListN.{length, take, drop, replicate, length-append, length-take, length-drop, length-replicate, getD-replicate, List·getD-append}
+use lib.ListN.{length, take, drop, replicate, length-append, length-take, length-drop}
+use lib.ListN.{length-replicate, getD-replicate, List·getD-append}
 use lib.Seq.{getD-take, getD-drop, getD-append-add}
 use Rattle.lists.specs.Lists.{cell}
 use Rattle.field.specs.Field.{P}
@@ -19,7 +20,8 @@ pub record IsTap (s : List ℕ) : Type 0 where
   pub canonical : AllCanonical s
 
 -- what holds in columns 0 to 3, 4 to 7 and 8 to 11 holds in all twelve
-pub by-fours : (A : ℕ → Type 0) → ((j : ℕ) → j < 4 → A j) → ((j : ℕ) → j < 4 → A (4 + j)) → ((j : ℕ) → j < 4 → A (8 + j)) → (j : ℕ) → j < 12 → A j
+pub by-fours : (A : ℕ → Type 0) → ((j : ℕ) → j < 4 → A j) → ((j : ℕ) → j < 4 → A (4 + j))
+    → ((j : ℕ) → j < 4 → A (8 + j)) → (j : ℕ) → j < 12 → A j
 by-fours A f g h j l = go (decLt j 4) (decLt j 8)
   where
     go : Dec (j < 4) → Dec (j < 8) → A j
@@ -36,7 +38,8 @@ pub cell-take : (s : List ℕ) (j : ℕ) → j < 4 → cell (take 4 s) j ≡ cel
 cell-take s j h = getD-take 4 s j 0 h
 
 pub take-tap : (s : List ℕ) → AllCanonical s → 4 ≤ length s → IsTap (take 4 s)
-take-tap s a h = record { size = sized; canonical = λ j l. omega (arith, getD-take 4 s j 0 (omega (arith, sized)), cell-lt s a j) }
+take-tap s a h =
+    record { size = sized; canonical = λ j l. omega (arith, getD-take 4 s j 0 (omega (arith, sized)), cell-lt s a j) }
   where
     sized : length (take 4 s) ≡ 4
     sized = length-take 4 s ∙ omega arith
@@ -70,7 +73,10 @@ module _ {a b : List ℕ} (p : IsTap a) (q : IsTap b) where
 
   pub cell-input-zeros : (j : ℕ) → j < 4 → cell (input a b) (8 + j) ≡ 0
   unfolding input
-  cell-input-zeros j h = ap (λ n. cell (a ++ b ++ replicate 4 0) n) e ∙ getD-append-add (a ++ b) (replicate 4 0) j 0 ∙ getD-replicate 4 j 0 0 h
+  cell-input-zeros j h =
+      ap (λ n. cell (a ++ b ++ replicate 4 0) n) e
+      ∙ getD-append-add (a ++ b) (replicate 4 0) j 0
+      ∙ getD-replicate 4 j 0 0 h
     where
       e : 8 + j ≡ length (a ++ b) + j
       e = omega (arith, length-append a b, p .size, q .size)
@@ -80,7 +86,9 @@ module _ {a b : List ℕ} (p : IsTap a) (q : IsTap b) where
   input-state = record { size = sized; canonical = λ j l. low j (omega (arith, sized)) }
     where
       sized : length (input a b) ≡ 12
-      sized = length-append (a ++ b) (replicate 4 0) ∙ omega (arith, length-append a b, p .size, q .size, length-replicate {A = ℕ} 4 0)
+      sized =
+          length-append (a ++ b) (replicate 4 0)
+          ∙ omega (arith, length-append a b, p .size, q .size, length-replicate {A = ℕ} 4 0)
 
       low : (j : ℕ) → j < 12 → cell (input a b) j < P
       low =
@@ -101,7 +109,8 @@ unfolding outputAt
 output-zero T w = refl
 
 -- the output of hash h is the first four cells of its final state
-pub output-suc : (T w : List ℕ) (h : ℕ) → outputAt T w (suc h) ≡ take 4 (finalState T (input (outputAt T w h) (tap w (suc h))))
+pub output-suc : (T w : List ℕ) (h : ℕ)
+    → outputAt T w (suc h) ≡ take 4 (finalState T (input (outputAt T w h) (tap w (suc h))))
 unfolding outputAt hash
 output-suc T w h = refl
 

@@ -33,7 +33,8 @@ module _ (m : List ℕ) (i l : ℕ) where
 
 pub at-start : (m : List ℕ) (i l : ℕ) → i < 12 → l < 24 → at (started m) i l ≡ beside 12 (entry m) i l
 unfolding started
-at-start m i l hi hl = cell-tab 288 (λ t. beside 12 (entry m) (t / 24) (t % 24)) (24 * i + l) (omega arith) ∙ ap₂ (beside 12 (entry m)) p q
+at-start m i l hi hl =
+    cell-tab 288 (λ t. beside 12 (entry m) (t / 24) (t % 24)) (24 * i + l) (omega arith) ∙ ap₂ (beside 12 (entry m)) p q
   where
     p : (24 * i + l) / 24 ≡ i
     p = omega arith
@@ -49,17 +50,26 @@ start-working m size h = record { size = length-tab 288 (λ t. beside 12 (entry 
     low i l hi hl = go (decLt l 12)
       where
         go : Dec (l < 12) → Canonical (at (started m) i l)
-        go (yes b) = subst (λ y. y < P) (sym (at-start m i l hi hl ∙ beside-left 12 (entry m) i l b)) (h (12 * i + l) (omega arith))
-        go (no b) = subst (λ y. y < P) (sym (at-start m i l hi hl ∙ beside-right 12 (entry m) i l (omega arith))) (identity-lt P big i (l - 12))
+        go (yes b) =
+            subst (λ y. y < P) (sym (at-start m i l hi hl ∙ beside-left 12 (entry m) i l b))
+            (h (12 * i + l) (omega arith))
+        go (no b) =
+            subst (λ y. y < P) (sym (at-start m i l hi hl ∙ beside-right 12 (entry m) i l (omega arith)))
+            (identity-lt P big i (l - 12))
 
 -- a column that the last rows take to zeros, the matrix with the identity beside it does
-under : (m v : List ℕ) → ((z : ℕ → ℕ) → Zeros v z → Zeros (started m) z) → (z : ℕ → ℕ) → Zeros v z → (i : ℕ) → i < 12 → timesColumn 24 (beside 12 (entry m)) z i ≡ 0
-under m v keeps z q i hi = times-ext 24 (beside 12 (entry m)) (at (started m)) z z i (λ l g. sym (at-start m i l hi g)) (λ l g. refl) ∙ keeps z q i hi
+under : (m v : List ℕ) → ((z : ℕ → ℕ) → Zeros v z → Zeros (started m) z) → (z : ℕ → ℕ) → Zeros v z → (i : ℕ)
+    → i < 12 → timesColumn 24 (beside 12 (entry m)) z i ≡ 0
+under m v keeps z q i hi =
+    times-ext 24 (beside 12 (entry m)) (at (started m)) z z i (λ l g. sym (at-start m i l hi g)) (λ l g. refl)
+    ∙ keeps z q i hi
 
 -- ---- the answer
 pub no-pivot : (m : List ℕ) → Stuck (started m) → Kernel 12 (entry m)
 unfolding timesColumn
-no-pivot m s = stuck 12 (entry m) (at (s .rows)) (under m (s .rows) (s .reduces .keeps)) (s .column) (s .within) (s .reduces .reduced .ident) (s .none)
+no-pivot m s =
+    stuck 12 (entry m) (at (s .rows)) (under m (s .rows) (s .reduces .keeps)) (s .column) (s .within)
+    (s .reduces .reduced .ident) (s .none)
 
 pub inverted : (m v : List ℕ) → Reduces (started m) v 12 → IsInverse m (rightHalf v)
 unfolding timesColumn rightHalf Inverse
@@ -69,7 +79,9 @@ inverted m v h = record { size = length-tab 144 word; canonical = low; inverse =
     word t = at v (t / 12) (12 + t % 12)
 
     low : AllCanonical (tab 144 word)
-    low t g = subst (λ y. y < P) (sym (cell-tab 144 word t t-lt)) (h .reduced .working .canonical (t / 12) (12 + t % 12) (omega (arith, t-lt)) (omega arith))
+    low t g =
+        subst (λ y. y < P) (sym (cell-tab 144 word t t-lt))
+        (h .reduced .working .canonical (t / 12) (12 + t % 12) (omega (arith, t-lt)) (omega arith))
       where
         t-lt : t < 144
         t-lt = omega (arith, length-tab 144 word)
@@ -85,15 +97,19 @@ inverted m v h = record { size = length-tab 144 word; canonical = low; inverse =
 
     inv : Inverse 12 (entry m) (entry (tab 144 word))
     inv i k hi hk =
-        product-ext 12 (entry m) (entry m) (entry (tab 144 word)) (λ i k. at v i (12 + k)) i k (λ j l. refl) (λ j l. right j k l hk)
+        product-ext 12 (entry m) (entry m) (entry (tab 144 word)) (λ i k. at v i (12 + k)) i k (λ j l. refl)
+        (λ j l. right j k l hk)
         ∙ finished 12 (entry m) (at v) (under m v (h .keeps)) (h .reduced .ident) i k hi hk
 
 -- the two ways out, by what the elimination answered
 pub without : (m w v : List ℕ) (b : Bool) → w ≡ started m → Eliminated w v b → b ≡ false → Kernel 12 (entry m)
 without m w v b e h f = no-pivot m (subst (λ u. Stuck u) e (subst (λ a. Eliminated w v a) f h))
 
-pub found : (m w v out : List ℕ) (b : Bool) → w ≡ started m → Eliminated w v b → b ≡ true → out ≡ rightHalf v → IsInverse m out
-found m w v out b e h f o = subst (λ u. IsInverse m u) (sym o) (inverted m v (subst (λ u. Reduces u v 12) e (subst (λ a. Eliminated w v a) f h)))
+pub found : (m w v out : List ℕ) (b : Bool) → w ≡ started m → Eliminated w v b → b ≡ true → out ≡ rightHalf v
+    → IsInverse m out
+found m w v out b e h f o =
+    subst (λ u. IsInverse m u) (sym o)
+    (inverted m v (subst (λ u. Reduces u v 12) e (subst (λ a. Eliminated w v a) f h)))
 
 -- the list of a matrix's cells, row by row
 pub listed : (ℕ → ℕ → ℕ) → List ℕ
@@ -101,13 +117,22 @@ listed a = tab 144 (λ t. a (t / 12) (t % 12))
 
 pub listed-inverse : (m : List ℕ) → (h : Invertible 12 (entry m)) → IsInverse m (listed (h .matrix))
 unfolding listed Inverse
-listed-inverse m h = record { size = length-tab 144 word; canonical = low; inverse = λ i k hi hk. product-ext 12 (entry m) (entry m) (entry (tab 144 word)) (h .matrix) i k (λ j l. refl) (λ j l. at-word j k l hk) ∙ h .right i k hi hk }
+listed-inverse m h =
+    record {
+      size = length-tab 144 word;
+      canonical = low;
+      inverse = λ i k hi hk. product-ext 12 (entry m) (entry m) (entry (tab 144 word)) (h .matrix) i k
+          (λ j l. refl) (λ j l. at-word j k l hk)
+          ∙ h .right i k hi hk;
+    }
   where
     word : ℕ → ℕ
     word t = h .matrix (t / 12) (t % 12)
 
     low : AllCanonical (tab 144 word)
-    low t g = subst (λ y. y < P) (sym (cell-tab 144 word t t-lt)) (h .canonical (t / 12) (t % 12) (omega (arith, t-lt)) (omega arith))
+    low t g =
+        subst (λ y. y < P) (sym (cell-tab 144 word t t-lt))
+        (h .canonical (t / 12) (t % 12) (omega (arith, t-lt)) (omega arith))
       where
         t-lt : t < 144
         t-lt = omega (arith, length-tab 144 word)
@@ -129,7 +154,11 @@ inverse-only m a b ha hb = ext-getD 0 a b (ha .size ∙ sym (hb .size)) same
     low n h i k hi hk = h .canonical (12 * i + k) (omega (arith, h .size))
 
     same : (t : ℕ) → t < length a → cell a t ≡ cell b t
-    same t l = sym (ap (cell a) e) ∙ inverse-unique 12 (entry m) (entry a) (entry b) (ha .inverse) (hb .inverse) (low a ha) (low b hb) (t / 12) (t % 12) (omega (arith, ha .size)) (omega arith) ∙ ap (cell b) e
+    same t l =
+        sym (ap (cell a) e)
+        ∙ inverse-unique 12 (entry m) (entry a) (entry b) (ha .inverse) (hb .inverse) (low a ha) (low b hb) (t / 12)
+        (t % 12) (omega (arith, ha .size)) (omega arith)
+        ∙ ap (cell b) e
       where
         e : 12 * (t / 12) + t % 12 ≡ t
         e = omega arith

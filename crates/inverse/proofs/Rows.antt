@@ -18,14 +18,19 @@ use Rattle.inverse.proofs.Elimination.{added, scaled}
 pub row-none : (w : List ℕ) (r : ℕ) (f : ℕ → ℕ) → RowSet w w r 0 f
 row-none w r f = record { size = refl; done = λ l h. absurd (omega arith); rest = λ i l hi hl h. refl }
 
-pub row-more : (w v : List ℕ) (r k : ℕ) (f : ℕ → ℕ) (x : ℕ) → length w ≡ 288 → r < 12 → k < 24 → RowSet w v r k f → x ≡ f k → RowSet w (set v (24 * r + k) x) r (k + 1) f
+pub row-more : (w v : List ℕ) (r k : ℕ) (f : ℕ → ℕ) (x : ℕ) → length w ≡ 288 → r < 12 → k < 24 → RowSet w v r k f
+    → x ≡ f k → RowSet w (set v (24 * r + k) x) r (k + 1) f
 row-more w v r k f x len hr hk h e = record { size = length-set v (24 * r + k) x ∙ h .size; done = done'; rest = rest' }
   where
     done' : (l : ℕ) → l < k + 1 → at (set v (24 * r + k) x) r l ≡ f l
     done' l hl = go (ℕ-discrete l k)
       where
         go : Dec (l ≡ k) → at (set v (24 * r + k) x) r l ≡ f l
-        go (yes q) = ap (at (set v (24 * r + k) x) r) q ∙ getD-set-same v (24 * r + k) x 0 (omega (arith, h .size)) ∙ e ∙ ap f (sym q)
+        go (yes q) =
+            ap (at (set v (24 * r + k) x) r) q
+            ∙ getD-set-same v (24 * r + k) x 0 (omega (arith, h .size))
+            ∙ e
+            ∙ ap f (sym q)
         go (no q) = getD-set-other v (24 * r + k) (24 * r + l) x 0 (λ g. q (omega arith)) ∙ h .done l (omega arith)
 
     rest' : (i l : ℕ) → i < 12 → l < 24 → (i ≡ r → l < k + 1 → ⊥) → at (set v (24 * r + k) x) i l ≡ at w i l
@@ -43,17 +48,22 @@ row-end w v r k f e h = subst (λ y. RowSet w v r y f) e h
 pub row-next : (w v : List ℕ) (r k : ℕ) (f : ℕ → ℕ) → r < 12 → k < 24 → RowSet w v r k f → at v r k ≡ at w r k
 row-next w v r k f hr hk h = h .rest r k hr hk (λ e b. omega arith)
 
-pub row-other : (w v : List ℕ) (r k : ℕ) (f : ℕ → ℕ) → RowSet w v r k f → (i l : ℕ) → i < 12 → l < 24 → (i ≡ r → ⊥) → at v i l ≡ at w i l
+pub row-other : (w v : List ℕ) (r k : ℕ) (f : ℕ → ℕ) → RowSet w v r k f → (i l : ℕ) → i < 12 → l < 24 → (i ≡ r → ⊥)
+    → at v i l ≡ at w i l
 row-other w v r k f h i l hi hl ne = h .rest i l hi hl (λ q b. ne q)
 
-pub next-canonical : (w v : List ℕ) (r k : ℕ) (f : ℕ → ℕ) → Working w → r < 12 → k < 24 → RowSet w v r k f → Canonical (at v r k)
+pub next-canonical : (w v : List ℕ) (r k : ℕ) (f : ℕ → ℕ) → Working w → r < 12 → k < 24 → RowSet w v r k f
+    → Canonical (at v r k)
 next-canonical w v r k f hw hr hk h = subst (λ y. y < P) (sym (row-next w v r k f hr hk h)) (hw .canonical r k hr hk)
 
-pub other-canonical : (w v : List ℕ) (r k : ℕ) (f : ℕ → ℕ) → Working w → RowSet w v r k f → (i l : ℕ) → i < 12 → l < 24 → (i ≡ r → ⊥) → Canonical (at v i l)
-other-canonical w v r k f hw h i l hi hl ne = subst (λ y. y < P) (sym (row-other w v r k f h i l hi hl ne)) (hw .canonical i l hi hl)
+pub other-canonical : (w v : List ℕ) (r k : ℕ) (f : ℕ → ℕ) → Working w → RowSet w v r k f → (i l : ℕ) → i < 12
+    → l < 24 → (i ≡ r → ⊥) → Canonical (at v i l)
+other-canonical w v r k f hw h i l hi hl ne =
+    subst (λ y. y < P) (sym (row-other w v r k f h i l hi hl ne)) (hw .canonical i l hi hl)
 
 -- ---- a whole row
-pub row-working : (w v : List ℕ) (r : ℕ) (f : ℕ → ℕ) → Working w → ((l : ℕ) → l < 24 → Canonical (f l)) → RowSet w v r 24 f → Working v
+pub row-working : (w v : List ℕ) (r : ℕ) (f : ℕ → ℕ) → Working w → ((l : ℕ) → l < 24 → Canonical (f l))
+    → RowSet w v r 24 f → Working v
 row-working w v r f hw hf h = record { size = h .size ∙ hw .size; canonical = low }
   where
     low : (i l : ℕ) → i < 12 → l < 24 → Canonical (at v i l)
@@ -69,13 +79,17 @@ added-lt w r j c l = mod-lt (at w r l + mul c (at w j l)) (omega arith)
 pub scaled-lt : (w : List ℕ) (r c l : ℕ) → scaledRow w r c l < P
 scaled-lt w r c l = mod-lt (c * at w r l) (omega arith)
 
-pub added-keeps : (w v : List ℕ) (r j c : ℕ) → j < 12 → (r ≡ j → ⊥) → RowSet w v r 24 (addedRow w r j c) → (z : ℕ → ℕ) → Zeros v z → Zeros w z
+pub added-keeps : (w v : List ℕ) (r j c : ℕ) → j < 12 → (r ≡ j → ⊥) → RowSet w v r 24 (addedRow w r j c)
+    → (z : ℕ → ℕ) → Zeros v z → Zeros w z
 unfolding timesColumn
 added-keeps w v r j c hj ne h =
     added P big 12 24 (at w) (at v) r (row-other w v r 24 (addedRow w r j c) h) j c hj (λ e. ne (sym e))
-    (λ l hl. ap (λ y. y % P) (h .done l hl) ∙ mod-mod (at w r l + mul c (at w j l)) P ∙ add-mod-mod (at w r l) (c * at w j l) P)
+    (λ l hl. ap (λ y. y % P) (h .done l hl)
+    ∙ mod-mod (at w r l + mul c (at w j l)) P
+    ∙ add-mod-mod (at w r l) (c * at w j l) P)
 
-pub scaled-keeps : (w v : List ℕ) (r c d : ℕ) → mul d c ≡ 1 → RowSet w v r 24 (scaledRow w r c) → (z : ℕ → ℕ) → Zeros v z → Zeros w z
+pub scaled-keeps : (w v : List ℕ) (r c d : ℕ) → mul d c ≡ 1 → RowSet w v r 24 (scaledRow w r c) → (z : ℕ → ℕ)
+    → Zeros v z → Zeros w z
 unfolding timesColumn
 scaled-keeps w v r c d unit h =
     scaled P big 12 24 (at w) (at v) r (row-other w v r 24 (scaledRow w r c) h) c d unit

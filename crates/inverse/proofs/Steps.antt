@@ -21,7 +21,8 @@ pub reduces-trans : (u w v : List ℕ) (i j : ℕ) → Reduces u w i → Reduces
 reduces-trans u w v i j g h = record { reduced = h .reduced; keeps = λ z q. g .keeps z (h .keeps z q) }
 
 -- a row that keeps its first j words
-keep : (w v : List ℕ) (j r : ℕ) (f : ℕ → ℕ) → j ≤ 24 → Reduced w j → ((l : ℕ) → l < 24 → Canonical (f l)) → ((l : ℕ) → l < j → f l ≡ identity r l) → RowSet w v r 24 f → Reduced v j
+keep : (w v : List ℕ) (j r : ℕ) (f : ℕ → ℕ) → j ≤ 24 → Reduced w j → ((l : ℕ) → l < 24 → Canonical (f l))
+    → ((l : ℕ) → l < j → f l ≡ identity r l) → RowSet w v r 24 f → Reduced v j
 keep w v j r f hj h low same set = record { working = row-working w v r f (h .working) low set; ident = id }
   where
     id : (i l : ℕ) → i < 12 → l < j → at v i l ≡ identity i l
@@ -40,24 +41,35 @@ adds-none w r j c l d e h z =
     ∙ mod-eq-of-lt h
 
 -- ---- the pivot
-pub pivot-more : (w : List ℕ) (j r : ℕ) → ((i : ℕ) → j ≤ i → i < r → at w i j ≡ 0) → at w r j ≡ 0 → (i : ℕ) → j ≤ i → i < r + 1 → at w i j ≡ 0
+pub pivot-more : (w : List ℕ) (j r : ℕ) → ((i : ℕ) → j ≤ i → i < r → at w i j ≡ 0) → at w r j ≡ 0 → (i : ℕ) → j ≤ i
+    → i < r + 1 → at w i j ≡ 0
 pivot-more w j r h e i a b = go (ℕ-discrete i r)
   where
     go : Dec (i ≡ r) → at w i j ≡ 0
     go (yes q) = ap (λ y. at w y j) q ∙ e
     go (no q) = h i a (omega arith)
 
-pub lifted-same : (w : List ℕ) (j r : ℕ) → r < 12 → Reduced w j → Pivot w j r → j ≡ r → Reduces w w j × (at w j j ≡ 0 → ⊥)
+pub lifted-same : (w : List ℕ) (j r : ℕ) → r < 12 → Reduced w j → Pivot w j r → j ≡ r
+    → Reduces w w j × (at w j j ≡ 0 → ⊥)
 lifted-same w j r hr h p e = (reduces-none w j h, λ z. p .found hr (ap (λ y. at w y j) (sym e) ∙ z))
 
-pub lifted : (w v : List ℕ) (j r : ℕ) → j < 12 → r < 12 → Reduced w j → Pivot w j r → (j ≡ r → ⊥) → RowSet w v j 24 (addedRow w j r 1) → Reduces w v j × (at v j j ≡ 0 → ⊥)
-lifted w v j r hj hr h p ne set = (record { reduced = keep w v j j (addedRow w j r 1) (omega arith) h (λ l g. added-lt w j r 1 l) same set; keeps = added-keeps w v j r 1 hr ne set }, non)
+pub lifted : (w v : List ℕ) (j r : ℕ) → j < 12 → r < 12 → Reduced w j → Pivot w j r → (j ≡ r → ⊥)
+    → RowSet w v j 24 (addedRow w j r 1) → Reduces w v j × (at v j j ≡ 0 → ⊥)
+lifted w v j r hj hr h p ne set = (
+  record {
+    reduced = keep w v j j (addedRow w j r 1) (omega arith) h (λ l g. added-lt w j r 1 l) same set;
+    keeps = added-keeps w v j r 1 hr ne set;
+  },
+  non,
+)
   where
     after : j < r
     after = omega (arith, p .from, ne)
 
     same : (l : ℕ) → l < j → addedRow w j r 1 l ≡ identity j l
-    same l g = adds-none w j r 1 l (identity j l) (h .ident j l hj g) (identity-lt P big j l) (h .ident r l hr g ∙ identity-other r l (λ e. omega (arith, after)))
+    same l g =
+        adds-none w j r 1 l (identity j l) (h .ident j l hj g) (identity-lt P big j l)
+        (h .ident r l hr g ∙ identity-other r l (λ e. omega (arith, after)))
 
     value : at v j j ≡ at w r j
     value =
@@ -71,8 +83,15 @@ lifted w v j r hj hr h p ne set = (record { reduced = keep w v j j (addedRow w j
     non e = p .found hr (sym value ∙ e)
 
 -- ---- a row divided by its pivot
-pub divided : (w v : List ℕ) (j c : ℕ) → j < 12 → Reduced w j → (at w j j ≡ 0 → ⊥) → c ≡ inverse (at w j j) → RowSet w v j 24 (scaledRow w j c) → Reduces w v j × (at v j j ≡ 1)
-divided w v j c hj h ne e set = (record { reduced = keep w v j j (scaledRow w j c) (omega arith) h (λ l g. scaled-lt w j c l) same set; keeps = scaled-keeps w v j c (at w j j) unit set }, set .done j (omega arith) ∙ ap (λ y. y % P) (mul-comm c (at w j j)) ∙ unit)
+pub divided : (w v : List ℕ) (j c : ℕ) → j < 12 → Reduced w j → (at w j j ≡ 0 → ⊥) → c ≡ inverse (at w j j)
+    → RowSet w v j 24 (scaledRow w j c) → Reduces w v j × (at v j j ≡ 1)
+divided w v j c hj h ne e set = (
+  record {
+    reduced = keep w v j j (scaledRow w j c) (omega arith) h (λ l g. scaled-lt w j c l) same set;
+    keeps = scaled-keeps w v j c (at w j j) unit set;
+  },
+  set .done j (omega arith) ∙ ap (λ y. y % P) (mul-comm c (at w j j)) ∙ unit,
+)
   where
     unit : mul (at w j j) c ≡ 1
     unit = ap (mul (at w j j)) e ∙ inverse-law (at w j j) (omega arith) (h .working .canonical j j hj (omega arith))
@@ -102,8 +121,14 @@ cleared-same w v j i h e = record { reduces = h .reduces; one = h .one; zeros = 
     lt : (k : ℕ) → k < i + 1 → (k ≡ j → ⊥) → k < i
     lt k l ne = omega arith
 
-pub cleared-more : (w v u : List ℕ) (j i : ℕ) → j < 12 → i < 12 → Cleared w v j i → (i ≡ j → ⊥) → RowSet v u i 24 (addedRow v i j (neg (at v i j))) → Cleared w u j (i + 1)
-cleared-more w v u j i hj hi h ne set = record { reduces = reduces-trans w v u j j (h .reduces) next; one = row-other v u i 24 f set j j hj (omega arith) (λ e. ne (sym e)) ∙ h .one; zeros = zeros' }
+pub cleared-more : (w v u : List ℕ) (j i : ℕ) → j < 12 → i < 12 → Cleared w v j i → (i ≡ j → ⊥)
+    → RowSet v u i 24 (addedRow v i j (neg (at v i j))) → Cleared w u j (i + 1)
+cleared-more w v u j i hj hi h ne set =
+    record {
+      reduces = reduces-trans w v u j j (h .reduces) next;
+      one = row-other v u i 24 f set j j hj (omega arith) (λ e. ne (sym e)) ∙ h .one;
+      zeros = zeros';
+    }
   where
     c : ℕ
     c = neg (at v i j)
@@ -115,13 +140,22 @@ cleared-more w v u j i hj hi h ne set = record { reduces = reduces-trans w v u j
     reduced = h .reduces .reduced
 
     same : (l : ℕ) → l < j → f l ≡ identity i l
-    same l b = adds-none v i j c l (identity i l) (reduced .ident i l hi b) (identity-lt P big i l) (reduced .ident j l hj b ∙ identity-other j l (λ e. omega arith))
+    same l b =
+        adds-none v i j c l (identity i l) (reduced .ident i l hi b) (identity-lt P big i l)
+        (reduced .ident j l hj b ∙ identity-other j l (λ e. omega arith))
 
     next : Reduces v u j
-    next = record { reduced = keep v u j i f (omega arith) reduced (λ l b. added-lt v i j c l) same set; keeps = added-keeps v u i j c hj ne set }
+    next =
+        record {
+          reduced = keep v u j i f (omega arith) reduced (λ l b. added-lt v i j c l) same set;
+          keeps = added-keeps v u i j c hj ne set;
+        }
 
     at-i : at u i j ≡ 0
-    at-i = set .done j (omega arith) ∙ ap (λ y. add (at v i j) (mul c y)) (h .one) ∙ plus-neg (at v i j) (reduced .working .canonical i j hi (omega arith))
+    at-i =
+        set .done j (omega arith)
+        ∙ ap (λ y. add (at v i j) (mul c y)) (h .one)
+        ∙ plus-neg (at v i j) (reduced .working .canonical i j hi (omega arith))
 
     zeros' : (k : ℕ) → k < i + 1 → (k ≡ j → ⊥) → at u k j ≡ 0
     zeros' k b kj = go (ℕ-discrete k i)
@@ -131,7 +165,8 @@ cleared-more w v u j i hj hi h ne set = record { reduces = reduces-trans w v u j
         go (no e) = row-other v u i 24 f set k j (omega arith) (omega arith) e ∙ h .zeros k (omega arith) kj
 
 pub cleared-all : (w v : List ℕ) (j : ℕ) → j < 12 → Cleared w v j 12 → Reduces w v (j + 1)
-cleared-all w v j hj h = record { reduced = record { working = h .reduces .reduced .working; ident = id }; keeps = h .reduces .keeps }
+cleared-all w v j hj h =
+    record { reduced = record { working = h .reduces .reduced .working; ident = id }; keeps = h .reduces .keeps }
   where
     id : (i l : ℕ) → i < 12 → l < j + 1 → at v i l ≡ identity i l
     id i l hi hl = go (ℕ-discrete l j) (ℕ-discrete i j)

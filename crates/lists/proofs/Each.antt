@@ -1,4 +1,5 @@
--- What a function makes of each number of a list, one after the other: of a list that is joined, and by its cells where it makes c of each.
+-- What a function makes of each number of a list, one after the other: of a list that is joined, and by its cells where
+-- it makes c of each.
 -- Assumes nothing.
 use mathlib.Core.Path.{_≡_, refl, sym, ap, _∙_}
 use mathlib.Core.List.{List, [], _∷_, _++_, append-assoc}
@@ -14,7 +15,8 @@ unfolding each
 each-append f [] t = refl
 each-append f (x ∷ s) t = ap (λ l. f x ++ l) (each-append f s t) ∙ sym (append-assoc (f x) (each f s) (each f t))
 
-pub length-each : (c : ℕ) (f : ℕ → List ℕ) → ((x : ℕ) → length (f x) ≡ c) → (s : List ℕ) → length (each f s) ≡ c * length s
+pub length-each : (c : ℕ) (f : ℕ → List ℕ) → ((x : ℕ) → length (f x) ≡ c) → (s : List ℕ)
+    → length (each f s) ≡ c * length s
 unfolding each
 length-each c f h [] = omega arith
 length-each c f h (x ∷ s) = length-append (f x) (each f s) ∙ omega (arith, h x, length-each c f h s)
@@ -28,4 +30,6 @@ cell-each c f h (x ∷ s) zero b l m =
     ap (cell (f x ++ each f s)) e ∙ List·getD-append (f x) (each f s) 0 b (omega (arith, h x))
 cell-each c f h (x ∷ s) (suc j) b l m =
     let e : c * suc j + b ≡ length (f x) + (c * j + b) = omega (arith, h x) in
-    ap (cell (f x ++ each f s)) e ∙ getD-append-add (f x) (each f s) (c * j + b) 0 ∙ cell-each c f h s j b (le-of-suc-le-suc l) m
+    ap (cell (f x ++ each f s)) e
+    ∙ getD-append-add (f x) (each f s) (c * j + b) 0
+    ∙ cell-each c f h s j b (le-of-suc-le-suc l) m

@@ -1,4 +1,4 @@
--- Finite sums.
+-- Finite sums, by induction: they add, take factors out, swap and split, and terms that are 0 may be left out.
 -- Assumes nothing.
 use Prim.Native.Nat.{ℕ, zero, suc, _+_, _*_, _<_, _≤_}
 use mathlib.Core.Path.{_≡_, refl, sym, ap, ap₂, _∙_}
@@ -46,7 +46,8 @@ sum-mul-r (suc n) c f = omega (arith, sum-mul-r n c f)
 pub sum-swap : (n k : ℕ) (f : ℕ → ℕ → ℕ) → sum n (λ i. sum k (λ j. f i j)) ≡ sum k (λ j. sum n (λ i. f i j))
 unfolding sum
 sum-swap zero k f = sym (sum-0 k)
-sum-swap (suc n) k f = ap (λ y. y + sum k (λ j. f n j)) (sum-swap n k f) ∙ sym (sum-add k (λ j. sum n (λ i. f i j)) (λ j. f n j))
+sum-swap (suc n) k f =
+    ap (λ y. y + sum k (λ j. f n j)) (sum-swap n k f) ∙ sym (sum-add k (λ j. sum n (λ i. f i j)) (λ j. f n j))
 
 -- a bound on each term bounds the sum
 pub sum-le : (n b : ℕ) (f : ℕ → ℕ) → ((i : ℕ) → i < n → f i ≤ b) → sum n f ≤ n * b

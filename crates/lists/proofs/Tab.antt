@@ -6,7 +6,8 @@ use Prim.Native.Nat.{ℕ, zero, suc, _+_, _-_, _<_, _≤_}
 use native.Mathlib.Nat.{zero-add, suc-add, add-zero, le-of-suc-le-suc}
 use native.Mathlib.Numerals.{add-one}
 use native.Mathlib.Omega.{arith}
-use lib.ListN.{length, getD, take, drop, set, take-append-drop, length-append, length-drop, drop-of-length-le, List·getD-append}
+use lib.ListN.{length, getD, take, drop, set, take-append-drop, length-append}
+use lib.ListN.{length-drop, drop-of-length-le, List·getD-append}
 use lib.Seq.{drop-cons, append-snoc, set-append-seam, getD-append-add, ext-getD, getD-drop, getD-take, length-take-le}
 use Rattle.lists.specs.Lists.{tab, cell}
 
@@ -24,11 +25,14 @@ cell-tab (suc n) f (suc i) h = cell-tab n (λ j. f (suc j)) i (le-of-suc-le-suc 
 pub tab-ext : (n : ℕ) (f g : ℕ → ℕ) → ((i : ℕ) → i < n → f i ≡ g i) → tab n f ≡ tab n g
 unfolding tab
 tab-ext zero f g h = refl
-tab-ext (suc n) f g h = ap₂ _∷_ (h 0 (omega arith)) (tab-ext n (λ i. f (suc i)) (λ i. g (suc i)) (λ i l. h (suc i) (omega arith)))
+tab-ext (suc n) f g h =
+    ap₂ _∷_ (h 0 (omega arith)) (tab-ext n (λ i. f (suc i)) (λ i. g (suc i)) (λ i l. h (suc i) (omega arith)))
 
 -- a list of n numbers is the one with its cells
 pub tab-cell : (n : ℕ) (s : List ℕ) → length s ≡ n → tab n (cell s) ≡ s
-tab-cell n s e = ext-getD 0 (tab n (cell s)) s (length-tab n (cell s) ∙ sym e) (λ i h. cell-tab n (cell s) i (omega (arith, length-tab n (cell s))))
+tab-cell n s e =
+    ext-getD 0 (tab n (cell s)) s (length-tab n (cell s) ∙ sym e)
+    (λ i h. cell-tab n (cell s) i (omega (arith, length-tab n (cell s))))
 
 -- a list with the cells of f is f's
 pub tab-unique : (n : ℕ) (s : List ℕ) (f : ℕ → ℕ) → length s ≡ n → ((i : ℕ) → i < n → cell s i ≡ f i) → s ≡ tab n f
@@ -39,7 +43,10 @@ unfolding tab
 tab-add zero m f = ap (λ k. tab k f) (zero-add m) ∙ tab-ext m f (λ i. f (0 + i)) (λ i h. ap f (sym (zero-add i)))
 tab-add (suc n) m f =
     ap (λ k. tab k f) (suc-add n m)
-    ∙ ap (λ l. f 0 ∷ l) (tab-add n m (λ i. f (suc i)) ∙ ap (λ l. tab n (λ i. f (suc i)) ++ l) (tab-ext m (λ i. f (suc (n + i))) (λ i. f (suc n + i)) (λ i h. ap f (sym (suc-add n i)))))
+    ∙ ap (λ l. f 0 ∷ l)
+    (tab-add n m (λ i. f (suc i))
+    ∙ ap (λ l. tab n (λ i. f (suc i)) ++ l)
+    (tab-ext m (λ i. f (suc (n + i))) (λ i. f (suc n + i)) (λ i h. ap f (sym (suc-add n i)))))
 
 pub tab-suc : (n : ℕ) (f : ℕ → ℕ) → tab (suc n) f ≡ tab n f ++ (f n ∷ [])
 unfolding tab
@@ -59,7 +66,8 @@ pub length-filled : (n : ℕ) (f : ℕ → ℕ) (s : List ℕ) → n ≤ length 
 unfolding filled
 length-filled n f s h = length-append (tab n f) (drop n s) ∙ omega (arith, length-tab n f, length-drop n s)
 
-pub filled-more : (f : ℕ → ℕ) (i v : ℕ) (s l : List ℕ) → i < length s → v ≡ f i → l ≡ filled i f s → set l i v ≡ filled (i + 1) f s
+pub filled-more : (f : ℕ → ℕ) (i v : ℕ) (s l : List ℕ) → i < length s → v ≡ f i → l ≡ filled i f s
+    → set l i v ≡ filled (i + 1) f s
 unfolding filled
 filled-more f i v s l h e q =
     ap (λ x. set x i v) (q ∙ ap (λ x. tab i f ++ x) (drop-cons s i 0 h))
@@ -94,9 +102,12 @@ unfolding filled
 filled-before n f s i h = List·getD-append (tab n f) (drop n s) 0 i (omega (arith, length-tab n f)) ∙ cell-tab n f i h
 
 -- a list whose first cells are right already
-pub filled-same : (n : ℕ) (f : ℕ → ℕ) (s : List ℕ) → n ≤ length s → ((i : ℕ) → i < n → cell s i ≡ f i) → s ≡ filled n f s
+pub filled-same : (n : ℕ) (f : ℕ → ℕ) (s : List ℕ) → n ≤ length s → ((i : ℕ) → i < n → cell s i ≡ f i)
+    → s ≡ filled n f s
 unfolding filled
-filled-same n f s h e = sym (take-append-drop n s) ∙ ap (λ l. l ++ drop n s) (tab-unique n (take n s) f (length-take-le n s h) (λ i l. getD-take n s i 0 l ∙ e i l))
+filled-same n f s h e =
+    sym (take-append-drop n s)
+    ∙ ap (λ l. l ++ drop n s) (tab-unique n (take n s) f (length-take-le n s h) (λ i l. getD-take n s i 0 l ∙ e i l))
 
 -- ---- a part of a list
 pub length-part : (l : List ℕ) (base size : ℕ) → base + size ≤ length l → length (take size (drop base l)) ≡ size

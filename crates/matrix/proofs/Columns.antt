@@ -3,7 +3,9 @@
 use Prim.Native.Nat.{ℕ, zero, suc, _+_, _*_, _/_, _%_, _^_, _<_}
 use mathlib.Core.Path.{_≡_, refl, sym, ap, ap₂, _∙_, subst}
 use mathlib.Core.Logic.{_⊎_, inl, inr, ⊎-elim}
-use native.Mathlib.Nat.{le-suc-iff, mod-lt, mul-zero, mod-eq-of-lt, pow-zero, pow-suc, pow-succ', mod-add-div, add-mul-mod-self-left, add-mul-div-left, div-eq-of-lt, zero-mod, zero-add, zero-div, mul-le-mul-left, div-lt-iff-lt-mul}
+use native.Mathlib.Nat.{le-suc-iff, mod-lt, mul-zero, mod-eq-of-lt, pow-zero, pow-suc, pow-succ'}
+use native.Mathlib.Nat.{mod-add-div, add-mul-mod-self-left, add-mul-div-left, div-eq-of-lt}
+use native.Mathlib.Nat.{zero-mod, zero-add, zero-div, mul-le-mul-left, div-lt-iff-lt-mul}
 use native.Mathlib.Decide.{ℕ-discrete}
 use native.Mathlib.Omega.{arith}
 use Rattle.field.proofs.Pigeon.{pigeon, put, Inj}
@@ -14,13 +16,18 @@ pub find : (F : ℕ → ℕ) (t n : ℕ) → ((v : ℕ) × (v < n) × (F v ≡ t
 find F t zero = inr (λ k h e. absurd (omega arith))
 find F t (suc n) = go (ℕ-discrete (F n) t) (find F t n)
   where
-    go : Dec (F n ≡ t) → ((v : ℕ) × (v < n) × (F v ≡ t)) ⊎ ((v : ℕ) → v < n → F v ≡ t → ⊥) → ((v : ℕ) × (v < suc n) × (F v ≡ t)) ⊎ ((v : ℕ) → v < suc n → F v ≡ t → ⊥)
+    go : Dec (F n ≡ t) → ((v : ℕ) × (v < n) × (F v ≡ t)) ⊎ ((v : ℕ) → v < n → F v ≡ t → ⊥)
+        → ((v : ℕ) × (v < suc n) × (F v ≡ t)) ⊎ ((v : ℕ) → v < suc n → F v ≡ t → ⊥)
     go (yes e) r = inl (n, omega arith, e)
     go (no e) (inl r) = inl (r .0, omega arith, r .2)
-    go (no e) (inr f) = inr (λ k h q. ⊎-elim (λ (l : k < n). f k l q) (λ (l : suc k ≡ suc n). e (ap F (omega arith) ∙ q)) (le-suc-iff .0 h))
+    go (no e) (inr f) =
+        inr
+        (λ k h q. ⊎-elim (λ (l : k < n). f k l q) (λ (l : suc k ≡ suc n). e (ap F (omega arith) ∙ q)) (le-suc-iff .0 h))
 
 onto : (n : ℕ) (F : ℕ → ℕ) → ((i : ℕ) → i < n → F i < n) → Inj n F → (t : ℕ) → t < n → (v : ℕ) × (v < n) × (F v ≡ t)
-onto n F low inj t ht = ⊎-elim (λ (r : (v : ℕ) × (v < n) × (F v ≡ t)). r) (λ (f : (v : ℕ) → v < n → F v ≡ t → ⊥). absurd (pigeon n h h-low (h-inj f))) (find F t n)
+onto n F low inj t ht =
+    ⊎-elim (λ (r : (v : ℕ) × (v < n) × (F v ≡ t)). r)
+    (λ (f : (v : ℕ) → v < n → F v ≡ t → ⊥). absurd (pigeon n h h-low (h-inj f))) (find F t n)
   where
     h : ℕ → ℕ
     h i = put (ℕ-discrete i n) t (F i)
@@ -56,7 +63,9 @@ dec m v (suc i) = dec m (v / m) i
 pub enc-zeros : (m n : ℕ) (x : ℕ → ℕ) → ((i : ℕ) → i < n → x i ≡ 0) → enc m n x ≡ 0
 unfolding enc
 enc-zeros m zero x h = refl
-enc-zeros m (suc n) x h = ap₂ (λ a b. a + m * b) (h 0 (omega arith)) (enc-zeros m n (λ i. x (suc i)) (λ i l. h (suc i) (omega arith))) ∙ ap (λ y. 0 + y) (mul-zero m)
+enc-zeros m (suc n) x h =
+    ap₂ (λ a b. a + m * b) (h 0 (omega arith)) (enc-zeros m n (λ i. x (suc i)) (λ i l. h (suc i) (omega arith)))
+    ∙ ap (λ y. 0 + y) (mul-zero m)
 
 pub dec-zero : (m i : ℕ) → dec m 0 i ≡ 0
 unfolding dec
@@ -67,7 +76,9 @@ module _ (m : ℕ) (big : 1 < m) where
   pub enc-lt : (n : ℕ) (x : ℕ → ℕ) → ((i : ℕ) → i < n → x i < m) → enc m n x < m ^ n
   unfolding enc
   enc-lt zero x h = omega (arith, pow-zero m)
-  enc-lt (suc n) x h = grow (enc m n (λ i. x (suc i))) (m ^ n) (enc-lt n (λ i. x (suc i)) (λ i l. h (suc i) (omega arith))) (pow-succ' m n)
+  enc-lt (suc n) x h =
+      grow (enc m n (λ i. x (suc i))) (m ^ n) (enc-lt n (λ i. x (suc i)) (λ i l. h (suc i) (omega arith)))
+      (pow-succ' m n)
     where
       grow : (e p : ℕ) → e < p → m ^ suc n ≡ m * p → x 0 + m * e < m ^ suc n
       grow e p l q = omega (arith, q, h 0 (omega arith), mul-le-mul-left m l)
@@ -80,8 +91,10 @@ module _ (m : ℕ) (big : 1 < m) where
   pub dec-enc : (n : ℕ) (x : ℕ → ℕ) → ((i : ℕ) → i < n → x i < m) → (i : ℕ) → i < n → dec m (enc m n x) i ≡ x i
   unfolding enc dec
   dec-enc zero x h i l = absurd (omega arith)
-  dec-enc (suc n) x h zero l = add-mul-mod-self-left (x 0) m (enc m n (λ i. x (suc i))) ∙ mod-eq-of-lt (h 0 (omega arith))
-  dec-enc (suc n) x h (suc i) l = ap (λ v. dec m v i) q ∙ dec-enc n (λ i. x (suc i)) (λ i l. h (suc i) (omega arith)) i (omega arith)
+  dec-enc (suc n) x h zero l =
+      add-mul-mod-self-left (x 0) m (enc m n (λ i. x (suc i))) ∙ mod-eq-of-lt (h 0 (omega arith))
+  dec-enc (suc n) x h (suc i) l =
+      ap (λ v. dec m v i) q ∙ dec-enc n (λ i. x (suc i)) (λ i l. h (suc i) (omega arith)) i (omega arith)
     where
       e : ℕ
       e = enc m n (λ k. x (suc k))
@@ -93,7 +106,11 @@ module _ (m : ℕ) (big : 1 < m) where
   pub dec-inj : (n v w : ℕ) → v < m ^ n → w < m ^ n → ((i : ℕ) → i < n → dec m v i ≡ dec m w i) → v ≡ w
   unfolding dec
   dec-inj zero v w a b h = omega (arith, pow-zero m)
-  dec-inj (suc n) v w a b h = sym (mod-add-div v m) ∙ ap₂ (λ r q. r + m * q) (h 0 (omega arith)) (dec-inj n (v / m) (w / m) (low v a) (low w b) (λ i l. h (suc i) (omega arith))) ∙ mod-add-div w m
+  dec-inj (suc n) v w a b h =
+      sym (mod-add-div v m)
+      ∙ ap₂ (λ r q. r + m * q) (h 0 (omega arith))
+      (dec-inj n (v / m) (w / m) (low v a) (low w b) (λ i l. h (suc i) (omega arith)))
+      ∙ mod-add-div w m
     where
       low : (u : ℕ) → u < m ^ suc n → u / m < m ^ n
       low u g = div-lt-iff-lt-mul {k = m} {x = u} {y = m ^ n} (omega arith) .1 (subst (λ y. u < y) (pow-suc m n) g)
@@ -113,15 +130,28 @@ module _ (m : ℕ) (big : 1 < m) where
 
     F-inj : Inj (m ^ n) F
     unfolding F
-    F-inj v w hv hw e = dec-inj n v w hv hw (λ i l. sym (mod-eq-of-lt (dec-lt v i)) ∙ inj (dec m v) (dec m w) same i l ∙ mod-eq-of-lt (dec-lt w i))
+    F-inj v w hv hw e =
+        dec-inj n v w hv hw
+        (λ i l. sym (mod-eq-of-lt (dec-lt v i)) ∙ inj (dec m v) (dec m w) same i l ∙ mod-eq-of-lt (dec-lt w i))
       where
         same : Same m n (row n b (dec m v)) (row n b (dec m w))
-        same i l = sym (dec-enc n (image n b v) (image-lt n b v) i l) ∙ ap (λ u. dec m u i) e ∙ dec-enc n (image n b w) (image-lt n b w) i l
+        same i l =
+            sym (dec-enc n (image n b v) (image-lt n b v) i l)
+            ∙ ap (λ u. dec m u i) e
+            ∙ dec-enc n (image n b w) (image-lt n b w) i l
 
     -- its cells are below m
     pub reach : (y : ℕ → ℕ) → (x : ℕ → ℕ) × Same m n (row n b x) y × ((i : ℕ) → x i < m)
     unfolding F
-    reach y = (dec m (r .0), (λ i l. sym (dec-enc n (image n b (r .0)) (image-lt n b (r .0)) i l) ∙ ap (λ u. dec m u i) (r .2) ∙ dec-enc n (λ k. y k % m) (λ k g. mod-lt (y k) (omega arith)) i l), dec-lt (r .0))
+    reach y = (
+      dec m (r .0),
+      (λ i l. sym (dec-enc n (image n b (r .0)) (image-lt n b (r .0)) i l)
+          ∙ ap (λ u. dec m u i) (r .2)
+          ∙ dec-enc n (λ k. y k % m) (λ k g. mod-lt (y k) (omega arith)) i l),
+      dec-lt (r .0),
+    )
       where
         r : (v : ℕ) × (v < m ^ n) × (F v ≡ enc m n (λ k. y k % m))
-        r = onto (m ^ n) F (λ v h. enc-lt n (image n b v) (image-lt n b v)) F-inj (enc m n (λ k. y k % m)) (enc-lt n (λ k. y k % m) (λ k g. mod-lt (y k) (omega arith)))
+        r =
+            onto (m ^ n) F (λ v h. enc-lt n (image n b v) (image-lt n b v)) F-inj (enc m n (λ k. y k % m))
+            (enc-lt n (λ k. y k % m) (λ k g. mod-lt (y k) (omega arith)))

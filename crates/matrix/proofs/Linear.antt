@@ -1,4 +1,4 @@
--- A matrix times a column: it is linear, a product of matrices is one after the other, and the identity changes nothing.
+-- A matrix times a column: it is linear, a product of matrices is one after the other, the identity changes nothing.
 -- First for whole sums, compared modulo any m; then for the definitions, which reduce by p.
 -- Assumes nothing.
 use Prim.Native.Nat.{ℕ, _+_, _*_, _%_, _<_}
@@ -39,12 +39,15 @@ rows n a b i k = sum n (λ j. a i j * b j k)
 
 pub row-row : (n k : ℕ) (a b : ℕ → ℕ → ℕ) (x : ℕ → ℕ) (i : ℕ) → row n a (row k b x) i ≡ row k (rows n a b) x i
 row-row n k a b x i =
-    sum-ext n (λ j. a i j * sum k (λ l. b j l * x l)) (λ j. sum k (λ l. a i j * (b j l * x l))) (λ j h. sym (sum-mul k (a i j) (λ l. b j l * x l)))
+    sum-ext n (λ j. a i j * sum k (λ l. b j l * x l)) (λ j. sum k (λ l. a i j * (b j l * x l)))
+    (λ j h. sym (sum-mul k (a i j) (λ l. b j l * x l)))
     ∙ sum-swap n k (λ j l. a i j * (b j l * x l))
     ∙ sum-ext k (λ l. sum n (λ j. a i j * (b j l * x l))) (λ l. sum n (λ j. a i j * b j l) * x l) step
   where
     step : (l : ℕ) → l < k → sum n (λ j. a i j * (b j l * x l)) ≡ sum n (λ j. a i j * b j l) * x l
-    step l h = sum-ext n (λ j. a i j * (b j l * x l)) (λ j. a i j * b j l * x l) (λ j g. sym (mul-assoc (a i j) (b j l) (x l))) ∙ sum-mul-r n (x l) (λ j. a i j * b j l)
+    step l h =
+        sum-ext n (λ j. a i j * (b j l * x l)) (λ j. a i j * b j l * x l) (λ j g. sym (mul-assoc (a i j) (b j l) (x l)))
+        ∙ sum-mul-r n (x l) (λ j. a i j * b j l)
 
 -- column k of the identity picks column k out
 pub row-pick : (n k : ℕ) (a : ℕ → ℕ → ℕ) (i : ℕ) → k < n → row n a (λ j. identity j k) i ≡ a i k
@@ -55,12 +58,14 @@ row-pick n k a i h =
 
 pub identity-row : (n : ℕ) (x : ℕ → ℕ) (i : ℕ) → i < n → row n identity x i ≡ x i
 identity-row n x i h =
-    sum-one n i (λ j. identity i j * x j) h (λ j g ne. ap (λ y. y * x j) (identity-other i j (λ e. ne (sym e))) ∙ zero-mul (x j))
+    sum-one n i (λ j. identity i j * x j) h
+    (λ j g ne. ap (λ y. y * x j) (identity-other i j (λ e. ne (sym e))) ∙ zero-mul (x j))
     ∙ ap (λ y. y * x i) (identity-same i)
     ∙ one-mul (x i)
 
 -- what a matrix does to x + c y
-pub row-add : (n : ℕ) (a : ℕ → ℕ → ℕ) (x y : ℕ → ℕ) (c i : ℕ) → row n a (λ j. x j + c * y j) i ≡ row n a x i + c * row n a y i
+pub row-add : (n : ℕ) (a : ℕ → ℕ → ℕ) (x y : ℕ → ℕ) (c i : ℕ)
+    → row n a (λ j. x j + c * y j) i ≡ row n a x i + c * row n a y i
 row-add n a x y c i =
     sum-ext n (λ j. a i j * (x j + c * y j)) (λ j. a i j * x j + c * (a i j * y j)) (λ j l. omega arith)
     ∙ sum-add n (λ j. a i j * x j) (λ j. c * (a i j * y j))
@@ -71,10 +76,13 @@ abbrev pub Same : ℕ → ℕ → (ℕ → ℕ) → (ℕ → ℕ) → Type 0
 Same m n x y = (i : ℕ) → i < n → x i % m ≡ y i % m
 
 pub row-same : (m n : ℕ) (a : ℕ → ℕ → ℕ) (x y : ℕ → ℕ) → Same m n x y → (i : ℕ) → row n a x i % m ≡ row n a y i % m
-row-same m n a x y h i = sum-eq m n (λ j. a i j * x j) (λ j. a i j * y j) (λ j l. mul-eq m (a i j) (a i j) (x j) (y j) refl (h j l))
+row-same m n a x y h i =
+    sum-eq m n (λ j. a i j * x j) (λ j. a i j * y j) (λ j l. mul-eq m (a i j) (a i j) (x j) (y j) refl (h j l))
 
-pub same-row : (m n : ℕ) (a b : ℕ → ℕ → ℕ) (x : ℕ → ℕ) (i : ℕ) → Same m n (a i) (b i) → row n a x i % m ≡ row n b x i % m
-same-row m n a b x i h = sum-eq m n (λ j. a i j * x j) (λ j. b i j * x j) (λ j l. mul-eq m (a i j) (b i j) (x j) (x j) (h j l) refl)
+pub same-row : (m n : ℕ) (a b : ℕ → ℕ → ℕ) (x : ℕ → ℕ) (i : ℕ) → Same m n (a i) (b i)
+    → row n a x i % m ≡ row n b x i % m
+same-row m n a b x i h =
+    sum-eq m n (λ j. a i j * x j) (λ j. b i j * x j) (λ j l. mul-eq m (a i j) (b i j) (x j) (x j) (h j l) refl)
 
 pub row-zero : (m n : ℕ) (a : ℕ → ℕ → ℕ) (x : ℕ → ℕ) → ((i : ℕ) → i < n → x i % m ≡ 0) → (i : ℕ) → row n a x i % m ≡ 0
 row-zero m n a x h i =
@@ -88,11 +96,13 @@ unfolding timesColumn
 times-lt n a x i = mod-lt (row n a x i) (omega arith)
 
 -- only the cells below n count, and of them only what they are modulo p
-pub times-same : (n : ℕ) (a b : ℕ → ℕ → ℕ) (x y : ℕ → ℕ) (i : ℕ) → Same P n (a i) (b i) → Same P n x y → timesColumn n a x i ≡ timesColumn n b y i
+pub times-same : (n : ℕ) (a b : ℕ → ℕ → ℕ) (x y : ℕ → ℕ) (i : ℕ) → Same P n (a i) (b i) → Same P n x y
+    → timesColumn n a x i ≡ timesColumn n b y i
 unfolding timesColumn
 times-same n a b x y i g h = row-same P n a x y h i ∙ same-row P n a b y i g
 
-pub times-ext : (n : ℕ) (a b : ℕ → ℕ → ℕ) (x y : ℕ → ℕ) (i : ℕ) → ((j : ℕ) → j < n → a i j ≡ b i j) → ((j : ℕ) → j < n → x j ≡ y j) → timesColumn n a x i ≡ timesColumn n b y i
+pub times-ext : (n : ℕ) (a b : ℕ → ℕ → ℕ) (x y : ℕ → ℕ) (i : ℕ) → ((j : ℕ) → j < n → a i j ≡ b i j)
+    → ((j : ℕ) → j < n → x j ≡ y j) → timesColumn n a x i ≡ timesColumn n b y i
 times-ext n a b x y i g h = times-same n a b x y i (λ j l. ap (λ v. v % P) (g j l)) (λ j l. ap (λ v. v % P) (h j l))
 
 -- column k of a product is the first matrix times column k of the second
@@ -100,11 +110,14 @@ pub product-column : (n : ℕ) (a b : ℕ → ℕ → ℕ) (i k : ℕ) → produ
 unfolding product timesColumn
 product-column n a b i k = refl
 
-pub product-ext : (n : ℕ) (a a' b b' : ℕ → ℕ → ℕ) (i k : ℕ) → ((j : ℕ) → j < n → a i j ≡ a' i j) → ((j : ℕ) → j < n → b j k ≡ b' j k) → product n a b i k ≡ product n a' b' i k
-product-ext n a a' b b' i k g h = product-column n a b i k ∙ times-ext n a a' (λ j. b j k) (λ j. b' j k) i g h ∙ sym (product-column n a' b' i k)
+pub product-ext : (n : ℕ) (a a' b b' : ℕ → ℕ → ℕ) (i k : ℕ) → ((j : ℕ) → j < n → a i j ≡ a' i j)
+    → ((j : ℕ) → j < n → b j k ≡ b' j k) → product n a b i k ≡ product n a' b' i k
+product-ext n a a' b b' i k g h =
+    product-column n a b i k ∙ times-ext n a a' (λ j. b j k) (λ j. b' j k) i g h ∙ sym (product-column n a' b' i k)
 
 -- one matrix after another
-pub times-assoc : (n : ℕ) (a b : ℕ → ℕ → ℕ) (x : ℕ → ℕ) (i : ℕ) → timesColumn n a (timesColumn n b x) i ≡ timesColumn n (product n a b) x i
+pub times-assoc : (n : ℕ) (a b : ℕ → ℕ → ℕ) (x : ℕ → ℕ) (i : ℕ)
+    → timesColumn n a (timesColumn n b x) i ≡ timesColumn n (product n a b) x i
 unfolding timesColumn product
 times-assoc n a b x i =
     row-same P n a (λ j. row n b x j % P) (row n b x) (λ j l. mod-mod (row n b x j) P) i
@@ -116,7 +129,8 @@ unfolding timesColumn
 identity-times n x i h l = ap (λ v. v % P) (identity-row n x i h) ∙ mod-eq-of-lt l
 
 -- where a times b is the identity, a undoes b
-pub undo : (n : ℕ) (a b : ℕ → ℕ → ℕ) → Inverse n a b → (x : ℕ → ℕ) (i : ℕ) → i < n → x i < P → timesColumn n a (timesColumn n b x) i ≡ x i
+pub undo : (n : ℕ) (a b : ℕ → ℕ → ℕ) → Inverse n a b → (x : ℕ → ℕ) (i : ℕ) → i < n → x i < P
+    → timesColumn n a (timesColumn n b x) i ≡ x i
 unfolding Inverse
 undo n a b h x i l c =
     times-assoc n a b x i

@@ -1,4 +1,4 @@
--- Sums modulo m, and differences, with m - 1 for -1.
+-- Sums and products modulo m depend only on the rests of their parts; and differences, with m - 1 for -1.
 -- Assumes nothing.
 use Prim.Native.Nat.{ℕ, zero, suc, _+_, _*_, _-_, _%_, _<_}
 use mathlib.Core.Path.{_≡_, refl, sym, ap, ap₂, _∙_}
@@ -12,12 +12,17 @@ add-eq m a b c d p q = add-mod a c m ∙ ap₂ (λ x y. (x + y) % m) p q ∙ sym
 
 pub mul-eq : (m a b c d : ℕ) → a % m ≡ b % m → c % m ≡ d % m → (a * c) % m ≡ (b * d) % m
 mul-eq m a b c d p q =
-    sym (mul-mod-l m a c) ∙ sym (mul-mod-r m (a % m) c) ∙ ap₂ (λ x y. (x * y) % m) p q ∙ mul-mod-r m (b % m) d ∙ mul-mod-l m b d
+    sym (mul-mod-l m a c)
+    ∙ sym (mul-mod-r m (a % m) c)
+    ∙ ap₂ (λ x y. (x * y) % m) p q
+    ∙ mul-mod-r m (b % m) d
+    ∙ mul-mod-l m b d
 
 pub sum-eq : (m n : ℕ) (f g : ℕ → ℕ) → ((i : ℕ) → i < n → f i % m ≡ g i % m) → sum n f % m ≡ sum n g % m
 unfolding sum
 sum-eq m zero f g h = refl
-sum-eq m (suc n) f g h = add-eq m (sum n f) (sum n g) (f n) (g n) (sum-eq m n f g (λ i l. h i (omega arith))) (h n (omega arith))
+sum-eq m (suc n) f g h =
+    add-eq m (sum n f) (sum n g) (f n) (g n) (sum-eq m n f g (λ i l. h i (omega arith))) (h n (omega arith))
 
 module _ (m : ℕ) (big : 1 < m) where
   pub whole : (y : ℕ) → y + (m - 1) * y ≡ m * y

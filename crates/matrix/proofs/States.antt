@@ -1,4 +1,5 @@
--- States of twelve cells under a 12 × 12 matrix: their cells, and that a matrix and its inverse undo each other in both orders.
+-- States of twelve cells under a 12 × 12 matrix: their cells, and that a matrix and its inverse undo each other in both
+-- orders.
 -- Assumes nothing.
 use Prim.Native.Nat.{ℕ, _<_}
 use mathlib.Core.Path.{_≡_, refl, sym, _∙_}
@@ -22,14 +23,17 @@ times-canonical m s i h = ap-lt (cell-times m s i h) (times-lt 12 (entry m) (cel
     ap-lt : {x y : ℕ} → x ≡ y → y < P → x < P
     ap-lt e l = omega arith
 
-pub times-undo : (m n : List ℕ) → Inverse 12 (entry m) (entry n) → (s : List ℕ) → length s ≡ 12 → ((i : ℕ) → i < 12 → Canonical (cell s i)) → times m (times n s) ≡ s
+pub times-undo : (m n : List ℕ) → Inverse 12 (entry m) (entry n) → (s : List ℕ) → length s ≡ 12
+    → ((i : ℕ) → i < 12 → Canonical (cell s i)) → times m (times n s) ≡ s
 unfolding times
 times-undo m n h s e c = sym (tab-unique 12 s (timesColumn 12 (entry m) (cell (times n s))) e (λ i l. sym (same i l)))
   where
     same : (i : ℕ) → i < 12 → timesColumn 12 (entry m) (cell (times n s)) i ≡ cell s i
     same i l =
-        times-ext 12 (entry m) (entry m) (cell (times n s)) (timesColumn 12 (entry n) (cell s)) i (λ j k. refl) (λ j k. cell-times n s j k)
+        times-ext 12 (entry m) (entry m) (cell (times n s)) (timesColumn 12 (entry n) (cell s)) i (λ j k. refl)
+        (λ j k. cell-times n s j k)
         ∙ undo 12 (entry m) (entry n) h (cell s) i l (c i l)
 
-pub times-redo : (m n : List ℕ) → Inverse 12 (entry m) (entry n) → (s : List ℕ) → length s ≡ 12 → ((i : ℕ) → i < 12 → Canonical (cell s i)) → times n (times m s) ≡ s
+pub times-redo : (m n : List ℕ) → Inverse 12 (entry m) (entry n) → (s : List ℕ) → length s ≡ 12
+    → ((i : ℕ) → i < 12 → Canonical (cell s i)) → times n (times m s) ≡ s
 times-redo m n h = times-undo n m (other-side 12 (entry m) (entry n) h)

@@ -1,4 +1,5 @@
--- The permitted counts are the powers of two from 1 to 1024, and a length stands for k batches exactly where document 01 says so.
+-- The permitted counts are the powers of two from 1 to 1024, and a length stands for k batches exactly where
+-- document 01 says so.
 -- Assumes nothing.
 use mathlib.Core.Path.{_≡_, refl, ap, sym, _∙_}
 use mathlib.Core.Bool.{Bool, true, false, _&&_}
@@ -11,7 +12,8 @@ use lib.Count.{ones, ones-step, ones-cat}
 use lib.Dec.{leb, eqb}
 use lib.Pow.{pow-pos, pow-mono}
 use Rattle.lists.proofs.Bools.{and-both, and-intro}
-use Rattle.numbers.specs.Numbers.{IsPermittedTo, IsPermitted, permitted, tapWordBatches, isTapLength, traceWordBatches, isTraceLength, batchesIf}
+use Rattle.numbers.specs.Numbers.{IsPermittedTo, IsPermitted, permitted, tapWordBatches, isTapLength}
+use Rattle.numbers.specs.Numbers.{traceWordBatches, isTraceLength, batchesIf}
 use Rattle.numbers.specs.declared.BatchCount.{BatchCount}
 use Rattle.numbers.specs.declared.BatchCount.the-variants.{Permitted, Refused}
 
@@ -27,7 +29,8 @@ none (suc d) k h e =
     let q : k / 2 < 2 ^ d = omega (arith, pow-suc 2 d) in
     omega (arith, none d (k / 2) q (omega arith))
 
-power-step : (d k : ℕ) → ones k ≡ 1 → k < 2 ^ suc d → (ones (k / 2) ≡ 1 → (j : ℕ) × (j < d) × (k / 2 ≡ 2 ^ j)) → (k % 2 ≡ 0) ⊎ (k % 2 ≡ 1) → (j : ℕ) × (j < suc d) × (k ≡ 2 ^ j)
+power-step : (d k : ℕ) → ones k ≡ 1 → k < 2 ^ suc d → (ones (k / 2) ≡ 1 → (j : ℕ) × (j < d) × (k / 2 ≡ 2 ^ j))
+    → (k % 2 ≡ 0) ⊎ (k % 2 ≡ 1) → (j : ℕ) × (j < suc d) × (k ≡ 2 ^ j)
 power-step d k e h ih (inl z) =
     let s = ones-step k in
     let t = ih (omega arith) in
@@ -77,28 +80,38 @@ module _ (most : ℕ) where
   permitted-complete k p = simp (le-leb 1 k (p .low), le-leb k most (p .high), eq-eqb (ones k) 1 (p .one-bit))
 
   -- a list of 12k + 4 words, k permitted, and no other, passes
-  pub tap-length-sound : (n : ℕ) → isTapLength most n ≡ true → (n ≡ 12 * tapWordBatches n + 4) × IsPermittedTo most (tapWordBatches n)
+  pub tap-length-sound : (n : ℕ) → isTapLength most n ≡ true
+      → (n ≡ 12 * tapWordBatches n + 4) × IsPermittedTo most (tapWordBatches n)
   tap-length-sound n e =
       let s = and-both (eqb (n % 12) 4) (permitted most (n / 12)) e in
       (omega (arith, eqb-true (n % 12) 4 (s .0)), permitted-sound (n / 12) (s .1))
 
-  pub tap-length-complete : (n k : ℕ) → n ≡ 12 * k + 4 → IsPermittedTo most k → (isTapLength most n ≡ true) × (tapWordBatches n ≡ k)
+  pub tap-length-complete : (n k : ℕ) → n ≡ 12 * k + 4 → IsPermittedTo most k
+      → (isTapLength most n ≡ true) × (tapWordBatches n ≡ k)
   tap-length-complete n k e p =
       let r : n % 12 ≡ 4 = omega arith in
-      let q : n / 12 ≡ k = omega arith in
-      (and-intro (eqb (n % 12) 4) (permitted most (n / 12)) (eq-eqb _ _ r) (ap (permitted most) q ∙ permitted-complete k p), q)
+      let q : n / 12 ≡ k = omega arith in (
+        and-intro (eqb (n % 12) 4) (permitted most (n / 12)) (eq-eqb _ _ r)
+            (ap (permitted most) q ∙ permitted-complete k p),
+        q,
+      )
 
   -- a trace of 384k words, k permitted, and no other, passes
-  pub trace-length-sound : (n : ℕ) → isTraceLength most n ≡ true → (n ≡ 384 * traceWordBatches n) × IsPermittedTo most (traceWordBatches n)
+  pub trace-length-sound : (n : ℕ) → isTraceLength most n ≡ true
+      → (n ≡ 384 * traceWordBatches n) × IsPermittedTo most (traceWordBatches n)
   trace-length-sound n e =
       let s = and-both (eqb (n % 384) 0) (permitted most (n / 384)) e in
       (omega (arith, eqb-true (n % 384) 0 (s .0)), permitted-sound (n / 384) (s .1))
 
-  pub trace-length-complete : (n k : ℕ) → n ≡ 384 * k → IsPermittedTo most k → (isTraceLength most n ≡ true) × (traceWordBatches n ≡ k)
+  pub trace-length-complete : (n k : ℕ) → n ≡ 384 * k → IsPermittedTo most k
+      → (isTraceLength most n ≡ true) × (traceWordBatches n ≡ k)
   trace-length-complete n k e p =
       let r : n % 384 ≡ 0 = omega arith in
-      let q : n / 384 ≡ k = omega arith in
-      (and-intro (eqb (n % 384) 0) (permitted most (n / 384)) (eq-eqb _ _ r) (ap (permitted most) q ∙ permitted-complete k p), q)
+      let q : n / 384 ≡ k = omega arith in (
+        and-intro (eqb (n % 384) 0) (permitted most (n / 384)) (eq-eqb _ _ r)
+            (ap (permitted most) q ∙ permitted-complete k p),
+        q,
+      )
 
 -- ---- what a count says of the test that it was made by
 pub count-permitted : (ok : Bool) (n k : ℕ) → batchesIf ok n ≡ Permitted k → (ok ≡ true) × (n ≡ k)
@@ -111,14 +124,16 @@ count-refused false n e = refl
 
 -- a count b of so many words
 module _ (most words : ℕ) {b : BatchCount} where
-  pub tap-refused : b ≡ batchesIf (isTapLength most words) (tapWordBatches words) → b ≡ Refused → isTapLength most words ≡ false
+  pub tap-refused : b ≡ batchesIf (isTapLength most words) (tapWordBatches words) → b ≡ Refused
+      → isTapLength most words ≡ false
   tap-refused e q = count-refused (isTapLength most words) (tapWordBatches words) (sym e ∙ q)
 
   pub tap-permitted : {k : ℕ} → b ≡ batchesIf (isTapLength most words) (tapWordBatches words) → b ≡ Permitted k
       → (isTapLength most words ≡ true) × (tapWordBatches words ≡ k)
   tap-permitted {k} e q = count-permitted (isTapLength most words) (tapWordBatches words) k (sym e ∙ q)
 
-  pub trace-refused : b ≡ batchesIf (isTraceLength most words) (traceWordBatches words) → b ≡ Refused → isTraceLength most words ≡ false
+  pub trace-refused : b ≡ batchesIf (isTraceLength most words) (traceWordBatches words) → b ≡ Refused
+      → isTraceLength most words ≡ false
   trace-refused e q = count-refused (isTraceLength most words) (traceWordBatches words) (sym e ∙ q)
 
   pub trace-permitted : {k : ℕ} → b ≡ batchesIf (isTraceLength most words) (traceWordBatches words) → b ≡ Permitted k

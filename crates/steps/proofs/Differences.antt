@@ -1,4 +1,4 @@
--- A state less a constant, as a loop fills it in.
+-- A state less a constant, as a loop fills it in: its length, and that its cells are canonical.
 -- Assumes nothing.
 use mathlib.Core.Path.{_≡_, refl, sym, ap, _∙_, subst}
 use mathlib.Core.List.{List}
@@ -19,7 +19,8 @@ length-minus s k = length-tab 12 (λ j. sub (cell s j) (cell k j))
 -- a cell of minus, from the words
 pub minus-canonical : (s k : List ℕ) → CanonicalTo 12 (minus s k)
 unfolding minus
-minus-canonical s k j l = subst Canonical (sym (cell-tab 12 (λ n. sub (cell s n) (cell k n)) j l)) (mod-lt _ (omega arith))
+minus-canonical s k j l =
+    subst Canonical (sym (cell-tab 12 (λ n. sub (cell s n) (cell k n)) j l)) (mod-lt _ (omega arith))
 
 pub minus-filled : (s k : List ℕ) (n : ℕ) → n ≡ 12 → {out : List ℕ}
     → out ≡ filled n (λ j. sub (cell s j) (cell k j)) (replicate 12 0) → out ≡ minus s k

@@ -10,7 +10,8 @@ use borrow.Author.Tests.{lt-ltb, le-ltb}
 use lib.Dec.{ltb}
 use lib.ListN.{length, replicate, getD-replicate}
 use Rattle.lists.specs.Lists.{choose, cell, tab, sum}
-use Rattle.lists.proofs.Tab.{length-tab, cell-tab, tab-ext, tab-unique, filled, filled-before, filled-after, length-filled}
+use Rattle.lists.proofs.Tab.{length-tab, cell-tab, tab-ext, tab-unique, filled}
+use Rattle.lists.proofs.Tab.{filled-before, filled-after, length-filled}
 use Rattle.field.specs.Field.{P, add, cube}
 use Rattle.field.specs.Montgomery.{element}
 use Rattle.field.proofs.Forms.{element-lt}
@@ -55,11 +56,16 @@ cell-beyond n s j h l = cell-columns n s j h ∙ rw (le-ltb j n l) refl
 -- a loop that stores the first n
 columns-filled : (n : ℕ) → n ≤ 12 → (f : ℕ → ℕ) → filled n f (replicate 12 0) ≡ columns n (tab 12 f)
 unfolding columns
-columns-filled n hn f = tab-unique 12 (filled n f (replicate 12 0)) (λ j. choose (ltb j n) (cell (tab 12 f) j) 0) (length-filled n f (replicate 12 0) hn) (λ j h. go j h (decLt j n))
+columns-filled n hn f =
+    tab-unique 12 (filled n f (replicate 12 0)) (λ j. choose (ltb j n) (cell (tab 12 f) j) 0)
+    (length-filled n f (replicate 12 0) hn) (λ j h. go j h (decLt j n))
   where
     go : (j : ℕ) → j < 12 → Dec (j < n) → cell (filled n f (replicate 12 0)) j ≡ choose (ltb j n) (cell (tab 12 f) j) 0
     go j h (yes l) = filled-before n f (replicate 12 0) j l ∙ sym (cell-tab 12 f j h) ∙ rw (lt-ltb j n l) refl
-    go j h (no l) = filled-after n f (replicate 12 0) j (omega arith) ∙ getD-replicate 12 j 0 0 h ∙ rw (le-ltb j n (omega arith)) refl
+    go j h (no l) =
+        filled-after n f (replicate 12 0) j (omega arith)
+        ∙ getD-replicate 12 j 0 0 h
+        ∙ rw (le-ltb j n (omega arith)) refl
 
 -- ---- the second step
 
@@ -83,20 +89,29 @@ second-made T ready s cubed out round count hc er ec e =
   where
     mixed : (i : ℕ) → i < 12 → inner ready cubed i ≡ cell (mix T (cubes s)) i
     mixed i h =
-        forward-cell (matrixOf T) i (λ j. cell ready (12 * i + j)) (cell cubed) (λ j l. ap (λ x. cell x (12 * i + j)) er ∙ cell-ready (matrixOf T) forwardScale (12 * i + j) (omega arith)) (cell s) (λ j l. ap (λ x. cell x j) ec ∙ cell-tab 12 (λ n. thinCube (cell s n)) j l)
-        ∙ times-ext 12 (entry (matrixOf T)) (entry (matrixOf T)) (λ j. cube (cell s j)) (cell (cubes s)) i (λ j l. refl) (λ j l. sym (cell-tab 12 (λ n. cube (cell s n)) j l))
+        forward-cell (matrixOf T) i (λ j. cell ready (12 * i + j)) (cell cubed)
+        (λ j l. ap (λ x. cell x (12 * i + j)) er ∙ cell-ready (matrixOf T) forwardScale (12 * i + j) (omega arith))
+        (cell s) (λ j l. ap (λ x. cell x j) ec ∙ cell-tab 12 (λ n. thinCube (cell s n)) j l)
+        ∙ times-ext 12 (entry (matrixOf T)) (entry (matrixOf T)) (λ j. cube (cell s j)) (cell (cubes s)) i (λ j l. refl)
+        (λ j l. sym (cell-tab 12 (λ n. cube (cell s n)) j l))
         ∙ sym (cell-times (matrixOf T) (cubes s) i h)
 
 -- ---- the first step undone
 
 -- the cell that is stored, from a word that is the inner product
-pub back-word : (T ready less : List ℕ) (i y : ℕ) → i < 12 → ready ≡ backReady T → y % P ≡ (inner ready less i + 0) % P → thinCube y ≡ cube (timesColumn 12 (entry (inverseOf T)) (cell less) i)
+pub back-word : (T ready less : List ℕ) (i y : ℕ) → i < 12 → ready ≡ backReady T
+    → y % P ≡ (inner ready less i + 0) % P → thinCube y ≡ cube (timesColumn 12 (entry (inverseOf T)) (cell less) i)
 unfolding backReady
-back-word T ready less i y h er e = back-cell (inverseOf T) i (λ j. cell ready (12 * i + j)) (cell less) (λ j l. ap (λ x. cell x (12 * i + j)) er ∙ cell-ready (inverseOf T) backScale (12 * i + j) (omega arith)) y (e ∙ ap (λ x. x % P) (add-zero (inner ready less i)) ∙ mod-eq-of-lt (element-lt _))
+back-word T ready less i y h er e =
+    back-cell (inverseOf T) i (λ j. cell ready (12 * i + j)) (cell less)
+    (λ j l. ap (λ x. cell x (12 * i + j)) er ∙ cell-ready (inverseOf T) backScale (12 * i + j) (omega arith)) y
+    (e ∙ ap (λ x. x % P) (add-zero (inner ready less i)) ∙ mod-eq-of-lt (element-lt _))
 
-pub undone-made : (T s less out : List ℕ) (round : ℕ) → less ≡ minus s (firstStepConstant T round) → out ≡ tab 12 (λ i. cube (timesColumn 12 (entry (inverseOf T)) (cell less) i)) → out ≡ backStep T round s
+pub undone-made : (T s less out : List ℕ) (round : ℕ) → less ≡ minus s (firstStepConstant T round)
+    → out ≡ tab 12 (λ i. cube (timesColumn 12 (entry (inverseOf T)) (cell less) i)) → out ≡ backStep T round s
 unfolding backStep cubes
 undone-made T s less out round el e =
     e
-    ∙ tab-ext 12 (λ i. cube (timesColumn 12 (entry (inverseOf T)) (cell less) i)) (λ i. cube (cell (times (inverseOf T) less) i)) (λ i h. ap cube (sym (cell-times (inverseOf T) less i h)))
+    ∙ tab-ext 12 (λ i. cube (timesColumn 12 (entry (inverseOf T)) (cell less) i))
+    (λ i. cube (cell (times (inverseOf T) less) i)) (λ i h. ap cube (sym (cell-times (inverseOf T) less i h)))
     ∙ ap (λ x. cubes (times (inverseOf T) x)) el

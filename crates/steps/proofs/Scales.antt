@@ -1,4 +1,4 @@
--- The scales make up for cubes divided by 2^128.
+-- The scales of the matrices make up for cubes divided by 2^128: modulo p, each power of 2^64 meets its inverse.
 -- Assumes nothing.
 use Prim.Native.Nat.{ℕ, _+_, _*_, _%_, _<_}
 use mathlib.Core.Path.{_≡_, refl, sym, ap, ap₂, _∙_}
@@ -32,10 +32,13 @@ module _ (p j : ℕ) where
 
   -- a scale c with c j^4 = 1: a scaled cell times a thin cube, divided by 2^64, is the cell times the cube
   module _ (c : ℕ) (inv : (c * (j * j * j * j)) % p ≡ 1) where
-    pub forward-term : (m x : ℕ) → ((m * c * j) % p * (((x * x * j) % p * x * j) % p) * j) % p ≡ (m * (((x * x) % p * x) % p)) % p
+    pub forward-term : (m x : ℕ)
+        → ((m * c * j) % p * (((x * x * j) % p * x * j) % p) * j) % p ≡ (m * (((x * x) % p * x) % p)) % p
     forward-term m x =
         ap (λ z. z % p) (turned ((m * c * j) % p) (((x * x * j) % p * x * j) % p))
-        ∙ mul-eq p ((m * c * j) % p) (m * c * j) ((((x * x * j) % p * x * j) % p) * j) (x * x * x * (j * j) * j) (mod-mod (m * c * j) p) (mul-eq p (((x * x * j) % p * x * j) % p) (x * x * x * (j * j)) j j (mod-mod _ p ∙ thin-flat x) refl)
+        ∙ mul-eq p ((m * c * j) % p) (m * c * j) ((((x * x * j) % p * x * j) % p) * j) (x * x * x * (j * j) * j)
+        (mod-mod (m * c * j) p)
+        (mul-eq p (((x * x * j) % p * x * j) % p) (x * x * x * (j * j)) j j (mod-mod _ p ∙ thin-flat x) refl)
         ∙ ap (λ z. z % p) gathered
         ∙ sym (mul-mod-r p (m * (x * x * x)) (c * (j * j * j * j)))
         ∙ ap (λ z. (m * (x * x * x) * z) % p) inv
@@ -50,7 +53,8 @@ module _ (p j : ℕ) where
 
   -- a scale c with (c j^2)^3 j^2 = 1: the thin cube of what is c j^2 times n is the cube of n
   module _ (c : ℕ) (inv : (c * j * j * (c * j * j) * (c * j * j) * (j * j)) % p ≡ 1) where
-    pub back-cube : (y n : ℕ) → y % p ≡ (n * (c * j * j)) % p → ((y * y * j) % p * y * j) % p ≡ ((n % p * (n % p)) % p * (n % p)) % p
+    pub back-cube : (y n : ℕ) → y % p ≡ (n * (c * j * j)) % p
+        → ((y * y * j) % p * y * j) % p ≡ ((n % p * (n % p)) % p * (n % p)) % p
     back-cube y n e =
         thin-flat y
         ∙ mul-eq p (y * y * y) (d * d * d) (j * j) (j * j) (mul-eq p (y * y) (d * d) y d (mul-eq p y d y d e e) e) refl
@@ -58,7 +62,9 @@ module _ (p j : ℕ) where
         ∙ sym (mul-mod-r p (n * n * n) (c * j * j * (c * j * j) * (c * j * j) * (j * j)))
         ∙ ap (λ z. (n * n * n * z) % p) inv
         ∙ ap (λ z. z % p) (mul-one (n * n * n))
-        ∙ sym (cube-flat (n % p) ∙ mul-eq p (n % p * (n % p)) (n * n) (n % p) n (mul-eq p (n % p) n (n % p) n (mod-mod n p) (mod-mod n p)) (mod-mod n p))
+        ∙ sym (cube-flat (n % p)
+        ∙ mul-eq p (n % p * (n % p)) (n * n) (n % p) n (mul-eq p (n % p) n (n % p) n (mod-mod n p) (mod-mod n p))
+        (mod-mod n p))
       where
         d : ℕ
         d = n * (c * j * j)
@@ -71,7 +77,8 @@ module _ (p j : ℕ) where
 
     -- a scaled cell times x, divided by 2^64
     pub back-term : (m x : ℕ) → ((m * c * j) % p * x * j) % p ≡ (m * x * (c * j * j)) % p
-    back-term m x = ap (λ z. z % p) (turned ((m * c * j) % p)) ∙ mul-mod-l p (m * c * j) (x * j) ∙ ap (λ z. z % p) gathered
+    back-term m x =
+        ap (λ z. z % p) (turned ((m * c * j) % p)) ∙ mul-mod-l p (m * c * j) (x * j) ∙ ap (λ z. z % p) gathered
       where
         turned : (a : ℕ) → a * x * j ≡ a * (x * j)
         turned a = omega arith
@@ -80,21 +87,36 @@ module _ (p j : ℕ) where
         gathered = omega arith
 
 -- ---- rows of a matrix made ready
-pub forward-cell : (m : List ℕ) (i : ℕ) (r x : ℕ → ℕ) → ((n : ℕ) → n < 12 → r n ≡ scaled m forwardScale (12 * i + n)) → (s : ℕ → ℕ) → ((n : ℕ) → n < 12 → x n ≡ thinCube (s n))
+pub forward-cell : (m : List ℕ) (i : ℕ) (r x : ℕ → ℕ)
+    → ((n : ℕ) → n < 12 → r n ≡ scaled m forwardScale (12 * i + n)) → (s : ℕ → ℕ)
+    → ((n : ℕ) → n < 12 → x n ≡ thinCube (s n))
     → element (sum 12 (λ n. r n * x n)) ≡ timesColumn 12 (entry m) (λ n. cube (s n)) i
 unfolding timesColumn scaled
 forward-cell m i r x hr s hx =
     ap (λ z. z % P) (sym (sum-mul-r 12 unitInverse (λ n. r n * x n)))
-    ∙ sum-eq P 12 (λ n. r n * x n * unitInverse) (λ n. entry m i n * cube (s n)) (λ n l. ap₂ (λ a b. (a * b * unitInverse) % P) (hr n l) (hx n l) ∙ forward-term P unitInverse forwardScale refl (entry m i n) (s n))
+    ∙ sum-eq P 12 (λ n. r n * x n * unitInverse) (λ n. entry m i n * cube (s n))
+    (λ n l. ap₂ (λ a b. (a * b * unitInverse) % P) (hr n l) (hx n l)
+    ∙ forward-term P unitInverse forwardScale refl (entry m i n) (s n))
 
 pub back-cell : (m : List ℕ) (i : ℕ) (r x : ℕ → ℕ) → ((n : ℕ) → n < 12 → r n ≡ scaled m backScale (12 * i + n))
     → (y : ℕ) → y % P ≡ element (sum 12 (λ n. r n * x n)) → thinCube y ≡ cube (timesColumn 12 (entry m) x i)
 unfolding timesColumn scaled
-back-cell m i r x hr y e = back-cube P unitInverse backScale refl y (sum 12 (λ n. entry m i n * x n)) (e ∙ ap (λ z. z % P) (sym (sum-mul-r 12 unitInverse (λ n. r n * x n))) ∙ sum-eq P 12 (λ n. r n * x n * unitInverse) (λ n. entry m i n * x n * (backScale * unitInverse * unitInverse)) (λ n l. ap (λ a. (a * x n * unitInverse) % P) (hr n l) ∙ back-term P unitInverse backScale refl (entry m i n) (x n)) ∙ ap (λ z. z % P) (sum-mul-r 12 (backScale * unitInverse * unitInverse) (λ n. entry m i n * x n)))
+back-cell m i r x hr y e =
+    back-cube P unitInverse backScale refl y (sum 12 (λ n. entry m i n * x n))
+    (e
+    ∙ ap (λ z. z % P) (sym (sum-mul-r 12 unitInverse (λ n. r n * x n)))
+    ∙ sum-eq P 12 (λ n. r n * x n * unitInverse) (λ n. entry m i n * x n * (backScale * unitInverse * unitInverse))
+    (λ n l. ap (λ a. (a * x n * unitInverse) % P) (hr n l)
+    ∙ back-term P unitInverse backScale refl (entry m i n) (x n))
+    ∙ ap (λ z. z % P) (sum-mul-r 12 (backScale * unitInverse * unitInverse) (λ n. entry m i n * x n)))
 
 -- ---- a thin cube from its two products
 pub thin-made : (x square : ℕ) → square % P ≡ element (x * x) → element (square * x) ≡ thinCube x
-thin-made x square e = ap (λ z. z % P) (turned square) ∙ sym (mul-mod-l P square (x * unitInverse)) ∙ ap (λ z. (z * (x * unitInverse)) % P) e ∙ ap (λ z. z % P) (sym (turned (element (x * x))))
+thin-made x square e =
+    ap (λ z. z % P) (turned square)
+    ∙ sym (mul-mod-l P square (x * unitInverse))
+    ∙ ap (λ z. (z * (x * unitInverse)) % P) e
+    ∙ ap (λ z. z % P) (sym (turned (element (x * x))))
   where
     turned : (a : ℕ) → a * x * unitInverse ≡ a * (x * unitInverse)
     turned a = omega arith

@@ -10,8 +10,11 @@ use Rattle.lists.proofs.Tab.{length-part, cell-part}
 use Rattle.words.specs.Words.{AllCanonical}
 use Rattle.table.specs.Table.{tableWords, matrixWords, matrixOf, inverseOf, constant}
 
-pub part-canonical : (t : List ℕ) (base size : ℕ) → base + size ≤ length t → AllCanonical t → AllCanonical (take size (drop base t))
-part-canonical t base size h c i l = rw (cell-part t base size i (omega (arith, length-part t base size h))) (c (base + i) (omega (arith, length-part t base size h)))
+pub part-canonical : (t : List ℕ) (base size : ℕ) → base + size ≤ length t → AllCanonical t
+    → AllCanonical (take size (drop base t))
+part-canonical t base size h c i l =
+    rw (cell-part t base size i (omega (arith, length-part t base size h)))
+    (c (base + i) (omega (arith, length-part t base size h)))
 
 -- ---- M, its inverse and the constants
 module _ (t : List ℕ) (size : length t ≡ tableWords) where

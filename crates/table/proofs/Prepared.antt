@@ -15,7 +15,8 @@ use Rattle.words.specs.Words.{AllCanonical, firstBad}
 use Rattle.refusals.specs.declared.Refusal.the-variants.{TableLength, TableWord, NoInverse, DestinationLength}
 use Rattle.refusals.specs.declared.Answer.the-variants.{Accepted, Refused}
 use Rattle.inverse.specs.Inversion.{Inverts}
-use Rattle.table.specs.Table.{rawWords, tableWords, rawMatrix, matrixOf, inverseOf, RawInverse, prepared, rawTest, Prepares, accepts, no-inverse}
+use Rattle.table.specs.Table.{rawWords, tableWords, rawMatrix, matrixOf, inverseOf, RawInverse}
+use Rattle.table.specs.Table.{prepared, rawTest, Prepares, accepts, no-inverse}
 
 -- ---- its words
 module _ (raw n : List ℕ) (size : length raw ≡ rawWords) (size-n : length n ≡ 144) where
@@ -23,10 +24,14 @@ module _ (raw n : List ℕ) (size : length raw ≡ rawWords) (size-n : length n 
   length-left = length-take-le 144 raw (omega arith)
 
   pub length-prepared : length (prepared raw n) ≡ tableWords
-  length-prepared = length-append (rawMatrix raw) (n ++ drop 144 raw) ∙ omega (arith, length-left, length-append n (drop 144 raw), length-drop 144 raw)
+  length-prepared =
+      length-append (rawMatrix raw) (n ++ drop 144 raw)
+      ∙ omega (arith, length-left, length-append n (drop 144 raw), length-drop 144 raw)
 
   pub word-matrix : (t : ℕ) → t < 144 → cell raw t ≡ cell (prepared raw n) t
-  word-matrix t h = sym (List·getD-append (rawMatrix raw) (n ++ drop 144 raw) 0 t (omega (arith, length-left)) ∙ getD-take 144 raw t 0 h)
+  word-matrix t h =
+      sym
+      (List·getD-append (rawMatrix raw) (n ++ drop 144 raw) 0 t (omega (arith, length-left)) ∙ getD-take 144 raw t 0 h)
 
   after : (t u : ℕ) → t ≡ 144 + u → cell (prepared raw n) t ≡ cell (n ++ drop 144 raw) u
   after t u e = ap (cell (prepared raw n)) place ∙ getD-append-add (rawMatrix raw) (n ++ drop 144 raw) u 0
@@ -38,7 +43,12 @@ module _ (raw n : List ℕ) (size : length raw ≡ rawWords) (size-n : length n 
   word-inverse t u e h = sym (after t u e ∙ List·getD-append n (drop 144 raw) 0 u (omega arith))
 
   pub word-constant : (t u : ℕ) → t ≡ 144 + u → 144 ≤ u → cell raw u ≡ cell (prepared raw n) t
-  word-constant t u e h = sym (after t u e ∙ ap (cell (n ++ drop 144 raw)) place ∙ getD-append-add n (drop 144 raw) (u - 144) 0 ∙ getD-drop 144 raw (u - 144) 0 ∙ ap (cell raw) back)
+  word-constant t u e h =
+      sym (after t u e
+      ∙ ap (cell (n ++ drop 144 raw)) place
+      ∙ getD-append-add n (drop 144 raw) (u - 144) 0
+      ∙ getD-drop 144 raw (u - 144) 0
+      ∙ ap (cell raw) back)
     where
       place : u ≡ length n + (u - 144)
       place = omega arith
@@ -53,7 +63,8 @@ module _ (raw n : List ℕ) (size : length raw ≡ rawWords) (size-n : length n 
 
   pub inverse-prepared : inverseOf (prepared raw n) ≡ n
   unfolding inverseOf
-  inverse-prepared = ap (take 144) (drop-at (rawMatrix raw) (n ++ drop 144 raw) 144 length-left) ∙ take-at n (drop 144 raw) 144 size-n
+  inverse-prepared =
+      ap (take 144) (drop-at (rawMatrix raw) (n ++ drop 144 raw) 144 length-left) ∙ take-at n (drop 144 raw) 144 size-n
 
   pub prepared-canonical : AllCanonical raw → AllCanonical n → AllCanonical (prepared raw n)
   prepared-canonical hr hn t l = left (decLt t 144)
@@ -62,8 +73,11 @@ module _ (raw n : List ℕ) (size : length raw ≡ rawWords) (size-n : length n 
       t-lt = omega (arith, length-prepared)
 
       right : 144 ≤ t → Dec (t < 288) → Canonical (cell (prepared raw n) t)
-      right g (yes h) = subst (λ y. y < P) (word-inverse t (t - 144) (omega arith) (omega arith)) (hn (t - 144) (omega arith))
-      right g (no h) = subst (λ y. y < P) (word-constant t (t - 144) (omega arith) (omega arith)) (hr (t - 144) (omega (arith, t-lt)))
+      right g (yes h) =
+          subst (λ y. y < P) (word-inverse t (t - 144) (omega arith) (omega arith)) (hn (t - 144) (omega arith))
+      right g (no h) =
+          subst (λ y. y < P) (word-constant t (t - 144) (omega arith) (omega arith))
+          (hr (t - 144) (omega (arith, t-lt)))
 
       left : Dec (t < 144) → Canonical (cell (prepared raw n) t)
       left (yes h) = subst (λ y. y < P) (word-matrix t h) (hr t (omega arith))
@@ -83,15 +97,23 @@ module _ (raw : List ℕ) (room : ℕ) where
     module _ (fits : room ≡ tableWords) where
       pub wrong-word : (b : ℕ) → b ≡ firstBad raw → (b ≡ rawWords → ⊥) → rawTest raw room ≡ Refused (TableWord b)
       unfolding rawTest
-      wrong-word b e h = rw (e, eq-eqb (length raw) rawWords size, eq-eqb room tableWords fits, ne-eqb (firstBad raw) rawWords (λ q. h (e ∙ q)))
+      wrong-word b e h =
+          rw (
+            e,
+            eq-eqb (length raw) rawWords size,
+            eq-eqb room tableWords fits,
+            ne-eqb (firstBad raw) rawWords (λ q. h (e ∙ q)),
+          )
 
       pub raw-accepted : firstBad raw ≡ rawWords → rawTest raw room ≡ Accepted
       unfolding rawTest
-      raw-accepted h = rw (eq-eqb (length raw) rawWords size, eq-eqb room tableWords fits, eq-eqb (firstBad raw) rawWords h)
+      raw-accepted h =
+          rw (eq-eqb (length raw) rawWords size, eq-eqb room tableWords fits, eq-eqb (firstBad raw) rawWords h)
 
 -- ---- the answer, after the tests
 module _ (raw old : List ℕ) (tested : rawTest raw (length old) ≡ Accepted) where
-  pub without : (n m : List ℕ) (b : Bool) → Inverts (rawMatrix raw) n m b → b ≡ false → Prepares raw old (Refused NoInverse) old
+  pub without : (n m : List ℕ) (b : Bool) → Inverts (rawMatrix raw) n m b → b ≡ false
+      → Prepares raw old (Refused NoInverse) old
   without n m b h e = no-inverse tested (subst (λ a. Inverts (rawMatrix raw) n m a) e h .1)
 
   pub inverted : (n m : List ℕ) (b : Bool) → Inverts (rawMatrix raw) n m b → b ≡ true → RawInverse raw m

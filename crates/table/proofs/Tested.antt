@@ -1,4 +1,5 @@
--- The table test: the product of M and the stored inverse, the first cell that is unlike the identity, and the answer by cases.
+-- The table test: the product of M and the stored inverse, the first cell that is unlike the identity, and the answer
+-- by cases.
 -- Assumes nothing.
 use Prim.Native.Nat.{ℕ, _+_, _*_, _/_, _%_, _<_}
 use mathlib.Core.Path.{_≡_, refl, sym, ap, ap₂, _∙_}
@@ -19,18 +20,22 @@ use Rattle.refusals.specs.declared.Refusal.the-variants.{TableLength, TableWord
 use Rattle.table.specs.Table.{tableWords, matrixOf, inverseOf, unlike, firstUnlike, tableTest}
 
 -- ---- the product, column by column
-pub column-canonical : (n x : List ℕ) (k : ℕ) → length n ≡ 144 → AllCanonical n → k < 12 → x ≡ tab 12 (λ j. entry n j k) → CanonicalTo 12 x
-column-canonical n x k size h hk e i l = rw (ap (λ s. cell s i) e ∙ cell-tab 12 (λ j. entry n j k) i l) (h (12 * i + k) (omega arith))
+pub column-canonical : (n x : List ℕ) (k : ℕ) → length n ≡ 144 → AllCanonical n → k < 12
+    → x ≡ tab 12 (λ j. entry n j k) → CanonicalTo 12 x
+column-canonical n x k size h hk e i l =
+    rw (ap (λ s. cell s i) e ∙ cell-tab 12 (λ j. entry n j k) i l) (h (12 * i + k) (omega arith))
 
 -- the cells of m times n, in the order in which they are computed
 abbrev pub byColumns : List ℕ → List ℕ → ℕ → ℕ
 byColumns m n t = product 12 (entry m) (entry n) (t % 12) (t / 12)
 
-pub next-cell : (m n c x : List ℕ) (k i : ℕ) → i < 12 → c ≡ tab 12 (λ j. entry n j k) → x ≡ times m c → cell x i ≡ byColumns m n (12 * k + i)
+pub next-cell : (m n c x : List ℕ) (k i : ℕ) → i < 12 → c ≡ tab 12 (λ j. entry n j k) → x ≡ times m c
+    → cell x i ≡ byColumns m n (12 * k + i)
 next-cell m n c x k i h ec ex =
     ap (λ s. cell s i) ex
     ∙ cell-times m c i h
-    ∙ times-ext 12 (entry m) (entry m) (cell c) column i (λ j l. refl) (λ j l. ap (λ s. cell s j) ec ∙ cell-tab 12 column j l)
+    ∙ times-ext 12 (entry m) (entry m) (cell c) column i (λ j l. refl)
+    (λ j l. ap (λ s. cell s j) ec ∙ cell-tab 12 column j l)
     ∙ sym (product-column 12 (entry m) (entry n) i k)
     ∙ ap₂ (product 12 (entry m) (entry n)) p q
   where
@@ -44,8 +49,12 @@ next-cell m n c x k i h ec ex =
     q = omega arith
 
 -- cell c of the product, row by row
-pub at-cell : (m n s : List ℕ) (c : ℕ) → c < 144 → s ≡ tab 144 (byColumns m n) → cell s (12 * (c % 12) + c / 12) ≡ product 12 (entry m) (entry n) (c / 12) (c % 12)
-at-cell m n s c h e = ap (λ l. cell l (12 * (c % 12) + c / 12)) e ∙ cell-tab 144 (byColumns m n) (12 * (c % 12) + c / 12) (omega arith) ∙ ap₂ (product 12 (entry m) (entry n)) p q
+pub at-cell : (m n s : List ℕ) (c : ℕ) → c < 144 → s ≡ tab 144 (byColumns m n)
+    → cell s (12 * (c % 12) + c / 12) ≡ product 12 (entry m) (entry n) (c / 12) (c % 12)
+at-cell m n s c h e =
+    ap (λ l. cell l (12 * (c % 12) + c / 12)) e
+    ∙ cell-tab 144 (byColumns m n) (12 * (c % 12) + c / 12) (omega arith)
+    ∙ ap₂ (product 12 (entry m) (entry n)) p q
   where
     p : (12 * (c % 12) + c / 12) % 12 ≡ c / 12
     p = omega arith
@@ -53,17 +62,24 @@ at-cell m n s c h e = ap (λ l. cell l (12 * (c % 12) + c / 12)) e ∙ cell-tab 
     q : (12 * (c % 12) + c / 12) / 12 ≡ c % 12
     q = omega arith
 
-module _ (t : List ℕ) (c v d : ℕ) (value : v ≡ product 12 (entry (matrixOf t)) (entry (inverseOf t)) (c / 12) (c % 12)) (wanted : d ≡ identity (c / 12) (c % 12)) where
+module _ (t : List ℕ) (c v d : ℕ)
+    (value : v ≡ product 12 (entry (matrixOf t)) (entry (inverseOf t)) (c / 12) (c % 12))
+    (wanted : d ≡ identity (c / 12) (c % 12)) where
   pub unlike-yes : (v ≡ d → ⊥) → unlike t c ≡ true
   unfolding unlike
-  unlike-yes h = rw (ne-eqb (product 12 (entry (matrixOf t)) (entry (inverseOf t)) (c / 12) (c % 12)) (identity (c / 12) (c % 12)) (λ e. h (value ∙ e ∙ sym wanted)))
+  unlike-yes h =
+      rw (ne-eqb (product 12 (entry (matrixOf t)) (entry (inverseOf t)) (c / 12) (c % 12)) (identity (c / 12) (c % 12))
+      (λ e. h (value ∙ e ∙ sym wanted)))
 
   pub unlike-no : v ≡ d → unlike t c ≡ false
   unfolding unlike
-  unlike-no h = rw (eq-eqb (product 12 (entry (matrixOf t)) (entry (inverseOf t)) (c / 12) (c % 12)) (identity (c / 12) (c % 12)) (sym value ∙ h ∙ wanted))
+  unlike-no h =
+      rw (eq-eqb (product 12 (entry (matrixOf t)) (entry (inverseOf t)) (c / 12) (c % 12)) (identity (c / 12) (c % 12))
+      (sym value ∙ h ∙ wanted))
 
 -- ---- the scan
-pub stops : (t : List ℕ) (c : ℕ) → c < 144 → ((d : ℕ) → d < c → unlike t d ≡ false) → unlike t c ≡ true → c ≡ firstUnlike t
+pub stops : (t : List ℕ) (c : ℕ) → c < 144 → ((d : ℕ) → d < c → unlike t d ≡ false) → unlike t c ≡ true
+    → c ≡ firstUnlike t
 unfolding firstUnlike
 stops t c h b y = found-at 144 (unlike t) c h b y
 
@@ -85,8 +101,15 @@ module _ (t : List ℕ) where
     module _ (good : firstBad t ≡ tableWords) where
       pub wrong-cell : (c : ℕ) → c ≡ firstUnlike t → (c ≡ 144 → ⊥) → Refused (WrongInverse c) ≡ tableTest t
       unfolding tableTest
-      wrong-cell c e h = rw (e, eq-eqb (length t) tableWords size, eq-eqb (firstBad t) tableWords good, ne-eqb (firstUnlike t) 144 (λ q. h (e ∙ q)))
+      wrong-cell c e h =
+          rw (
+            e,
+            eq-eqb (length t) tableWords size,
+            eq-eqb (firstBad t) tableWords good,
+            ne-eqb (firstUnlike t) 144 (λ q. h (e ∙ q)),
+          )
 
       pub accepted : firstUnlike t ≡ 144 → Accepted ≡ tableTest t
       unfolding tableTest
-      accepted h = rw (eq-eqb (length t) tableWords size, eq-eqb (firstBad t) tableWords good, eq-eqb (firstUnlike t) 144 h)
+      accepted h =
+          rw (eq-eqb (length t) tableWords size, eq-eqb (firstBad t) tableWords good, eq-eqb (firstUnlike t) 144 h)

@@ -1,4 +1,5 @@
--- What the table test and Prepare promise (document 01, "The table").
+-- What the table test and Prepare promise (document 01, "The table"): each answer says what is wrong, and where; what
+-- Prepare writes is accepted; its answer is 3 exactly where its tests pass and M takes a non-zero column to zeros.
 -- Assumes nothing.
 use Prim.Native.Nat.{ℕ, _+_, _*_, _/_, _%_, _≤_, _<_}
 use mathlib.Core.Path.{_≡_, refl, sym, ap, ap₂, _∙_, subst}
@@ -20,10 +21,14 @@ use Rattle.matrix.proofs.Dichotomy.{Invertible, dichotomy, other-side, not-both
 use Rattle.matrix.proofs.States.{times-undo, times-redo}
 use Rattle.inverse.proofs.Inversion.{inverse-only, listed, listed-inverse}
 use Rattle.refusals.specs.declared.Refusal.{Refusal}
-use Rattle.refusals.specs.declared.Refusal.the-variants.{TableLength, TableWord, NoInverse, WrongInverse, DestinationLength}
+use Rattle.refusals.specs.declared.Refusal.the-variants.{TableLength, TableWord, NoInverse}
+use Rattle.refusals.specs.declared.Refusal.the-variants.{WrongInverse, DestinationLength}
 use Rattle.refusals.specs.declared.Answer.{Answer}
 use Rattle.refusals.specs.declared.Answer.the-variants.{Accepted, Refused}
-use Rattle.table.specs.Table.{rawWords, tableWords, rawMatrix, matrixOf, inverseOf, initialConstant, firstStepConstant, secondStepConstant, unlike, firstUnlike, tableTest, IsTable, RawInverse, prepared, rawTest, Prepares, accepts, no-inverse, refuses}
+use Rattle.table.specs.Table.{rawWords, tableWords, rawMatrix, matrixOf, inverseOf, initialConstant}
+use Rattle.table.specs.Table.{firstStepConstant, secondStepConstant, unlike}
+use Rattle.table.specs.Table.{firstUnlike, tableTest, IsTable, RawInverse, prepared}
+use Rattle.table.specs.Table.{rawTest, Prepares, accepts, no-inverse, refuses}
 use Rattle.table.proofs.Parts as parts
 use Rattle.table.proofs.Tested as tested
 use Rattle.table.proofs.Prepared as prep
@@ -34,7 +39,10 @@ not-refused r e = let z : _≡_ {A = ℕ} 0 1 = cc in omega arith
 -- ---- the table test accepts exactly the tables: all words canonical, and M times the stored inverse the identity
 like-identity : (t : List ℕ) → firstUnlike t ≡ 144 → Inverse 12 (entry (matrixOf t)) (entry (inverseOf t))
 unfolding firstUnlike unlike Inverse
-like-identity t e i k hi hk = sym (ap₂ value p q) ∙ eqb-true _ _ (not-false _ (none-first 144 (unlike t) e (12 * i + k) (omega arith))) ∙ ap₂ identity p q
+like-identity t e i k hi hk =
+    sym (ap₂ value p q)
+    ∙ eqb-true _ _ (not-false _ (none-first 144 (unlike t) e (12 * i + k) (omega arith)))
+    ∙ ap₂ identity p q
   where
     value : ℕ → ℕ → ℕ
     value = product 12 (entry (matrixOf t)) (entry (inverseOf t))
@@ -45,12 +53,15 @@ like-identity t e i k hi hk = sym (ap₂ value p q) ∙ eqb-true _ _ (not-false 
     q : (12 * i + k) % 12 ≡ k
     q = omega arith
 
-identity-like : (t : List ℕ) → Inverse 12 (entry (matrixOf t)) (entry (inverseOf t)) → (c : ℕ) → c < 144 → unlike t c ≡ false
+identity-like : (t : List ℕ) → Inverse 12 (entry (matrixOf t)) (entry (inverseOf t)) → (c : ℕ) → c < 144
+    → unlike t c ≡ false
 unfolding unlike Inverse
 identity-like t h c l = rw (eq-eqb _ _ (h (c / 12) (c % 12) (omega arith) (omega arith)))
 
 pub test-complete : (t : List ℕ) → IsTable t → tableTest t ≡ Accepted
-test-complete t h = sym (tested.accepted t (h .size) (all-good t (h .canonical) ∙ h .size) (tested.passes t (identity-like t (h .inverse))))
+test-complete t h =
+    sym
+    (tested.accepted t (h .size) (all-good t (h .canonical) ∙ h .size) (tested.passes t (identity-like t (h .inverse))))
 
 -- ---- the places of its refusals
 
@@ -67,7 +78,8 @@ pub record FirstCell (t : List ℕ) (c : ℕ) : Type 0 where
   pub canonical : AllCanonical t
   pub within : c < 144
   pub other : product 12 (entry (matrixOf t)) (entry (inverseOf t)) (c / 12) (c % 12) ≡ identity (c / 12) (c % 12) → ⊥
-  pub before : (d : ℕ) → d < c → product 12 (entry (matrixOf t)) (entry (inverseOf t)) (d / 12) (d % 12) ≡ identity (d / 12) (d % 12)
+  pub before : (d : ℕ) → d < c
+      → product 12 (entry (matrixOf t)) (entry (inverseOf t)) (d / 12) (d % 12) ≡ identity (d / 12) (d % 12)
 
 -- the answer of the test, by cases
 pub data Answers (t : List ℕ) : Answer → Type 0 where
@@ -77,11 +89,25 @@ pub data Answers (t : List ℕ) : Answer → Type 0 where
   cell-refused : (c : ℕ) → FirstCell t c → Answers t (Refused (WrongInverse c))
 
 first-word : (t : List ℕ) → length t ≡ tableWords → (firstBad t ≡ tableWords → ⊥) → FirstWord t (firstBad t)
-first-word t size b = record { size = size; within = omega (arith, within t); bad = bad-at t (omega (arith, within t)); before = good-before t }
+first-word t size b =
+    record {
+      size = size;
+      within = omega (arith, within t);
+      bad = bad-at t (omega (arith, within t));
+      before = good-before t;
+    }
 
-first-cell : (t : List ℕ) → length t ≡ tableWords → firstBad t ≡ tableWords → (firstUnlike t ≡ 144 → ⊥) → FirstCell t (firstUnlike t)
+first-cell : (t : List ℕ) → length t ≡ tableWords → firstBad t ≡ tableWords → (firstUnlike t ≡ 144 → ⊥)
+    → FirstCell t (firstUnlike t)
 unfolding firstUnlike unlike
-first-cell t size good u = record { size = size; canonical = good-all t (good ∙ sym size); within = below; other = eqb-false _ _ (not-true _ (first-is .found below)); before = λ d l. eqb-true _ _ (not-false _ (first-is .before d l)) }
+first-cell t size good u =
+    record {
+      size = size;
+      canonical = good-all t (good ∙ sym size);
+      within = below;
+      other = eqb-false _ _ (not-true _ (first-is .found below));
+      before = λ d l. eqb-true _ _ (not-false _ (first-is .before d l));
+    }
   where
     first-is : IsFirst 144 (unlike t) (first 144 (unlike t))
     first-is = is-first 144 (unlike t)
@@ -92,13 +118,18 @@ first-cell t size good u = record { size = size; canonical = good-all t (good �
 pub test-answers : (t : List ℕ) → Answers t (tableTest t)
 test-answers t = with-size (ℕ-discrete (length t) tableWords)
   where
-    with-cells : (size : length t ≡ tableWords) → firstBad t ≡ tableWords → Dec (firstUnlike t ≡ 144) → Answers t (tableTest t)
-    with-cells size good (yes u) = subst (Answers t) (tested.accepted t size good u) (accepted (record { size = size; canonical = good-all t (good ∙ sym size); inverse = like-identity t u }))
-    with-cells size good (no u) = subst (Answers t) (tested.wrong-cell t size good _ refl u) (cell-refused _ (first-cell t size good u))
+    with-cells : (size : length t ≡ tableWords) → firstBad t ≡ tableWords → Dec (firstUnlike t ≡ 144)
+        → Answers t (tableTest t)
+    with-cells size good (yes u) =
+        subst (Answers t) (tested.accepted t size good u)
+        (accepted (record { size = size; canonical = good-all t (good ∙ sym size); inverse = like-identity t u }))
+    with-cells size good (no u) =
+        subst (Answers t) (tested.wrong-cell t size good _ refl u) (cell-refused _ (first-cell t size good u))
 
     with-words : (size : length t ≡ tableWords) → Dec (firstBad t ≡ tableWords) → Answers t (tableTest t)
     with-words size (yes b) = with-cells size b (ℕ-discrete (firstUnlike t) 144)
-    with-words size (no b) = subst (Answers t) (tested.wrong-word t size _ refl b) (word-refused _ (first-word t size b))
+    with-words size (no b) =
+        subst (Answers t) (tested.wrong-word t size _ refl b) (word-refused _ (first-word t size b))
 
     with-size : Dec (length t ≡ tableWords) → Answers t (tableTest t)
     with-size (yes s) = with-words s (ℕ-discrete (firstBad t) tableWords)
@@ -166,30 +197,41 @@ module _ (t : List ℕ) (h : IsTable t) where
   pub inverse-left : Inverse 12 (entry (inverseOf t)) (entry (matrixOf t))
   inverse-left = other-side 12 (entry (matrixOf t)) (entry (inverseOf t)) (h .inverse)
 
-  pub mix-undo : (s : List ℕ) → length s ≡ 12 → ((i : ℕ) → i < 12 → Canonical (cell s i)) → times (matrixOf t) (times (inverseOf t) s) ≡ s
+  pub mix-undo : (s : List ℕ) → length s ≡ 12 → ((i : ℕ) → i < 12 → Canonical (cell s i))
+      → times (matrixOf t) (times (inverseOf t) s) ≡ s
   mix-undo = times-undo (matrixOf t) (inverseOf t) (h .inverse)
 
-  pub undo-mix : (s : List ℕ) → length s ≡ 12 → ((i : ℕ) → i < 12 → Canonical (cell s i)) → times (inverseOf t) (times (matrixOf t) s) ≡ s
+  pub undo-mix : (s : List ℕ) → length s ≡ 12 → ((i : ℕ) → i < 12 → Canonical (cell s i))
+      → times (inverseOf t) (times (matrixOf t) s) ≡ s
   undo-mix = times-redo (matrixOf t) (inverseOf t) (h .inverse)
 
 -- ---- Prepare
 
 -- its tests give no other answers than these
-raw-answers : (raw : List ℕ) (room : ℕ) (Q : Answer → Type 0) → Q Accepted → Q (Refused TableLength) → Q (Refused DestinationLength) → ((b : ℕ) → Q (Refused (TableWord b))) → Q (rawTest raw room)
+raw-answers : (raw : List ℕ) (room : ℕ) (Q : Answer → Type 0) → Q Accepted → Q (Refused TableLength)
+    → Q (Refused DestinationLength) → ((b : ℕ) → Q (Refused (TableWord b))) → Q (rawTest raw room)
 unfolding rawTest
 raw-answers raw room Q q1 q2 q3 q4 = go (eqb (length raw) rawWords) (eqb room tableWords) (eqb (firstBad raw) rawWords)
   where
-    go : (x y z : Bool) → Q (choose x (choose y (choose z Accepted (Refused (TableWord (firstBad raw)))) (Refused DestinationLength)) (Refused TableLength))
+    go : (x y z : Bool)
+        → Q (choose x (choose y (choose z Accepted (Refused (TableWord (firstBad raw)))) (Refused DestinationLength))
+        (Refused TableLength))
     go false y z = q2
     go true false z = q3
     go true true false = q4 (firstBad raw)
     go true true true = q1
 
 raw-not-3 : (raw : List ℕ) (room : ℕ) → rawTest raw room ≡ Refused NoInverse → ⊥
-raw-not-3 raw room = raw-answers raw room (λ a. a ≡ Refused NoInverse → ⊥) (λ e. let z : _≡_ {A = ℕ} 0 1 = cc in omega arith) (λ e. let z : _≡_ {A = ℕ} 0 1 = cc in omega arith) (λ e. let z : _≡_ {A = ℕ} 0 1 = cc in omega arith) (λ b e. let z : _≡_ {A = ℕ} 0 1 = cc in omega arith)
+raw-not-3 raw room =
+    raw-answers raw room (λ a. a ≡ Refused NoInverse → ⊥) (λ e. let z : _≡_ {A = ℕ} 0 1 = cc in omega arith)
+    (λ e. let z : _≡_ {A = ℕ} 0 1 = cc in omega arith) (λ e. let z : _≡_ {A = ℕ} 0 1 = cc in omega arith)
+    (λ b e. let z : _≡_ {A = ℕ} 0 1 = cc in omega arith)
 
 raw-not-4 : (raw : List ℕ) (room c : ℕ) → rawTest raw room ≡ Refused (WrongInverse c) → ⊥
-raw-not-4 raw room c = raw-answers raw room (λ a. a ≡ Refused (WrongInverse c) → ⊥) (λ e. let z : _≡_ {A = ℕ} 0 1 = cc in omega arith) (λ e. let z : _≡_ {A = ℕ} 0 1 = cc in omega arith) (λ e. let z : _≡_ {A = ℕ} 0 1 = cc in omega arith) (λ b e. let z : _≡_ {A = ℕ} 0 1 = cc in omega arith)
+raw-not-4 raw room c =
+    raw-answers raw room (λ a. a ≡ Refused (WrongInverse c) → ⊥) (λ e. let z : _≡_ {A = ℕ} 0 1 = cc in omega arith)
+    (λ e. let z : _≡_ {A = ℕ} 0 1 = cc in omega arith) (λ e. let z : _≡_ {A = ℕ} 0 1 = cc in omega arith)
+    (λ b e. let z : _≡_ {A = ℕ} 0 1 = cc in omega arith)
 
 -- what they let through
 pub record RawTable (raw : List ℕ) (room : ℕ) : Type 0 where
@@ -216,17 +258,25 @@ pub raw-complete : (raw : List ℕ) (room : ℕ) → RawTable raw room → rawTe
 raw-complete raw room h = prep.raw-accepted raw room (h .size) (h .room-fits) (all-good raw (h .canonical) ∙ h .size)
 
 prepared-table : (raw n : List ℕ) (room : ℕ) → RawTable raw room → RawInverse raw n → IsTable (prepared raw n)
-prepared-table raw n room r h = record { size = prep.length-prepared raw n (r .size) (h .size); canonical = prep.prepared-canonical raw n (r .size) (h .size) (r .canonical) (h .canonical); inverse = inverse }
+prepared-table raw n room r h =
+    record {
+      size = prep.length-prepared raw n (r .size) (h .size);
+      canonical = prep.prepared-canonical raw n (r .size) (h .size) (r .canonical) (h .canonical);
+      inverse = inverse;
+    }
   where
     inverse : Inverse 12 (entry (matrixOf (prepared raw n))) (entry (inverseOf (prepared raw n)))
-    inverse = rw (prep.matrix-prepared raw n (r .size) (h .size), prep.inverse-prepared raw n (r .size) (h .size)) (h .inverse)
+    inverse =
+        rw (prep.matrix-prepared raw n (r .size) (h .size), prep.inverse-prepared raw n (r .size) (h .size))
+        (h .inverse)
 
 -- a table that Prepare wrote is accepted
 pub prepared-accepted : (raw old new : List ℕ) → Prepares raw old Accepted new → tableTest new ≡ Accepted
 prepared-accepted raw old new h = go Accepted new h refl
   where
     go : (a : Answer) (s : List ℕ) → Prepares raw old a s → a ≡ Accepted → tableTest s ≡ Accepted
-    go a s (accepts n t i) e = test-complete (prepared raw n) (prepared-table raw n (length old) (raw-sound raw (length old) t) i)
+    go a s (accepts n t i) e =
+        test-complete (prepared raw n) (prepared-table raw n (length old) (raw-sound raw (length old) t) i)
     go a s (no-inverse t k) e = absurd (not-refused _ e)
     go a s (refuses r t) e = absurd (not-refused _ e)
 
@@ -234,12 +284,18 @@ prepared-accepted raw old new h = go Accepted new h refl
 pub prepares-some : (raw old : List ℕ) → (a : Answer) × ((s : List ℕ) × Prepares raw old a s)
 prepares-some raw old = go (rawTest raw (length old)) refl
   where
-    found : rawTest raw (length old) ≡ Accepted → Invertible 12 (entry (rawMatrix raw)) → (a : Answer) × ((s : List ℕ) × Prepares raw old a s)
-    found e h = (Accepted, (prepared raw (listed (h .matrix)), accepts (listed (h .matrix)) e (listed-inverse (rawMatrix raw) h)))
+    found : rawTest raw (length old) ≡ Accepted → Invertible 12 (entry (rawMatrix raw))
+        → (a : Answer) × ((s : List ℕ) × Prepares raw old a s)
+    found e h = (
+      Accepted,
+      (prepared raw (listed (h .matrix)), accepts (listed (h .matrix)) e (listed-inverse (rawMatrix raw) h)),
+    )
 
     go : (a : Answer) → rawTest raw (length old) ≡ a → (b : Answer) × ((s : List ℕ) × Prepares raw old b s)
     go (Refused r) e = (Refused r, (old, refuses r e))
-    go Accepted e = ⊎-elim (found e) (λ (k : Kernel 12 (entry (rawMatrix raw))). (Refused NoInverse, (old, no-inverse e k))) (dichotomy 12 (entry (rawMatrix raw)))
+    go Accepted e =
+        ⊎-elim (found e) (λ (k : Kernel 12 (entry (rawMatrix raw))). (Refused NoInverse, (old, no-inverse e k)))
+        (dichotomy 12 (entry (rawMatrix raw)))
 
 -- a refusal leaves the destination as it was
 pub refused-kept : (raw old new : List ℕ) (r : Refusal) → Prepares raw old (Refused r) new → new ≡ old
@@ -251,11 +307,15 @@ refused-kept raw old new r h = go (Refused r) new h refl
     go a s (refuses q t) e = refl
 
 -- answer and content are determined
-pub prepares-unique : (raw old : List ℕ) (a b : Answer) (s t : List ℕ) → Prepares raw old a s → Prepares raw old b t → (a ≡ b) × (s ≡ t)
-prepares-unique raw old a b s t (accepts n e h) (accepts m f g) = (refl, ap (prepared raw) (inverse-only (rawMatrix raw) n m h g))
-prepares-unique raw old a b s t (accepts n e h) (no-inverse f k) = absurd (not-both 12 (entry (rawMatrix raw)) (entry n) (h .inverse) k)
+pub prepares-unique : (raw old : List ℕ) (a b : Answer) (s t : List ℕ) → Prepares raw old a s → Prepares raw old b t
+    → (a ≡ b) × (s ≡ t)
+prepares-unique raw old a b s t (accepts n e h) (accepts m f g) =
+    (refl, ap (prepared raw) (inverse-only (rawMatrix raw) n m h g))
+prepares-unique raw old a b s t (accepts n e h) (no-inverse f k) =
+    absurd (not-both 12 (entry (rawMatrix raw)) (entry n) (h .inverse) k)
 prepares-unique raw old a b s t (accepts n e h) (refuses r f) = absurd (not-refused r (sym f ∙ e))
-prepares-unique raw old a b s t (no-inverse e k) (accepts n f h) = absurd (not-both 12 (entry (rawMatrix raw)) (entry n) (h .inverse) k)
+prepares-unique raw old a b s t (no-inverse e k) (accepts n f h) =
+    absurd (not-both 12 (entry (rawMatrix raw)) (entry n) (h .inverse) k)
 prepares-unique raw old a b s t (no-inverse e k) (no-inverse f l) = (refl, refl)
 prepares-unique raw old a b s t (no-inverse e k) (refuses r f) = absurd (not-refused r (sym f ∙ e))
 prepares-unique raw old a b s t (refuses r e) (accepts n f h) = absurd (not-refused r (sym e ∙ f))
@@ -263,10 +323,13 @@ prepares-unique raw old a b s t (refuses r e) (no-inverse f k) = absurd (not-ref
 prepares-unique raw old a b s t (refuses r e) (refuses q f) = (sym e ∙ f, refl)
 
 -- 3 exactly where the tests accept and M takes some non-zero column to all zeros
-pub no-inverse-exact : (raw old new : List ℕ) (a : Answer) → Prepares raw old a new → (a ≡ Refused NoInverse) ↔ ((rawTest raw (length old) ≡ Accepted) × Kernel 12 (entry (rawMatrix raw)))
-no-inverse-exact raw old new a h = (to a new h, λ g. prepares-unique raw old a (Refused NoInverse) new old h (no-inverse (g .0) (g .1)) .0)
+pub no-inverse-exact : (raw old new : List ℕ) (a : Answer) → Prepares raw old a new
+    → (a ≡ Refused NoInverse) ↔ ((rawTest raw (length old) ≡ Accepted) × Kernel 12 (entry (rawMatrix raw)))
+no-inverse-exact raw old new a h =
+    (to a new h, λ g. prepares-unique raw old a (Refused NoInverse) new old h (no-inverse (g .0) (g .1)) .0)
   where
-    to : (b : Answer) (s : List ℕ) → Prepares raw old b s → b ≡ Refused NoInverse → (rawTest raw (length old) ≡ Accepted) × Kernel 12 (entry (rawMatrix raw))
+    to : (b : Answer) (s : List ℕ) → Prepares raw old b s → b ≡ Refused NoInverse
+        → (rawTest raw (length old) ≡ Accepted) × Kernel 12 (entry (rawMatrix raw))
     to b s (accepts n t i) e = absurd (not-refused _ (sym e))
     to b s (no-inverse t k) e = (t, k)
     to b s (refuses r t) e = absurd (raw-not-3 raw (length old) (t ∙ e))

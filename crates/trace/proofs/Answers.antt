@@ -22,7 +22,8 @@ pub record BuildInputs (T w : List ℕ) (size k : ℕ) : Type 0 where
   pub room : size ≡ 384 * k
   pub canonical : AllCanonical w
 
-pub build-inputs : (T w : List ℕ) (size : ℕ) → buildTest T w size ≡ Accepted → BuildInputs T w size (tapWordBatches (length w))
+pub build-inputs : (T w : List ℕ) (size : ℕ) → buildTest T w size ≡ Accepted
+    → BuildInputs T w size (tapWordBatches (length w))
 unfolding buildTest
 build-inputs T w size e =
     let a = both-accepted (tableTest T) _ e in
@@ -41,4 +42,9 @@ pub build-passes : (T w : List ℕ) (size k : ℕ) → BuildInputs T w size k �
 unfolding buildTest
 build-passes T w size k h =
     let l = tap-length-complete mostBatches (length w) k (h .taps) (h .permitted) in
-    rw (test-complete T (h .table), l .0, eq-eqb _ _ (h .room ∙ ap (λ n. 384 * n) (sym (l .1))), test-good w (h .canonical))
+    rw (
+      test-complete T (h .table),
+      l .0,
+      eq-eqb _ _ (h .room ∙ ap (λ n. 384 * n) (sym (l .1))),
+      test-good w (h .canonical),
+    )

@@ -1,4 +1,5 @@
--- What each row of a section 3.1 trace is: the input of a batch's first hash, a middle state, or the final state of its third hash; and there is no fourth kind.
+-- What each row of a section 3.1 trace is: the input of a batch's first hash, a middle state, or the final state of its
+-- third hash; and there is no fourth kind.
 -- Assumes nothing.
 use mathlib.Core.Path.{_≡_, ap, ap₂, _∙_}
 use mathlib.Core.List.{List}
@@ -41,14 +42,16 @@ module _ (T w : List ℕ) where
   unfolding batchRow
   row-end b = row-of-batch b 31 (omega arith)
 
-  batch-middle : (b e j : ℕ) → e < 3 → j < 10 → batchRow T w b (10 * e + 1 + j) ≡ middleState T (hashInput T w (3 * b + e)) j
+  batch-middle : (b e j : ℕ) → e < 3 → j < 10
+      → batchRow T w b (10 * e + 1 + j) ≡ middleState T (hashInput T w (3 * b + e)) j
   unfolding batchRow
   batch-middle b e j p q =
       let u : (10 * e + 1 + j - 1) / 10 ≡ e = omega arith in
       let v : (10 * e + 1 + j - 1) % 10 ≡ j = omega arith in
       rw (ne-eqb (10 * e + 1 + j) 0 (λ z. omega arith), ne-eqb (10 * e + 1 + j) 31 (λ z. omega arith), u, v)
 
-  pub row-middle : (h j : ℕ) → j < 10 → traceRow T w (32 * (h / 3) + 10 * (h % 3) + 1 + j) ≡ middleState T (hashInput T w h) j
+  pub row-middle : (h j : ℕ) → j < 10
+      → traceRow T w (32 * (h / 3) + 10 * (h % 3) + 1 + j) ≡ middleState T (hashInput T w h) j
   row-middle h j q =
       let e : 32 * (h / 3) + 10 * (h % 3) + 1 + j ≡ 32 * (h / 3) + (10 * (h % 3) + 1 + j) = omega arith in
       let f : 3 * (h / 3) + h % 3 ≡ h = omega arith in

@@ -1,4 +1,5 @@
--- The section 3.1 trace of a list of canonical taps: its length, its cells, which are canonical, and its last row, which begins with the chain's output.
+-- The section 3.1 trace of a list of canonical taps: its length, its cells, which are canonical, and its last row,
+-- which begins with the chain's output.
 -- Assumes nothing.
 use mathlib.Core.Path.{_≡_, sym, ap, ap₂, _∙_, subst}
 use mathlib.Core.List.{List}
@@ -12,21 +13,26 @@ use Rattle.field.specs.Field.{P}
 use Rattle.words.specs.Words.{AllCanonical}
 use Rattle.hash.specs.Hash.{input, tap, outputAt, chain, finalState}
 use Rattle.hash.proofs.States.{IsState, state-cell, middleState-state, finalState-state}
-use Rattle.hash.proofs.Inputs.{IsTap, tap-is-tap, cell-input-left, cell-input-right, cell-input-zeros, input-state, output-tap, output-suc}
+use Rattle.hash.proofs.Inputs.{IsTap, tap-is-tap, cell-input-left, cell-input-right, cell-input-zeros}
+use Rattle.hash.proofs.Inputs.{input-state, output-tap, output-suc}
 use Rattle.trace.specs.Trace.{hashInput, traceRow, trace}
 use Rattle.trace.proofs.RowKinds.{RowKind, start, middle, end, row-kind, row-start, row-end, row-middle}
 
 -- the output of hash h is the first four cells of its final state
 pub next-output : (T w : List ℕ) (h : ℕ) → outputAt T w (h + 1) ≡ take 4 (finalState T (hashInput T w h))
 unfolding hashInput
-next-output T w h = ap (outputAt T w) (add-one h) ∙ output-suc T w h ∙ ap (λ n. take 4 (finalState T (input (outputAt T w h) (tap w n)))) (sym (add-one h))
+next-output T w h =
+    ap (outputAt T w) (add-one h)
+    ∙ output-suc T w h
+    ∙ ap (λ n. take 4 (finalState T (input (outputAt T w h) (tap w n)))) (sym (add-one h))
 
 pub length-trace : (T w : List ℕ) (k : ℕ) → length (trace T w k) ≡ 384 * k
 unfolding trace
 length-trace T w k = length-tab (384 * k) _
 
 -- row by row, 12 cells a row
-pub cell-trace : (T w : List ℕ) (k i j : ℕ) → i < 32 * k → j < 12 → cell (trace T w k) (12 * i + j) ≡ cell (traceRow T w i) j
+pub cell-trace : (T w : List ℕ) (k i j : ℕ) → i < 32 * k → j < 12
+    → cell (trace T w k) (12 * i + j) ≡ cell (traceRow T w i) j
 unfolding trace
 cell-trace T w k i j p q =
     let u : (12 * i + j) / 12 ≡ i = omega arith in
@@ -73,12 +79,17 @@ module _ (T w : List ℕ) (k : ℕ) (sized : length w ≡ 12 * k + 4) (canonical
   traceRow-state i l = go (row-kind i)
     where
       go : RowKind i → IsState (traceRow T w i)
-      go (start b e) = subst IsState (sym (ap (traceRow T w) e ∙ row-start T w b)) (hashInput-state (3 * b) (omega arith))
-      go (middle h j q e) = subst IsState (sym (ap (traceRow T w) e ∙ row-middle T w h j q)) (middleState-state T (hashInput T w h) j)
-      go (end b e) = subst IsState (sym (ap (traceRow T w) e ∙ row-end T w b)) (finalState-state T (hashInput T w (3 * b + 2)))
+      go (start b e) =
+          subst IsState (sym (ap (traceRow T w) e ∙ row-start T w b)) (hashInput-state (3 * b) (omega arith))
+      go (middle h j q e) =
+          subst IsState (sym (ap (traceRow T w) e ∙ row-middle T w h j q)) (middleState-state T (hashInput T w h) j)
+      go (end b e) =
+          subst IsState (sym (ap (traceRow T w) e ∙ row-end T w b)) (finalState-state T (hashInput T w (3 * b + 2)))
 
   pub trace-canonical : AllCanonical (trace T w k)
-  trace-canonical n l = subst (λ m. cell (trace T w k) m < P) e (omega (arith, c, state-cell (traceRow-state (n / 12) (omega (arith, within))) (n % 12)))
+  trace-canonical n l =
+      subst (λ m. cell (trace T w k) m < P) e
+      (omega (arith, c, state-cell (traceRow-state (n / 12) (omega (arith, within))) (n % 12)))
     where
       within : n < 384 * k
       within = omega (arith, length-trace T w k)

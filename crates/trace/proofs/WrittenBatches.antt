@@ -14,12 +14,21 @@ use Rattle.trace.proofs.TraceCells.{next-output}
 use Rattle.trace.proofs.WrittenRows.{rows-ext, rows-join, rows-all}
 
 -- what is written so far leaves the length as it was
-pub still-writable : {T w : List ℕ} {b : ℕ} {d new : List ℕ} → length new ≡ length d → Writable T w b d → Writable T w b new
-still-writable e r = record { table = r .table; canonical = r .canonical; small = r .small; taps = r .taps; room = omega (arith, r .room) }
+pub still-writable : {T w : List ℕ} {b : ℕ} {d new : List ℕ} → length new ≡ length d → Writable T w b d
+    → Writable T w b new
+still-writable e r =
+    record {
+      table = r .table;
+      canonical = r .canonical;
+      small = r .small;
+      taps = r .taps;
+      room = omega (arith, r .room);
+    }
 
 module _ (T w : List ℕ) where
   -- the input that the code makes is that of hash h
-  pub is-input : (h : ℕ) (last s : List ℕ) → take 4 last ≡ outputAt T w h → s ≡ input (take 4 last) (tap w (h + 1)) → s ≡ hashInput T w h
+  pub is-input : (h : ℕ) (last s : List ℕ) → take 4 last ≡ outputAt T w h → s ≡ input (take 4 last) (tap w (h + 1))
+      → s ≡ hashInput T w h
   unfolding hashInput
   is-input h last s e q = q ∙ ap (λ a. input a (tap w (h + 1))) e
 
@@ -28,7 +37,8 @@ module _ (T w : List ℕ) where
   is-output h n s e q = ap (take 4) q ∙ sym (next-output T w h) ∙ ap (outputAt T w) (sym e)
 
   -- one row of the trace
-  single : (s : List ℕ) (r : ℕ) (d : List ℕ) → s ≡ traceRow T w r → withRows (λ i. s) r (r + 1) d ≡ withRows (traceRow T w) r (r + 1) d
+  single : (s : List ℕ) (r : ℕ) (d : List ℕ) → s ≡ traceRow T w r
+      → withRows (λ i. s) r (r + 1) d ≡ withRows (traceRow T w) r (r + 1) d
   single s r d e = rows-ext _ _ r (r + 1) d same
     where
       same : (i : ℕ) → r ≤ i → i < r + 1 → s ≡ traceRow T w i
@@ -38,8 +48,11 @@ module _ (T w : List ℕ) where
 
   module _ (b : ℕ) where
     -- the middle states of hash e of batch b
-    pub hash-rows : (e r : ℕ) (s d new : List ℕ) → e < 3 → r ≡ 32 * b + (10 * e + 1) → s ≡ hashInput T w (3 * b + e) → new ≡ withRows (λ i. middleState T s (i - r)) r (r + 10) d → new ≡ withRows (traceRow T w) (32 * b + (10 * e + 1)) (32 * b + (10 * e + 11)) d
-    hash-rows e r s d new p er es en = en ∙ rows-ext _ (traceRow T w) r (r + 10) d same ∙ ap₂ (λ x y. withRows (traceRow T w) x y d) er last
+    pub hash-rows : (e r : ℕ) (s d new : List ℕ) → e < 3 → r ≡ 32 * b + (10 * e + 1) → s ≡ hashInput T w (3 * b + e)
+        → new ≡ withRows (λ i. middleState T s (i - r)) r (r + 10) d
+        → new ≡ withRows (traceRow T w) (32 * b + (10 * e + 1)) (32 * b + (10 * e + 11)) d
+    hash-rows e r s d new p er es en =
+        en ∙ rows-ext _ (traceRow T w) r (r + 10) d same ∙ ap₂ (λ x y. withRows (traceRow T w) x y d) er last
       where
         last : r + 10 ≡ 32 * b + (10 * e + 11)
         last = omega arith
@@ -73,11 +86,15 @@ module _ (T w : List ℕ) where
         end : 32 * b + 31 + 1 ≡ 32 * b + 32
         end = omega arith
 
-        on : (x y : ℕ) (d : List ℕ) → x ≤ 32 → x ≤ y → d ≡ withRows (traceRow T w) (32 * b) (32 * b + x) d₀ → withRows (traceRow T w) (32 * b + x) (32 * b + y) d ≡ withRows (traceRow T w) (32 * b) (32 * b + y) d₀
-        on x y d l g e = ap (withRows (traceRow T w) (32 * b + x) (32 * b + y)) e ∙ rows-join (traceRow T w) (32 * b) (32 * b + x) d₀ (omega arith) (omega arith) (32 * b + y) (omega arith)
+        on : (x y : ℕ) (d : List ℕ) → x ≤ 32 → x ≤ y → d ≡ withRows (traceRow T w) (32 * b) (32 * b + x) d₀
+            → withRows (traceRow T w) (32 * b + x) (32 * b + y) d ≡ withRows (traceRow T w) (32 * b) (32 * b + y) d₀
+        on x y d l g e =
+            ap (withRows (traceRow T w) (32 * b + x) (32 * b + y)) e
+            ∙ rows-join (traceRow T w) (32 * b) (32 * b + x) d₀ (omega arith) (omega arith) (32 * b + y) (omega arith)
 
         to₁ : d₁ ≡ withRows (traceRow T w) (32 * b) (32 * b + 1) d₀
-        to₁ = p₁ ∙ ap (λ r. withRows (λ i. first) r (r + 1) d₀) q₀ ∙ single first (32 * b) d₀ (e₀ ∙ sym (row-start T w b))
+        to₁ =
+            p₁ ∙ ap (λ r. withRows (λ i. first) r (r + 1) d₀) q₀ ∙ single first (32 * b) d₀ (e₀ ∙ sym (row-start T w b))
 
         to₂ : d₂ ≡ withRows (traceRow T w) (32 * b) (32 * b + 11) d₀
         to₂ = p₂ ∙ on 1 11 d₁ (omega arith) (omega arith) to₁
@@ -89,10 +106,14 @@ module _ (T w : List ℕ) where
         to₄ = p₄ ∙ on 21 31 d₃ (omega arith) (omega arith) to₃
 
   -- one batch more, and all of them
-  pub more-rows : (b : ℕ) (d₀ d₁ d₂ : List ℕ) → 384 * b ≤ length d₀ → d₁ ≡ withRows (traceRow T w) 0 (32 * b) d₀ → d₂ ≡ withRows (traceRow T w) (32 * b) (32 * b + 32) d₁ → d₂ ≡ withRows (traceRow T w) 0 (32 * (b + 1)) d₀
+  pub more-rows : (b : ℕ) (d₀ d₁ d₂ : List ℕ) → 384 * b ≤ length d₀ → d₁ ≡ withRows (traceRow T w) 0 (32 * b) d₀
+      → d₂ ≡ withRows (traceRow T w) (32 * b) (32 * b + 32) d₁ → d₂ ≡ withRows (traceRow T w) 0 (32 * (b + 1)) d₀
   more-rows b d₀ d₁ d₂ l e q =
       let n : 32 * b + 32 ≡ 32 * (b + 1) = omega arith in
-      q ∙ ap (withRows (traceRow T w) (32 * b) (32 * b + 32)) e ∙ rows-join (traceRow T w) 0 (32 * b) d₀ (omega arith) (omega arith) (32 * b + 32) (omega arith) ∙ ap (λ m. withRows (traceRow T w) 0 m d₀) n
+      q
+      ∙ ap (withRows (traceRow T w) (32 * b) (32 * b + 32)) e
+      ∙ rows-join (traceRow T w) 0 (32 * b) d₀ (omega arith) (omega arith) (32 * b + 32) (omega arith)
+      ∙ ap (λ m. withRows (traceRow T w) 0 m d₀) n
 
   pub all-rows : (k : ℕ) (d : List ℕ) → length d ≡ 384 * k → withRows (traceRow T w) 0 (32 * k) d ≡ trace T w k
   unfolding trace

@@ -15,7 +15,8 @@ abbrev cells : (ℕ → List ℕ) → ℕ → ℕ → List ℕ
 cells row a m = tab (12 * m) (λ n. cell (row (a + n / 12)) (n % 12))
 
 cells-add : (row : ℕ → List ℕ) (a m p : ℕ) → cells row a (m + p) ≡ cells row a m ++ cells row (a + m) p
-cells-add row a m p = ap (λ n. tab n f) e ∙ tab-add (12 * m) (12 * p) f ∙ ap (λ l. cells row a m ++ l) (tab-ext (12 * p) _ _ same)
+cells-add row a m p =
+    ap (λ n. tab n f) e ∙ tab-add (12 * m) (12 * p) f ∙ ap (λ l. cells row a m ++ l) (tab-ext (12 * p) _ _ same)
   where
     f : ℕ → ℕ
     f n = cell (row (a + n / 12)) (n % 12)
@@ -34,12 +35,17 @@ pub rows-none : (row : ℕ → List ℕ) (a : ℕ) (d : List ℕ) → withRows r
 unfolding withRows tab
 rows-none row a d =
     let z : 12 * (a - a) ≡ 0 = omega arith in
-    ap (λ n. take (12 * a) d ++ tab n (λ i. cell (row (a + i / 12)) (i % 12)) ++ drop (12 * a) d) z ∙ ap (λ l. l ++ drop (12 * a) d) (append-nil (take (12 * a) d)) ∙ take-append-drop (12 * a) d
+    ap (λ n. take (12 * a) d ++ tab n (λ i. cell (row (a + i / 12)) (i % 12)) ++ drop (12 * a) d) z
+    ∙ ap (λ l. l ++ drop (12 * a) d) (append-nil (take (12 * a) d))
+    ∙ take-append-drop (12 * a) d
 
 -- one row
-pub row-one : (s : List ℕ) (r : ℕ) (d : List ℕ) → length s ≡ 12 → take (12 * r) d ++ s ++ drop (12 * r + 12) d ≡ withRows (λ i. s) r (r + 1) d
+pub row-one : (s : List ℕ) (r : ℕ) (d : List ℕ) → length s ≡ 12
+    → take (12 * r) d ++ s ++ drop (12 * r + 12) d ≡ withRows (λ i. s) r (r + 1) d
 unfolding withRows
-row-one s r d e = sym (ap₂ (λ x n. take (12 * r) d ++ x ++ drop n d) (ap (λ n. tab n (λ i. cell s (i % 12))) twelve ∙ tab-ext 12 _ _ same ∙ tab-cell 12 s e) after)
+row-one s r d e =
+    sym (ap₂ (λ x n. take (12 * r) d ++ x ++ drop n d)
+    (ap (λ n. tab n (λ i. cell s (i % 12))) twelve ∙ tab-ext 12 _ _ same ∙ tab-cell 12 s e) after)
   where
     twelve : 12 * (r + 1 - r) ≡ 12
     twelve = omega arith
@@ -59,13 +65,21 @@ module _ (row : ℕ → List ℕ) (a b : ℕ) (d : List ℕ) (p : a ≤ b) (l : 
 
   length-front : length front ≡ 12 * b
   unfolding front
-  length-front = length-append (take (12 * a) d) _ ∙ omega (arith, length-take-le (12 * a) d (omega arith), length-tab (12 * (b - a)) (λ n. cell (row (a + n / 12)) (n % 12)))
+  length-front =
+      length-append (take (12 * a) d) _
+      ∙ omega (
+        arith,
+        length-take-le (12 * a) d (omega arith),
+        length-tab (12 * (b - a)) (λ n. cell (row (a + n / 12)) (n % 12)),
+      )
 
   pub rows-join : (c : ℕ) → b ≤ c → withRows row b c (withRows row a b d) ≡ withRows row a c d
   unfolding withRows front
   rows-join c q =
       ap₂ (λ x y. x ++ cells row b (c - b) ++ y) (take-at front (drop (12 * b) d) (12 * b) length-front) dropped
-      ∙ ap (λ x. x ++ drop (12 * c) d) (append-assoc (take (12 * a) d) (cells row a (b - a)) (cells row b (c - b)) ∙ ap (λ x. take (12 * a) d ++ x) together)
+      ∙ ap (λ x. x ++ drop (12 * c) d)
+      (append-assoc (take (12 * a) d) (cells row a (b - a)) (cells row b (c - b))
+      ∙ ap (λ x. take (12 * a) d ++ x) together)
     where
       u : 12 * c ≡ length front + (12 * c - 12 * b)
       u = omega (arith, length-front)
@@ -87,15 +101,22 @@ module _ (row : ℕ → List ℕ) (a b : ℕ) (d : List ℕ) (p : a ≤ b) (l : 
       y = omega arith
 
       together : cells row a (b - a) ++ cells row b (c - b) ≡ cells row a (c - a)
-      together = ap (λ n. cells row a (b - a) ++ cells row n (c - b)) (sym x) ∙ sym (cells-add row a (b - a) (c - b)) ∙ ap (cells row a) y
+      together =
+          ap (λ n. cells row a (b - a) ++ cells row n (c - b)) (sym x)
+          ∙ sym (cells-add row a (b - a) (c - b))
+          ∙ ap (cells row a) y
 
 -- the rows may be given otherwise
-pub rows-ext : (f g : ℕ → List ℕ) (a b : ℕ) (d : List ℕ) → ((i : ℕ) → a ≤ i → i < b → f i ≡ g i) → withRows f a b d ≡ withRows g a b d
+pub rows-ext : (f g : ℕ → List ℕ) (a b : ℕ) (d : List ℕ) → ((i : ℕ) → a ≤ i → i < b → f i ≡ g i)
+    → withRows f a b d ≡ withRows g a b d
 unfolding withRows
-rows-ext f g a b d h = ap (λ x. take (12 * a) d ++ x ++ drop (12 * b) d) (tab-ext (12 * (b - a)) _ _ (λ n l. ap (λ r. cell r (n % 12)) (h (a + n / 12) (omega arith) (omega arith))))
+rows-ext f g a b d h =
+    ap (λ x. take (12 * a) d ++ x ++ drop (12 * b) d)
+    (tab-ext (12 * (b - a)) _ _ (λ n l. ap (λ r. cell r (n % 12)) (h (a + n / 12) (omega arith) (omega arith))))
 
 -- all rows
-pub rows-all : (row : ℕ → List ℕ) (k : ℕ) (d : List ℕ) → length d ≡ 12 * k → withRows row 0 k d ≡ tab (12 * k) (λ n. cell (row (n / 12)) (n % 12))
+pub rows-all : (row : ℕ → List ℕ) (k : ℕ) (d : List ℕ) → length d ≡ 12 * k
+    → withRows row 0 k d ≡ tab (12 * k) (λ n. cell (row (n / 12)) (n % 12))
 unfolding withRows
 rows-all row k d e = ap₂ (λ x y. [] ++ x ++ y) same (drop-of-length-le d {i = 12 * k} (omega arith)) ∙ append-nil _
   where

@@ -1,4 +1,5 @@
--- The first word that is not canonical: the scan for it, and that there is none exactly where all are canonical. Canonical lists joined are canonical.
+-- The first word that is not canonical: the scan for it, and that there is none exactly where all are canonical.
+-- Canonical lists joined are canonical.
 -- Assumes nothing.
 use mathlib.Core.Path.{_≡_, sym, _∙_}
 use mathlib.Core.Bool.{true, false}
@@ -27,9 +28,11 @@ unfolding firstBad
 good-before s i h = leb-false P _ (is-first (length s) (λ j. leb P (cell s j)) .before i h)
 
 -- a scan that stops at i, and one that comes to the end
-pub stops : (s : List ℕ) (i : ℕ) → i < length s → ((j : ℕ) → j < i → Canonical (cell s j)) → P ≤ cell s i → i ≡ firstBad s
+pub stops : (s : List ℕ) (i : ℕ) → i < length s → ((j : ℕ) → j < i → Canonical (cell s j)) → P ≤ cell s i
+    → i ≡ firstBad s
 unfolding firstBad
-stops s i h b p = found-at (length s) (λ j. leb P (cell s j)) i h (λ j l. lt-leb P (cell s j) (b j l)) (le-leb P (cell s i) p)
+stops s i h b p =
+    found-at (length s) (λ j. leb P (cell s j)) i h (λ j l. lt-leb P (cell s j) (b j l)) (le-leb P (cell s i) p)
 
 -- none is found exactly where every word is canonical
 pub all-good : (s : List ℕ) → AllCanonical s → firstBad s ≡ length s

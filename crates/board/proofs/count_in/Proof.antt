@@ -1,4 +1,4 @@
--- `board::count_in` meets its contract.
+-- `board::count_in`: the mask of 16 bits leaves k, which fits a `usize`.
 -- Assumes nothing.
 use native.Mathlib.Omega.{arith}
 use lib.Bits.{and-mask, mask-lt}

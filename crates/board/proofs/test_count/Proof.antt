@@ -17,7 +17,8 @@ use Rattle.board.proofs.test_count.Tie as tie
 
 -- what is answered there is left to the spare bits and k
 kinded : (f : tie.Else1) {o : Answer} → let w = f .before .before .args .word .0 in
-    o ≡ unless (eqb (spareIn w) 0) (WrongValue 0) (unless (permitted mostFileBatches (countIn w)) (WrongValue 0) Accepted)
+    o ≡ unless (eqb (spareIn w) 0) (WrongValue 0)
+    (unless (permitted mostFileBatches (countIn w)) (WrongValue 0) Accepted)
     → o ≡ countTest w
 unfolding countTest
 kinded f e = unless-passed _ (eq-eqb _ _ (sym (f .before .kind .ensures) ∙ f .if1 .left)) e

@@ -118,7 +118,8 @@ first-bad-requires-2 c κs = search needs
 returns-4 : tie.Need-returns-4
 returns-4 c =
     let bad = c .before .first-bad2 .ensures in
-    claimed (c .before .before) (unless-refused _ (scanned-bad _ bad (c .if3 .taken)) (ap (λ i. Refused (TapWord i)) bad))
+    claimed (c .before .before)
+    (unless-refused _ (scanned-bad _ bad (c .if3 .taken)) (ap (λ i. Refused (TapWord i)) bad))
 
 returns-5 : tie.Need-returns-5
 returns-5 c =

@@ -20,11 +20,15 @@ use Rattle.board.proofs.unpack.Tie as tie
 abbrev start : tie.After-enum-told → tie.Start
 start c = c .before .before .before .before .before
 
-board : (c : tie.After-enum-told) → let file = start c .args .file .now in IsBoard file (batchesIn file) × (length (start c .args .destination .now) ≡ 12 * batchesIn file + 4)
+board : (c : tie.After-enum-told)
+    → let file = start c .args .file .now in
+    IsBoard file (batchesIn file) × (length (start c .args .destination .now) ≡ 12 * batchesIn file + 4)
 board c = unpack-accepted _ _ (sym (c .before .before .test-unpack .ensures) ∙ c .enum-told .given .1)
 
 -- so the four elements of the claim are there, and canonical
-element : (c : tie.After-enum-told) (i : ℕ) → i < 4 → (4 * (1 + 3 * i) + 12 ≤ length (start c .args .file .now)) × (elementAt (start c .args .file .now) (1 + 3 * i) < P)
+element : (c : tie.After-enum-told) (i : ℕ) → i < 4
+    → (4 * (1 + 3 * i) + 12 ≤ length (start c .args .file .now))
+    × (elementAt (start c .args .file .now) (1 + 3 * i) < P)
 element c i h = (omega (arith, board c .0 .size), board c .0 .elements i (omega arith) .value)
 
 test-unpack-requires : tie.Need-test-unpack-requires
@@ -60,8 +64,10 @@ read-requires-4 c κs = element (c .before .before .before) 3 (lit< tt)
 
 read-all-requires : tie.Need-read-all-requires
 read-all-requires c κs =
-    let b = board (c .before .before .before .before .before) in
-    (omega (arith, b .0 .size, b .1), λ i h. rw (after-claim i) at (b .0 .elements (4 + i) (omega (arith, b .1)) .value))
+    let b = board (c .before .before .before .before .before) in (
+      omega (arith, b .0 .size, b .1),
+      λ i h. rw (after-claim i) at (b .0 .elements (4 + i) (omega (arith, b .1)) .value),
+    )
 
 same-length : tie.Need-same-length
 same-length c = search needs

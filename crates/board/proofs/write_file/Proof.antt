@@ -1,4 +1,4 @@
--- `board::write_file` meets its contract: word 0, then claim and taps, one after the other.
+-- `board::write_file`: word 0, then claim and taps, one after the other.
 -- Assumes nothing.
 use native.Mathlib.Omega.{arith}
 use Rattle.board.proofs.Files.{file-written}
@@ -34,7 +34,9 @@ returns c =
     let first = second .before .before .before .before .before in
     let start = first .before .before .before .before .before in
     let a = start .args in
-    file-written (a .destination .now) _ _ _ (a .taps .now) (a .t2) (a .k) (first .before .before .join .result .0) (omega arith) (start .pre .1) (start .pre .2) (first .before .before .join .ensures) (first .write .ensures) (second .write-all .ensures) (third .write-all2 .ensures)
+    file-written (a .destination .now) _ _ _ (a .taps .now) (a .t2) (a .k) (first .before .before .join .result .0)
+    (omega arith) (start .pre .1) (start .pre .2) (first .before .before .join .ensures) (first .write .ensures)
+    (second .write-all .ensures) (third .write-all2 .ensures)
 
 pub write-file-spec : {M : Type 1} → statement M
 write-file-spec =

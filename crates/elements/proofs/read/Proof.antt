@@ -1,4 +1,4 @@
--- `elements::read` meets its contract: an element below p has a first payload below 16.
+-- `elements::read`: an element below p has a first payload below 16, so that `value` spells it.
 -- Assumes nothing.
 use native.Mathlib.Omega.{arith}
 use borrow.Author.Needs.{needs}
@@ -30,7 +30,8 @@ returns : tie.Need-returns
 returns c =
     let third = c .before in
     let second = third .before in
-    read-three _ _ _ _ _ _ (second .before .read .ensures) (second .read2 .ensures) (third .read3 .ensures) (c .value .ensures)
+    read-three _ _ _ _ _ _ (second .before .read .ensures) (second .read2 .ensures) (third .read3 .ensures)
+    (c .value .ensures)
 
 pub read-spec : {M : Type 1} → statement M
 read-spec =

@@ -1,4 +1,4 @@
--- `elements::read_all` meets its contract: the destination is filled from the front.
+-- `elements::read_all`: the destination is filled from the front with the elements.
 -- Assumes nothing.
 use mathlib.Core.Path.{_≡_, refl, _∙_}
 use Prim.Native.Nat.{_+_, _*_, _-_, _≤_}
@@ -11,7 +11,8 @@ use Rattle.elements.proofs.read_all.Tie as tie
 
 abbrev Inv-loop : tie.InvT-loop
 Inv-loop file index destination₀ i₀ destination i =
-    (i ≤ length destination) × (length destination ≡ length destination₀) × (destination ≡ filled i (λ n. elementAt file (index + 3 * n)) destination₀)
+    (i ≤ length destination) × (length destination ≡ length destination₀)
+    × (destination ≡ filled i (λ n. elementAt file (index + 3 * n)) destination₀)
 
 abbrev μ-loop : tie.MeasureT-loop
 μ-loop file index destination₀ i₀ destination i = length destination - i
@@ -42,8 +43,12 @@ loop-less c = simp length-set (omega arith)
 
 loop-again : tie.Need-loop-again Inv-loop μ-loop
 loop-again c =
-    let loop = c .before .before .loop in
-    (simp length-set (omega arith), simp length-set (omega arith), filled-more _ (loop .i) (c .read .result) _ (loop .destination) (omega arith) (c .read .ensures) (loop .inv .2))
+    let loop = c .before .before .loop in (
+      simp length-set (omega arith),
+      simp length-set (omega arith),
+      filled-more _ (loop .i) (c .read .result) _ (loop .destination) (omega arith) (c .read .ensures)
+          (loop .inv .2),
+    )
 
 same-length : tie.Need-same-length Inv-loop μ-loop
 same-length c = omega arith
@@ -54,7 +59,10 @@ returns c =
     let loop = c .before .loop in
     let a = c .before .before .before .before .args in
     let all : loop .i ≡ length (a .destination .now) = omega arith in
-    loop .inv .2 ∙ rw all (filled-all (length (a .destination .now)) (λ n. elementAt (a .file .now) (a .index + 3 * n)) (a .destination .now) refl)
+    loop .inv .2
+    ∙ rw all
+    (filled-all (length (a .destination .now)) (λ n. elementAt (a .file .now) (a .index + 3 * n))
+    (a .destination .now) refl)
 
 pub read-all-spec : {M : Type 1} → statement M
 read-all-spec =

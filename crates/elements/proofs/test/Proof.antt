@@ -1,4 +1,5 @@
--- `elements::test`: three kinds, then the value; each return is the case of the definition that the tests before it left.
+-- `elements::test`: three kinds, then the value; each return is the case of the definition that the tests before it
+-- left.
 -- Assumes nothing.
 use mathlib.Core.Path.{_≡_, refl, sym, ap, _∙_}
 use mathlib.Core.List.{List}
@@ -20,13 +21,17 @@ use Rattle.elements.proofs.test.Statement.{statement}
 use Rattle.elements.proofs.test.Tie as tie
 
 -- each kind that is compared is that of the file's word
-first-kind : (c : tie.After-kind) → c .kind .result ≡ kindOf (wordAt (c .before .before .before .args .file .now) (c .before .before .before .args .index))
+first-kind : (c : tie.After-kind) → let a = c .before .before .before .args in
+    c .kind .result ≡ kindOf (wordAt (a .file .now) (a .index))
 first-kind c = c .kind .ensures ∙ ap kindOf (c .before .read .ensures)
 
-second-kind : (c : tie.After-kind2) → c .kind2 .result ≡ kindOf (wordAt (c .before .before .before .before .before .before .args .file .now) (c .before .before .before .before .before .before .args .index + 1))
+second-kind : (c : tie.After-kind2) → let a = c .before .before .before .before .before .before .args in
+    c .kind2 .result ≡ kindOf (wordAt (a .file .now) (a .index + 1))
 second-kind c = c .kind2 .ensures ∙ ap kindOf (c .before .read2 .ensures)
 
-third-kind : (c : tie.After-kind3) → c .kind3 .result ≡ kindOf (wordAt (c .before .before .before .before .before .before .before .before .before .args .file .now) (c .before .before .before .before .before .before .before .before .before .args .index + 2))
+third-kind : (c : tie.After-kind3) →
+    let a = c .before .before .before .before .before .before .before .before .before .args in
+    c .kind3 .result ≡ kindOf (wordAt (a .file .now) (a .index + 2))
 third-kind c = c .kind3 .ensures ∙ ap kindOf (c .before .read3 .ensures)
 
 -- the tests from the value on, from the third kind on, from the second on
@@ -58,12 +63,14 @@ three-kinds : (f : tie.Else3) {o : Answer} → let a = start f .args in
 three-kinds f e =
     two-kinds (f .before .before .before) (unless-passed _ (eq-eqb _ _ (sym (third-kind (f .before)) ∙ f .if3 .left)) e)
 
-value-is : (c : tie.After-value) → c .value .result ≡ elementAt (start (c .before .before .before) .args .file .now) (start (c .before .before .before) .args .index)
+value-is : (c : tie.After-value) → let a = start (c .before .before .before) .args in
+    c .value .result ≡ elementAt (a .file .now) (a .index)
 value-is c =
     let three = c .before .before .before in
     let two = three .before .before .before in
     let one = two .before .before .before in
-    read-three _ _ _ _ _ _ (one .before .before .read .ensures) (two .before .before .read2 .ensures) (three .before .before .read3 .ensures) (c .value .ensures)
+    read-three _ _ _ _ _ _ (one .before .before .read .ensures) (two .before .before .read2 .ensures)
+    (three .before .before .read3 .ensures) (c .value .ensures)
 
 canonical : (c : tie.After-is-canonical) → let a = start (c .before .before .before .before) .args in
     ltb (elementAt (a .file .now) (a .index)) P ≡ c .is-canonical .result

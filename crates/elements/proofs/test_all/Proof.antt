@@ -1,4 +1,4 @@
--- `elements::test_all` meets its contract: what is left to test decides, and each element that is accepted leaves the rest.
+-- `elements::test_all`: what is left to test decides, and each element that is accepted leaves the rest.
 -- Assumes nothing.
 use mathlib.Core.Path.{_≡_, sym, _∙_}
 use Prim.Native.Nat.{_+_, _*_, _-_, _≤_}
@@ -10,7 +10,8 @@ use Rattle.elements.proofs.test_all.Statement.{statement}
 use Rattle.elements.proofs.test_all.Tie as tie
 
 abbrev Inv-loop : tie.InvT-loop
-Inv-loop file index count i₀ i = (i ≤ count) × (elementsTest file (index + 3 * i) (count - i) ≡ elementsTest file index count)
+Inv-loop file index count i₀ i =
+    (i ≤ count) × (elementsTest file (index + 3 * i) (count - i) ≡ elementsTest file index count)
 
 abbrev μ-loop : tie.MeasureT-loop
 μ-loop file index count i₀ i = count - i
@@ -41,7 +42,8 @@ returns : tie.Need-returns Inv-loop μ-loop
 returns c =
     let loop = c .before .before .before .before .loop in
     let tested = c .before .before .test in
-    tests-stop _ _ _ (loop .i) (tested .result) _ (omega arith) (tested .ensures) (c .enum-told2 .given .1) ∙ loop .inv .1
+    tests-stop _ _ _ (loop .i) (tested .result) _ (omega arith) (tested .ensures) (c .enum-told2 .given .1)
+    ∙ loop .inv .1
 
 add-i : tie.Need-add-i Inv-loop μ-loop
 add-i c = omega arith
@@ -52,8 +54,11 @@ loop-less c = omega arith
 loop-again : tie.Need-loop-again Inv-loop μ-loop
 loop-again c =
     let loop = c .before .before .before .before .loop in
-    let tested = c .before .before .test in
-    (omega arith, tests-on _ _ _ (loop .i) (tested .result) (omega arith) (tested .ensures) (c .enum-told .given .1) ∙ loop .inv .1)
+    let tested = c .before .before .test in (
+      omega arith,
+      tests-on _ _ _ (loop .i) (tested .result) (omega arith) (tested .ensures) (c .enum-told .given .1)
+          ∙ loop .inv .1,
+    )
 
 returns-2 : tie.Need-returns-2 Inv-loop μ-loop
 returns-2 c =

@@ -1,4 +1,4 @@
--- `elements::value` meets its contract: shifts join the three payloads.
+-- `elements::value`: shifts join the three payloads.
 -- Assumes nothing.
 use mathlib.Core.Path.{_∙_}
 use native.Mathlib.Omega.{arith}
@@ -27,7 +27,8 @@ cast-result-3 c = search needs
 
 returns : tie.Need-returns
 returns c =
-    spelled (c .before .before .payload .result) (c .before .payload2 .result) (c .payload3 .result) (omega arith) (omega arith) (omega arith)
+    spelled (c .before .before .payload .result) (c .before .payload2 .result) (c .payload3 .result) (omega arith)
+    (omega arith) (omega arith)
     ∙ omega arith
 
 pub value-spec : {M : Type 1} → statement M

@@ -1,4 +1,4 @@
--- `elements::write` meets its contract: three words, one after the other.
+-- `elements::write`: three words, one after the other; the masks leave the definition's payloads.
 -- Assumes nothing.
 use mathlib.Core.Path.{ap, _∙_}
 use Prim.Native.Nat.{_/_, _^_}
@@ -36,7 +36,9 @@ write-requires-2 : tie.Need-write-requires-2
 write-requires-2 c κs = search needs
 
 join-requires-3 : tie.Need-join-requires-3
-join-requires-3 c κs = (lit< tt, mask-lt (c .before .before .before .before .before .before .before .before .before .before .before .args .element) 30)
+join-requires-3 c κs =
+    let a = c .before .before .before .before .before .before .before .before .before .before .before .args in
+    (lit< tt, mask-lt (a .element) 30)
 
 add-write-2 : tie.Need-add-write-2
 add-write-2 c = search needs
@@ -58,7 +60,8 @@ returns c =
     let low = third .before .before .join3 in
     let m = middle .ensures ∙ ap (joined 2) (and-mask (a .element / 2 ^ 30) 30) in
     let l = low .ensures ∙ ap (joined 3) (and-mask (a .element) 30) in
-    write-three (a .destination .now) _ _ _ (a .index) (high .result .0) (middle .result .0) (low .result .0) (first .write .ensures) (second .write2 .ensures) (third .write3 .ensures)
+    write-three (a .destination .now) _ _ _ (a .index) (high .result .0) (middle .result .0) (low .result .0)
+    (first .write .ensures) (second .write2 .ensures) (third .write3 .ensures)
     ∙ rw (high .ensures, m, l)
 
 pub write-spec : {M : Type 1} → statement M

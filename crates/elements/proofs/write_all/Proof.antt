@@ -1,4 +1,4 @@
--- `elements::write_all` meets its contract: the elements passed are written, one after the other.
+-- `elements::write_all`: the elements passed are written, one after the other.
 -- Assumes nothing.
 use mathlib.Core.Path.{_≡_, refl, ap, _∙_}
 use Prim.Native.Nat.{_*_, _-_, _≤_}
@@ -14,7 +14,8 @@ use Rattle.elements.proofs.write_all.Tie as tie
 
 abbrev Inv-loop : tie.InvT-loop
 Inv-loop elements index destination₀ i₀ destination i =
-    (i ≤ length elements) × (length destination ≡ length destination₀) × (destination ≡ sets destination₀ (4 * index) (bytesOf (wordsOf (take i elements))))
+    (i ≤ length elements) × (length destination ≡ length destination₀)
+    × (destination ≡ sets destination₀ (4 * index) (bytesOf (wordsOf (take i elements))))
 
 abbrev μ-loop : tie.MeasureT-loop
 μ-loop elements index destination₀ i₀ destination i = length elements - i

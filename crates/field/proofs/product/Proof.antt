@@ -1,4 +1,4 @@
--- `field::product` meets its contract: the estimated quotient is right or one too small, and one test sets that right.
+-- `field::product`: the estimated quotient is right or one too small, and one test sets that right.
 -- Assumes nothing.
 use mathlib.Core.Path.{_≡_, sym, ap, _∙_}
 use Prim.Native.Nat.{ℕ, _+_, _*_, _%_, _^_, _<_, _≤_}
@@ -32,11 +32,14 @@ wrapping-sub-u64-requires c κs = search needs
 
 -- what the subtraction leaves, without its wrap
 module _ (c : tie.After-wrapping-sub-u64) where
+  abbrev start : tie.Start
+  start = c .before .before .before .before .before
+
   abbrev a : ℕ
-  a = c .before .before .before .before .before .args .a
+  a = start .args .a
 
   abbrev b : ℕ
-  b = c .before .before .before .before .before .args .b
+  b = start .args .b
 
   abbrev q : ℕ
   q = c .before .before .before .high2 .result
@@ -45,13 +48,21 @@ module _ (c : tie.After-wrapping-sub-u64) where
   rest = c .wrapping-sub-u64 .result
 
   within : q * P ≤ a * b
-  within = quotient-in a b (c .before .before .before .before .before .pre .0) (c .before .before .before .before .before .pre .1) _ q (c .before .before .before .before .high .ensures) (c .before .before .before .high2 .ensures)
+  within =
+      quotient-in a b (start .pre .0) (start .pre .1) _ q (c .before .before .before .before .high .ensures)
+      (c .before .before .before .high2 .ensures)
 
   beyond : a * b < q * P + 2 * P
-  beyond = quotient-out a b (c .before .before .before .before .before .pre .0) (c .before .before .before .before .before .pre .1) _ q (c .before .before .before .before .high .ensures) (c .before .before .before .high2 .ensures)
+  beyond =
+      quotient-out a b (start .pre .0) (start .pre .1) _ q (c .before .before .before .before .high .ensures)
+      (c .before .before .before .high2 .ensures)
 
   exact : rest + q * P ≡ a * b
-  exact = unwrapped rest (q * P) (a * b) (omega arith) within (omega (arith, beyond)) (ap (λ m. (rest + m) % 2 ^ 64) (sym (c .before .low2 .ensures)) ∙ c .wrapping-sub-u64 .ensures ∙ c .before .before .low .ensures)
+  exact =
+      unwrapped rest (q * P) (a * b) (omega arith) within (omega (arith, beyond))
+      (ap (λ m. (rest + m) % 2 ^ 64) (sym (c .before .low2 .ensures))
+      ∙ c .wrapping-sub-u64 .ensures
+      ∙ c .before .before .low .ensures)
 
   low : rest < 2 * P
   low = omega (arith, exact, beyond)
@@ -60,7 +71,10 @@ returns : tie.Need-returns
 returns c = (rest-right P _ (q (c .before)) (rest (c .before)) (exact (c .before)) (c .if1 .taken), c .if1 .taken)
 
 returns-2 : tie.Need-returns-2
-returns-2 c = (rest-over P _ (q (c .before)) (rest (c .before)) (exact (c .before)) (c .if1 .left) (low (c .before)), omega (arith, low (c .before)))
+returns-2 c = (
+  rest-over P _ (q (c .before)) (rest (c .before)) (exact (c .before)) (c .if1 .left) (low (c .before)),
+  omega (arith, low (c .before)),
+)
 
 pub product-spec : {M : Type 1} → statement M
 product-spec =

@@ -1,4 +1,5 @@
--- `hash::chain`: the chain of a list that its tests passed.
+-- `hash::chain`: for a list that passes the tests, the state after 3k hashes begins with the chain's output; else the
+-- answer is the tests' refusal.
 -- Assumes nothing.
 use mathlib.Core.Path.{sym, ap, _∙_}
 use native.Mathlib.Omega.{arith}

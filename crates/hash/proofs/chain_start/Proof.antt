@@ -1,4 +1,4 @@
--- `hash::chain_start` meets its contract.
+-- `hash::chain_start`: the first four words of the list are tap 0.
 -- Assumes nothing.
 use mathlib.Core.Path.{refl, ap}
 use mathlib.Core.List.{_++_}

@@ -1,4 +1,4 @@
--- `hash::final_state` meets its contract: the state is that before the round, from whatever input the first one came.
+-- `hash::final_state`: the state is that before the round, from whatever input the first one came.
 -- Assumes nothing.
 use mathlib.Core.Path.{_≡_, ap, _∙_}
 use mathlib.Core.List.{List}
@@ -14,7 +14,8 @@ use Rattle.hash.proofs.final_state.Statement.{statement}
 use Rattle.hash.proofs.final_state.Tie as tie
 
 abbrev Inv-loop : tie.InvT-loop
-Inv-loop table state₀ round₀ state round = (round ≤ 10) × CanonicalTo 12 state × ((s : List ℕ) → state₀ ≡ stateAt table s 0 → state ≡ stateAt table s round)
+Inv-loop table state₀ round₀ state round =
+    (round ≤ 10) × CanonicalTo 12 state × ((s : List ℕ) → state₀ ≡ stateAt table s 0 → state ≡ stateAt table s round)
 
 abbrev μ-loop : tie.MeasureT-loop
 μ-loop table state₀ round₀ state round = 10 - round
@@ -29,7 +30,11 @@ first-step-requires : tie.Need-first-step-requires Inv-loop μ-loop
 first-step-requires c κs = (c .before .before .before .before .pre .0, omega arith, c .before .loop .inv .1)
 
 second-step-requires : tie.Need-second-step-requires Inv-loop μ-loop
-second-step-requires c κs = (c .before .before .before .before .before .pre .0, omega arith, canonical-state (c .first-step .ensures) (firstStep-state _ _ _))
+second-step-requires c κs = (
+  c .before .before .before .before .before .pre .0,
+  omega arith,
+  canonical-state (c .first-step .ensures) (firstStep-state _ _ _),
+)
 
 add-round : tie.Need-add-round Inv-loop μ-loop
 add-round c = search needs
@@ -45,7 +50,9 @@ loop-again c =
     let n = l .round in (
       omega arith,
       canonical-state (c .second-step .ensures) (secondStep-state _ _ _),
-      λ s e. c .second-step .ensures ∙ ap (secondStep t n) (c .before .first-step .ensures ∙ ap (firstStep t n) (l .inv .2 s e)) ∙ rw (add-one n),
+      λ s e. c .second-step .ensures
+          ∙ ap (secondStep t n) (c .before .first-step .ensures ∙ ap (firstStep t n) (l .inv .2 s e))
+          ∙ rw (add-one n),
     )
 
 returns : tie.Need-returns Inv-loop μ-loop

@@ -1,4 +1,4 @@
--- `hash::first_step` meets its contract: roots, M, then the round's first-step constant.
+-- `hash::first_step`: roots, M, then the round's first-step constant.
 -- Assumes nothing.
 use mathlib.Core.Path.{ap, _∙_}
 use native.Mathlib.Omega.{arith}
@@ -15,17 +15,20 @@ roots-requires c κs = search needs
 
 mix-requires : tie.Need-mix-requires
 unfolding roots
-mix-requires c κs = (c .before .before .pre .0, canonical-state (c .roots .ensures) (roots-state (c .before .before .args .s)))
+mix-requires c κs =
+    (c .before .before .pre .0, canonical-state (c .roots .ensures) (roots-state (c .before .before .args .s)))
 
 plus-first-step-requires : tie.Need-plus-first-step-requires
-plus-first-step-requires c κs = (c .before .before .before .pre .0, omega arith, canonical-state (c .mix .ensures) (mix-state _ _))
+plus-first-step-requires c κs =
+    (c .before .before .before .pre .0, omega arith, canonical-state (c .mix .ensures) (mix-state _ _))
 
 returns : tie.Need-returns
 unfolding firstStep roots
 returns c =
     let a = c .before .before .before .before .args in
     let k = firstStepConstant (a .table .now) (a .round) in
-    c .plus-first-step .ensures ∙ ap (λ s. plus s k) (c .before .mix .ensures ∙ ap (mix (a .table .now)) (c .before .before .roots .ensures))
+    c .plus-first-step .ensures
+    ∙ ap (λ s. plus s k) (c .before .mix .ensures ∙ ap (mix (a .table .now)) (c .before .before .roots .ensures))
 
 pub first-step-spec : {M : Type 1} → statement M
 first-step-spec =

@@ -1,4 +1,4 @@
--- `hash::hash`: Hash is the chain of two taps that its tests passed.
+-- `hash::hash`: words that pass the tests are two taps, and Hash is their chain; else the answer is the tests' refusal.
 -- Assumes nothing.
 use mathlib.Core.Path.{_≡_, sym, ap, _∙_}
 use native.Mathlib.Omega.{arith}

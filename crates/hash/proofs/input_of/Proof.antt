@@ -1,4 +1,4 @@
--- `hash::input_of` meets its contract.
+-- `hash::input_of`: the last state's first four cells, then the four words of the next tap, are the definition's input.
 -- Assumes nothing.
 use mathlib.Core.Path.{_≡_}
 use Prim.Native.Nat.{_+_, _*_}

@@ -1,4 +1,4 @@
--- `hash::last_state` meets its contract: the state begins with the output of the hashes passed.
+-- `hash::last_state`: the state begins with the output of the hashes passed.
 -- Assumes nothing.
 use mathlib.Core.Path.{_≡_, ap, _∙_}
 use Prim.Native.Nat.{_-_, _≤_}
@@ -30,8 +30,11 @@ input-of-requires c κs = omega arith
 final-state-requires : tie.Need-final-state-requires Inv-loop μ-loop
 final-state-requires c κs =
     let a = c .before .before .before .before .before .before in
-    let l = c .before .before .loop in
-    (a .pre .0, input-canonical (a .args .table .now) (a .args .taps .now) (l .h) (l .state) _ (l .inv .1) (c .input-of .ensures) (a .pre .3) (omega arith))
+    let l = c .before .before .loop in (
+      a .pre .0,
+      input-canonical (a .args .table .now) (a .args .taps .now) (l .h) (l .state) _ (l .inv .1)
+          (c .input-of .ensures) (a .pre .3) (omega arith),
+    )
 
 add-h : tie.Need-add-h Inv-loop μ-loop
 add-h c = search needs
@@ -42,8 +45,11 @@ loop-less c = omega arith
 loop-again : tie.Need-loop-again Inv-loop μ-loop
 loop-again c =
     let a = c .before .before .before .before .before .before .before .args in
-    let l = c .before .before .before .loop in
-    (omega arith, goes-on (a .table .now) (a .taps .now) (l .h) (l .state) _ (l .inv .1) (c .before .input-of .ensures) _ (c .final-state .ensures))
+    let l = c .before .before .before .loop in (
+      omega arith,
+      goes-on (a .table .now) (a .taps .now) (l .h) (l .state) _ (l .inv .1) (c .before .input-of .ensures) _
+          (c .final-state .ensures),
+    )
 
 returns : tie.Need-returns Inv-loop μ-loop
 returns c =

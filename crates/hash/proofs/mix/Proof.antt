@@ -1,4 +1,4 @@
--- `hash::mix` meets its contract.
+-- `hash::mix`: M's 144 words lie in the table and are canonical, and `matrix::times` is the definition's product.
 -- Assumes nothing.
 use mathlib.Core.Path.{sym, ap, _∙_, subst}
 use borrow.Author.Needs.{needs}

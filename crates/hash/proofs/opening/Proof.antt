@@ -1,4 +1,4 @@
--- `hash::opening` meets its contract: the cells passed are filled with the sums.
+-- `hash::opening`: the cells passed are filled with the sums of the input and K_0.
 -- Assumes nothing.
 use mathlib.Core.Path.{_≡_, refl, ap, _∙_}
 use Prim.Native.Nat.{_-_, _≤_}

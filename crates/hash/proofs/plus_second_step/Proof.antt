@@ -1,4 +1,4 @@
--- `hash::plus_second_step` meets its contract: the cells passed are filled with the sums.
+-- `hash::plus_second_step`: the cells passed are filled with the sums.
 -- Assumes nothing.
 use mathlib.Core.Path.{_≡_, refl, ap, _∙_}
 use Prim.Native.Nat.{_-_, _≤_}

@@ -1,4 +1,4 @@
--- `hash::second_step` meets its contract: cubes, M, then the round's second-step constant.
+-- `hash::second_step`: cubes, M, then the round's second-step constant.
 -- Assumes nothing.
 use mathlib.Core.Path.{ap, _∙_}
 use native.Mathlib.Omega.{arith}
@@ -17,14 +17,16 @@ mix-requires : tie.Need-mix-requires
 mix-requires c κs = (c .before .before .pre .0, canonical-state (c .cubes .ensures) (cubes-state _))
 
 plus-second-step-requires : tie.Need-plus-second-step-requires
-plus-second-step-requires c κs = (c .before .before .before .pre .0, omega arith, canonical-state (c .mix .ensures) (mix-state _ _))
+plus-second-step-requires c κs =
+    (c .before .before .before .pre .0, omega arith, canonical-state (c .mix .ensures) (mix-state _ _))
 
 returns : tie.Need-returns
 unfolding secondStep
 returns c =
     let a = c .before .before .before .before .args in
     let k = secondStepConstant (a .table .now) (a .round) in
-    c .plus-second-step .ensures ∙ ap (λ s. plus s k) (c .before .mix .ensures ∙ ap (mix (a .table .now)) (c .before .before .cubes .ensures))
+    c .plus-second-step .ensures
+    ∙ ap (λ s. plus s k) (c .before .mix .ensures ∙ ap (mix (a .table .now)) (c .before .before .cubes .ensures))
 
 pub second-step-spec : {M : Type 1} → statement M
 second-step-spec =

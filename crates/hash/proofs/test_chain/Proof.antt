@@ -61,7 +61,10 @@ counted f e =
     let b = f .before .before .before in
     let told = b .before in
     after-accepted (told .before .before .test .ensures) (told .enum-told .given .1)
-    (unless-passed _ (tap-permitted mostBatches (length (entry f .args .taps .now)) (b .tap-batches .ensures) (f .before .enum-told3 .given .1) .0) e)
+    (unless-passed _
+    (tap-permitted mostBatches (length (entry f .args .taps .now)) (b .tap-batches .ensures)
+    (f .before .enum-told3 .given .1) .0)
+    e)
 
 returns-3 : tie.Need-returns-3
 returns-3 c =

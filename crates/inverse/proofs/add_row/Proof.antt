@@ -1,11 +1,12 @@
--- `inverse::add_row` meets its contract: the words passed are written, and the rest is as it was.
+-- `inverse::add_row`: the words of row r passed are written with the sums, and the rest is as it was.
 -- Assumes nothing.
 use Prim.Native.Nat.{_-_, _≤_}
 use mathlib.Core.Path.{sym, ap, ap₂, _∙_}
 use native.Mathlib.Omega.{arith}
 use Rattle.field.specs.Field.{add, mul}
 use Rattle.inverse.specs.Elimination.{RowSet, addedRow}
-use Rattle.inverse.proofs.Rows.{row-none, row-more, row-end, row-next, row-other, next-canonical, other-canonical}
+use Rattle.inverse.proofs.Rows.{row-none, row-more, row-end, row-next, row-other}
+use Rattle.inverse.proofs.Rows.{next-canonical, other-canonical}
 use borrow.Author.Needs.{needs}
 use Rattle.inverse.proofs.add_row.Statement.{statement}
 use Rattle.inverse.proofs.add_row.Tie as tie
@@ -43,8 +44,11 @@ element-copy-out-t15 c = omega arith
 mul-requires : tie.Need-mul-requires Inv-loop μ-loop
 mul-requires c κs =
     let s = c .before .before .before in
-    let v = c .before .before .loop in
-    (s .pre .3, other-canonical _ _ _ _ _ (s .pre .4) (v .inv .1) _ _ (s .pre .1) (c .before .loop-test .taken) (λ e. s .pre .2 (sym e)))
+    let v = c .before .before .loop in (
+      s .pre .3,
+      other-canonical _ _ _ _ _ (s .pre .4) (v .inv .1) _ _ (s .pre .1) (c .before .loop-test .taken)
+          (λ e. s .pre .2 (sym e)),
+    )
 
 mul-t9-2 : tie.Need-mul-t9-2 Inv-loop μ-loop
 mul-t9-2 c = search needs
@@ -55,8 +59,10 @@ element-copy-out-t15-2 c = omega arith
 add-requires : tie.Need-add-requires Inv-loop μ-loop
 add-requires c κs =
     let s = c .before .before .before .before .before in
-    let v = c .before .before .before .before .loop in
-    (next-canonical _ _ _ _ _ (s .pre .4) (s .pre .0) (c .before .before .before .loop-test .taken) (v .inv .1), c .before .mul .ensures .1)
+    let v = c .before .before .before .before .loop in (
+      next-canonical _ _ _ _ _ (s .pre .4) (s .pre .0) (c .before .before .before .loop-test .taken) (v .inv .1),
+      c .before .mul .ensures .1,
+    )
 
 mul-w : tie.Need-mul-w Inv-loop μ-loop
 mul-w c = search needs
@@ -76,8 +82,11 @@ loop-again c =
     let v = c .before .before .before .before .before .loop in
     let t = c .before .before .before .before .loop-test .taken in
     let here = row-next _ _ _ _ _ (s .pre .0) t (v .inv .1) in
-    let there = row-other _ _ _ _ _ (v .inv .1) _ _ (s .pre .1) t (λ e. s .pre .2 (sym e)) in
-    (omega arith, row-more _ _ _ _ _ _ (s .pre .4 .size) (s .pre .0) t (v .inv .1) (c .add .ensures .0 ∙ ap₂ add here (c .before .before .mul .ensures .0 ∙ ap (mul (s .args .c)) there)))
+    let there = row-other _ _ _ _ _ (v .inv .1) _ _ (s .pre .1) t (λ e. s .pre .2 (sym e)) in (
+      omega arith,
+      row-more _ _ _ _ _ _ (s .pre .4 .size) (s .pre .0) t (v .inv .1)
+          (c .add .ensures .0 ∙ ap₂ add here (c .before .before .mul .ensures .0 ∙ ap (mul (s .args .c)) there)),
+    )
 
 returns : tie.Need-returns Inv-loop μ-loop
 returns c =

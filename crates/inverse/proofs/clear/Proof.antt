@@ -1,4 +1,4 @@
--- `inverse::clear` meets its contract: the rows passed have 0 in the column, but for row j.
+-- `inverse::clear`: the rows passed have 0 in column j, but for row j, which has 1 there.
 -- Assumes nothing.
 use Prim.Native.Nat.{_+_, _-_, _≤_}
 use mathlib.Core.Path.{sym, subst}
@@ -23,8 +23,12 @@ loop-holds c =
 
 clear-word-requires : tie.Need-clear-word-requires Inv-loop μ-loop
 clear-word-requires c κs =
-    let s = c .before .before .before .before in
-    (c .before .before .loop-test .taken, s .pre .0, c .before .if1 .taken, c .before .before .before .loop .inv .1 .reduces .reduced .working)
+    let s = c .before .before .before .before in (
+      c .before .before .loop-test .taken,
+      s .pre .0,
+      c .before .if1 .taken,
+      c .before .before .before .loop .inv .1 .reduces .reduced .working,
+    )
 
 add-i : tie.Need-add-i Inv-loop μ-loop
 add-i c = search needs
@@ -39,8 +43,10 @@ loop-again c =
     let t = c .before .loop-test .taken in (
       omega arith,
       ⊎-elim
-          (λ a. subst (λ y. Cleared (s .args .w .now) y (s .args .j) (v .i + 1)) (sym (a .3)) (cleared-more _ _ _ _ _ (s .pre .0) t (v .inv .1) (a .0 .taken) (a .2 .ensures)))
-          (λ a. subst (λ y. Cleared (s .args .w .now) y (s .args .j) (v .i + 1)) (sym (a .1)) (cleared-same _ _ _ _ (v .inv .1) (a .0 .left)))
+          (λ a. subst (λ y. Cleared (s .args .w .now) y (s .args .j) (v .i + 1)) (sym (a .3))
+          (cleared-more _ _ _ _ _ (s .pre .0) t (v .inv .1) (a .0 .taken) (a .2 .ensures)))
+          (λ a. subst (λ y. Cleared (s .args .w .now) y (s .args .j) (v .i + 1)) (sym (a .1))
+          (cleared-same _ _ _ _ (v .inv .1) (a .0 .left)))
           (c .if1 .came),
     )
 
@@ -48,7 +54,8 @@ returns : tie.Need-returns Inv-loop μ-loop
 returns c =
     let s = c .before .before in
     let v = c .before .loop in
-    cleared-all _ _ _ (s .pre .0) (subst (λ y. Cleared (s .args .w .now) (v .w) (s .args .j) y) (omega arith) (v .inv .1))
+    cleared-all _ _ _ (s .pre .0)
+    (subst (λ y. Cleared (s .args .w .now) (v .w) (s .args .j) y) (omega arith) (v .inv .1))
 
 pub clear-spec : {M : Type 1} → statement M
 clear-spec =

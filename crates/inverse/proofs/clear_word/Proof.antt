@@ -1,4 +1,4 @@
--- `inverse::clear_word` meets its contract.
+-- `inverse::clear_word`: `neg` gives the factor that the contract names, and `add_row` writes the row.
 -- Assumes nothing.
 use mathlib.Core.Path.{subst}
 use native.Mathlib.Omega.{arith}
@@ -29,7 +29,8 @@ add-row-requires c κs = search needs
 returns : tie.Need-returns
 returns c =
     let s = c .before .before .before .before .args in
-    subst (λ y. RowSet (s .w .now) (c .add-row .last .0) (s .i) 24 (addedRow (s .w .now) (s .i) (s .j) y)) (c .before .before .neg .ensures .0) (c .add-row .ensures)
+    subst (λ y. RowSet (s .w .now) (c .add-row .last .0) (s .i) 24 (addedRow (s .w .now) (s .i) (s .j) y))
+    (c .before .before .neg .ensures .0) (c .add-row .ensures)
 
 pub clear-word-spec : {M : Type 1} → statement M
 clear-word-spec =

@@ -1,4 +1,4 @@
--- `inverse::divide` meets its contract.
+-- `inverse::divide`: row j times the inverse of its word in column j has 1 there, and no new column goes to zeros.
 -- Assumes nothing.
 use native.Mathlib.Omega.{arith}
 use Rattle.inverse.proofs.Steps.{divided}

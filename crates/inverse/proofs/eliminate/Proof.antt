@@ -1,4 +1,4 @@
--- `inverse::eliminate` meets its contract: the columns passed are those of the identity.
+-- `inverse::eliminate`: the columns passed are those of the identity; a column without a pivot ends it.
 -- Assumes nothing.
 use Prim.Native.Nat.{_-_, _≤_}
 use mathlib.Core.Path.{_≡_, subst}
@@ -31,7 +31,13 @@ returns : tie.Need-returns Inv-loop μ-loop
 returns c =
     let v = c .before .before .before .before .loop in
     let e : c .before .step .result ≡ false = not-true (c .before .step .result) (c .if1 .taken) in
-    record { rows = v .w; column = v .j; within = c .before .before .before .loop-test .taken; reduces = v .inv .1; none = subst (λ b. Stepped (v .w) (c .before .step .last .0) (v .j) b) e (c .before .step .ensures) }
+    record {
+      rows = v .w;
+      column = v .j;
+      within = c .before .before .before .loop-test .taken;
+      reduces = v .inv .1;
+      none = subst (λ b. Stepped (v .w) (c .before .step .last .0) (v .j) b) e (c .before .step .ensures);
+    }
 
 add-j : tie.Need-add-j Inv-loop μ-loop
 add-j c = search needs
@@ -42,8 +48,11 @@ loop-less c = search needs
 loop-again : tie.Need-loop-again Inv-loop μ-loop
 loop-again c =
     let v = c .before .before .before .before .loop in
-    let e : c .before .step .result ≡ true = not-false (c .before .step .result) (c .if1 .left) in
-    (omega arith, reduces-trans _ _ _ _ _ (v .inv .1) (subst (λ b. Stepped (v .w) (c .before .step .last .0) (v .j) b) e (c .before .step .ensures)))
+    let e : c .before .step .result ≡ true = not-false (c .before .step .result) (c .if1 .left) in (
+      omega arith,
+      reduces-trans _ _ _ _ _ (v .inv .1)
+          (subst (λ b. Stepped (v .w) (c .before .step .last .0) (v .j) b) e (c .before .step .ensures)),
+    )
 
 returns-2 : tie.Need-returns-2 Inv-loop μ-loop
 returns-2 c =

@@ -1,4 +1,5 @@
--- `inverse::invert` meets its contract.
+-- `inverse::invert`: the matrix with the identity beside it is eliminated. Then the right half is the inverse; or a
+-- column without a pivot gives a non-zero column that the matrix takes to zeros.
 -- Assumes nothing.
 use mathlib.Core.Path.{refl, sym, subst}
 use borrow.Author.Tests.{not-true, not-false}
@@ -19,8 +20,11 @@ eliminate-requires c κs =
 returns : tie.Need-returns
 returns c =
     let m = c .before .before .before .before .before .before .args .m .now in
-    let r = c .before .eliminate in
-    (refl, without m _ _ (r .result) (c .before .before .before .start .ensures) (r .ensures) (not-true (r .result) (c .if1 .taken)))
+    let r = c .before .eliminate in (
+      refl,
+      without m _ _ (r .result) (c .before .before .before .start .ensures) (r .ensures)
+          (not-true (r .result) (c .if1 .taken)),
+    )
 
 store-requires : tie.Need-store-requires
 store-requires c κs = search needs
@@ -30,7 +34,8 @@ returns-2 c =
     let e = c .before .before .before in
     let m = e .before .before .before .before .before .before .args .m .now in
     let r = e .before .eliminate in
-    found m _ _ _ (r .result) (e .before .before .before .start .ensures) (r .ensures) (not-false (r .result) (e .if1 .left)) (c .store .ensures)
+    found m _ _ _ (r .result) (e .before .before .before .start .ensures) (r .ensures)
+    (not-false (r .result) (e .if1 .left)) (c .store .ensures)
 
 pub invert-spec : {M : Type 1} → statement M
 invert-spec =

@@ -1,4 +1,4 @@
--- `inverse::lift` meets its contract.
+-- `inverse::lift`: where the pivot's row is not row j, row j has 0 in column j, and the sum has the pivot there.
 -- Assumes nothing.
 use Rattle.inverse.proofs.Steps.{lifted, lifted-same}
 use borrow.Author.Needs.{needs}

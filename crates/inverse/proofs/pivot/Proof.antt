@@ -1,4 +1,4 @@
--- `inverse::pivot` meets its contract: the rows passed have 0 in the column.
+-- `inverse::pivot`: the rows passed, from row j on, have 0 in column j, so that the first that has not is the pivot's.
 -- Assumes nothing.
 use Prim.Native.Nat.{ℕ, _-_, _<_, _≤_}
 use mathlib.Core.Path.{_≡_}
@@ -35,7 +35,12 @@ element-copy-out-if1 c = omega arith
 
 returns : tie.Need-returns Inv-loop μ-loop
 returns c =
-    record { from = omega arith; to = omega arith; before = c .before .before .before .loop .inv .2; found = λ h. c .if1 .taken }
+    record {
+      from = omega arith;
+      to = omega arith;
+      before = c .before .before .before .loop .inv .2;
+      found = λ h. c .if1 .taken;
+    }
 
 add-r : tie.Need-add-r Inv-loop μ-loop
 add-r c = search needs

@@ -1,4 +1,4 @@
--- `inverse::scale` meets its contract: the words passed are written, and the rest is as it was.
+-- `inverse::scale`: the words of row r passed are written with the products, and the rest is as it was.
 -- Assumes nothing.
 use Prim.Native.Nat.{_-_, _≤_}
 use mathlib.Core.Path.{ap, _∙_}
@@ -36,8 +36,11 @@ element-copy-out-t12 c = omega arith
 
 mul-requires : tie.Need-mul-requires Inv-loop μ-loop
 mul-requires c κs =
-    let s = c .before .before .before in
-    (s .pre .1, next-canonical _ _ _ _ _ (s .pre .2) (s .pre .0) (c .before .loop-test .taken) (c .before .before .loop .inv .1))
+    let s = c .before .before .before in (
+      s .pre .1,
+      next-canonical _ _ _ _ _ (s .pre .2) (s .pre .0) (c .before .loop-test .taken)
+          (c .before .before .loop .inv .1),
+    )
 
 mul-w : tie.Need-mul-w Inv-loop μ-loop
 mul-w c = search needs
@@ -55,8 +58,11 @@ loop-again : tie.Need-loop-again Inv-loop μ-loop
 loop-again c =
     let s = c .before .before .before .before in
     let v = c .before .before .before .loop in
-    let t = c .before .before .loop-test .taken in
-    (omega arith, row-more _ _ _ _ _ _ (s .pre .2 .size) (s .pre .0) t (v .inv .1) (c .mul .ensures .0 ∙ ap (mul (s .args .c)) (row-next _ _ _ _ _ (s .pre .0) t (v .inv .1))))
+    let t = c .before .before .loop-test .taken in (
+      omega arith,
+      row-more _ _ _ _ _ _ (s .pre .2 .size) (s .pre .0) t (v .inv .1)
+          (c .mul .ensures .0 ∙ ap (mul (s .args .c)) (row-next _ _ _ _ _ (s .pre .0) t (v .inv .1))),
+    )
 
 returns : tie.Need-returns Inv-loop μ-loop
 returns c =

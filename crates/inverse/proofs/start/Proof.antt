@@ -1,4 +1,4 @@
--- `inverse::start` meets its contract: the words passed are those of the start.
+-- `inverse::start`: the words passed are those of the start, each by `start_word`.
 -- Assumes nothing.
 use Prim.Native.Nat.{_-_, _/_, _%_, _≤_}
 use mathlib.Core.Path.{_≡_, _∙_}

@@ -1,4 +1,4 @@
--- `inverse::start_word` meets its contract: the matrix on the left, the identity on the right.
+-- `inverse::start_word`: the matrix on the left, the identity on the right.
 -- Assumes nothing.
 use Prim.Native.Nat.{_/_, _%_}
 use native.Mathlib.Omega.{arith}

@@ -1,4 +1,5 @@
--- `inverse::step` meets its contract.
+-- `inverse::step`: lifted, divided and cleared one after the other, column j is that of the identity; without a pivot,
+-- column j has 0 from row j on.
 -- Assumes nothing.
 use native.Mathlib.Omega.{arith}
 use Rattle.inverse.proofs.Steps.{reduces-trans}

@@ -1,4 +1,4 @@
--- `inverse::store` meets its contract: the words passed are those of the right half.
+-- `inverse::store`: the words passed are those of the right half.
 -- Assumes nothing.
 use Prim.Native.Nat.{_+_, _-_, _/_, _%_, _≤_}
 use mathlib.Core.Path.{_≡_, refl, _∙_}

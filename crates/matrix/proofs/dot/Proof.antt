@@ -1,4 +1,5 @@
--- `matrix::dot` meets its contract: the wide sum is that of the products passed, and stays below 2^126.
+-- `matrix::dot`: the wide sum is that of the products passed, and stays below 2^126; what is left of it modulo p is the
+-- definition's cell.
 -- Assumes nothing.
 use mathlib.Core.Path.{_≡_, sym, ap, _∙_, subst}
 use mathlib.Core.List.{List}
@@ -24,10 +25,15 @@ abbrev terms : ℕ → (ℕ → ℕ) → (ℕ → ℕ → ℕ) → ℕ → ℕ
 terms row x a j = a row j * x j
 
 -- a sum of at most twelve products of canonical words leaves room in the upper word
-room : (n u l : ℕ) (f : ℕ → ℕ) → n ≤ 12 → ((i : ℕ) → i < n → f i ≤ 2305843095113039872 * 2305843095113039872) → u * 2 ^ 64 + l ≡ total n f → u < 2 ^ 62
+room : (n u l : ℕ) (f : ℕ → ℕ) → n ≤ 12 → ((i : ℕ) → i < n → f i ≤ 2305843095113039872 * 2305843095113039872)
+    → u * 2 ^ 64 + l ≡ total n f → u < 2 ^ 62
 room n u l f h b e =
     lt-of-mul-lt-mul-right (2 ^ 64)
-    (lt-of-le-of-lt (le-trans (subst (λ x. u * 2 ^ 64 ≤ x) e (le-add-right (u * 2 ^ 64) l)) (le-trans (sum-le n (2305843095113039872 * 2305843095113039872) f b) (mul-le-mul-right (2305843095113039872 * 2305843095113039872) h))) (lit< tt))
+    (lt-of-le-of-lt
+    (le-trans (subst (λ x. u * 2 ^ 64 ≤ x) e (le-add-right (u * 2 ^ 64) l))
+    (le-trans (sum-le n (2305843095113039872 * 2305843095113039872) f b)
+    (mul-le-mul-right (2305843095113039872 * 2305843095113039872) h)))
+    (lit< tt))
 
 term-small : (a x : ℕ) → Canonical a → Canonical x → a * x ≤ 2305843095113039872 * 2305843095113039872
 term-small a x ha hx = mul-le-mul {n₂ = 2305843095113039872} {m₂ = 2305843095113039872} (omega arith) (omega arith)
@@ -60,15 +66,23 @@ array-read-plus : tie.Need-array-read-plus Inv-loop μ-loop
 array-read-plus c = search needs
 
 -- the terms of the row are small
-small : (m : List ℕ) (row : ℕ) (s : List ℕ) → row < 12 → length m ≡ 144 → AllCanonical m → CanonicalTo 12 s → (n : ℕ) → n ≤ 12 → (i : ℕ) → i < n → terms row (cell s) (entry m) i ≤ 2305843095113039872 * 2305843095113039872
-small m row s hr e cm cs n hn i h = term-small (entry m row i) (cell s i) (cm (12 * row + i) (omega arith)) (cs i (omega arith))
+small : (m : List ℕ) (row : ℕ) (s : List ℕ) → row < 12 → length m ≡ 144 → AllCanonical m → CanonicalTo 12 s
+    → (n : ℕ) → n ≤ 12 → (i : ℕ) → i < n → terms row (cell s) (entry m) i ≤ 2305843095113039872 * 2305843095113039872
+small m row s hr e cm cs n hn i h =
+    term-small (entry m row i) (cell s i) (cm (12 * row + i) (omega arith)) (cs i (omega arith))
 
 plus-requires : tie.Need-plus-requires Inv-loop μ-loop
 plus-requires c κs =
     let a = c .before .before .before .before in
     let l = c .before .before .loop in
-    let below = room (l .j) (l .sum .0) (l .sum .1) _ (l .inv .0) (small (a .args .m .now) (a .args .row) (a .args .t3) (a .pre .0) (a .pre .1) (a .pre .2) (a .pre .3) (l .j) (l .inv .0)) (l .inv .1) in
-    let upper = upper-small (entry (a .args .m .now) (a .args .row) (l .j)) (cell (a .args .t3) (l .j)) (a .pre .2 (12 * a .args .row + l .j) (omega arith)) (a .pre .3 (l .j) (omega arith)) in
+    let below =
+    room (l .j) (l .sum .0) (l .sum .1) _ (l .inv .0)
+    (small (a .args .m .now) (a .args .row) (a .args .t3) (a .pre .0) (a .pre .1) (a .pre .2) (a .pre .3) (l .j)
+    (l .inv .0))
+    (l .inv .1) in
+    let upper =
+    upper-small (entry (a .args .m .now) (a .args .row) (l .j)) (cell (a .args .t3) (l .j))
+    (a .pre .2 (12 * a .args .row + l .j) (omega arith)) (a .pre .3 (l .j) (omega arith)) in
     omega (arith, below, upper)
 
 add-j : tie.Need-add-j Inv-loop μ-loop
@@ -81,14 +95,22 @@ loop-again : tie.Need-loop-again Inv-loop μ-loop
 loop-again c =
     let a = c .before .before .before .before .before in
     let l = c .before .before .before .loop in
-    let f : ℕ → ℕ = terms (a .args .row) (cell (a .args .t3)) (entry (a .args .m .now)) in
-    (omega arith, c .plus .ensures ∙ ap (λ v. v + f (l .j)) (l .inv .1) ∙ sym (sum-suc (l .j) f) ∙ ap (λ n. total n f) (sym (add-one (l .j))))
+    let f : ℕ → ℕ = terms (a .args .row) (cell (a .args .t3)) (entry (a .args .m .now)) in (
+      omega arith,
+      c .plus .ensures
+          ∙ ap (λ v. v + f (l .j)) (l .inv .1)
+          ∙ sym (sum-suc (l .j) f)
+          ∙ ap (λ n. total n f) (sym (add-one (l .j))),
+    )
 
 rest-requires : tie.Need-rest-requires Inv-loop μ-loop
 rest-requires c κs =
     let a = c .before .before .before in
     let l = c .before .loop in
-    room (l .j) (l .sum .0) (l .sum .1) _ (l .inv .0) (small (a .args .m .now) (a .args .row) (a .args .t3) (a .pre .0) (a .pre .1) (a .pre .2) (a .pre .3) (l .j) (l .inv .0)) (l .inv .1)
+    room (l .j) (l .sum .0) (l .sum .1) _ (l .inv .0)
+    (small (a .args .m .now) (a .args .row) (a .args .t3) (a .pre .0) (a .pre .1) (a .pre .2) (a .pre .3) (l .j)
+    (l .inv .0))
+    (l .inv .1)
 
 returns : tie.Need-returns Inv-loop μ-loop
 unfolding timesColumn

@@ -1,4 +1,4 @@
--- `matrix::times` meets its contract: the cells passed are filled with the products' cells.
+-- `matrix::times`: the cells passed are filled with the product's cells, each by `dot`.
 -- Assumes nothing.
 use mathlib.Core.Path.{_≡_, refl, sym, _∙_, subst}
 use Prim.Native.Nat.{ℕ, _-_, _≤_, _<_}
@@ -39,8 +39,11 @@ loop-less c = search needs
 
 loop-again : tie.Need-loop-again Inv-loop μ-loop
 loop-again c =
-    let l = c .before .before .loop in
-    (omega arith, simp length-set (l .inv .1), filled-more _ (l .i) (c .dot .result) _ (l .out) (omega arith) (c .dot .ensures .0) (l .inv .2))
+    let l = c .before .before .loop in (
+      omega arith,
+      simp length-set (l .inv .1),
+      filled-more _ (l .i) (c .dot .result) _ (l .out) (omega arith) (c .dot .ensures .0) (l .inv .2),
+    )
 
 returns : tie.Need-returns Inv-loop μ-loop
 unfolding product-of

@@ -1,4 +1,4 @@
--- `numbers::batch_count` meets its contract.
+-- `numbers::batch_count`: `is_permitted` is the definition's test, and each branch is its choice by that test.
 -- Assumes nothing.
 use mathlib.Core.Path.{sym, _∙_}
 use borrow.Author.Needs.{needs}

@@ -1,4 +1,4 @@
--- `numbers::is_permitted` meets its contract.
+-- `numbers::is_permitted`: each return is the conjunction of the three tests, given those that came before it.
 -- Assumes nothing.
 use borrow.Author.Tests.{lt-leb, le-leb}
 use Rattle.numbers.proofs.is_permitted.Statement.{statement}

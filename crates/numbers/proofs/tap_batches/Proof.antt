@@ -1,4 +1,4 @@
--- `numbers::tap_batches` meets its contract.
+-- `numbers::tap_batches`: a length with another rest than 4 by 12 is refused; else the permitted k decides.
 -- Assumes nothing.
 use borrow.Author.Needs.{needs}
 use borrow.Author.Tests.{eq-eqb, ne-eqb}

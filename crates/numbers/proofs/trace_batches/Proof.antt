@@ -1,4 +1,4 @@
--- `numbers::trace_batches` meets its contract.
+-- `numbers::trace_batches`: a length that 384 does not divide is refused; else the permitted k decides.
 -- Assumes nothing.
 use borrow.Author.Needs.{needs}
 use borrow.Author.Tests.{eq-eqb, ne-eqb}

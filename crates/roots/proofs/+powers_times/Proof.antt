@@ -1,4 +1,5 @@
--- `roots::powers_times` meets its contract: the exponent is halved while the bases are squared.
+-- `roots::powers_times`: the exponent is halved while the bases are squared, and at an odd one the bases go into the
+-- accumulators first. `Passed` is what that test leaves, either way.
 -- Assumes nothing.
 use mathlib.Core.Path.{_≡_, sym, ap, _∙_, subst}
 use mathlib.Core.List.{List}
@@ -7,7 +8,8 @@ use Prim.Native.Nat.{ℕ, _/_, _%_, _^_, _<_}
 use native.Mathlib.Omega.{arith}
 use lib.ListN.{length}
 use Rattle.roots.specs.Cells.{ShortTo, elements, wordProducts, products, powers}
-use Rattle.roots.proofs.CellLaws.{length-word-products, word-products-short, elements-of-products, powers-done, powers-even, powers-odd}
+use Rattle.roots.proofs.CellLaws.{length-word-products, word-products-short, elements-of-products}
+use Rattle.roots.proofs.CellLaws.{powers-done, powers-even, powers-odd}
 use borrow.Fn.Kinds.{In}
 use borrow.Fn.PlainCycle.{Measures, is, falls, and}
 use Rattle.roots.proofs.powers_times.Reads as powers-times
@@ -36,17 +38,21 @@ powers-times-below t =
 record Passed (a x : List ℕ) (e : ℕ) (b : List ℕ) : Type 0 where
   size : length b ≡ 12
   short : ShortTo 12 b
-  same : products (elements b) (powers (products (elements x) (elements x)) (e / 2)) ≡ products (elements a) (powers (elements x) e)
+  same : products (elements b) (powers (products (elements x) (elements x)) (e / 2))
+      ≡ products (elements a) (powers (elements x) e)
 
-odd-passed : (a x : List ℕ) (e : ℕ) (b : List ℕ) → ShortTo 12 a → ShortTo 12 x → e < 2 ^ 64 → e % 2 ≡ 1 → b ≡ wordProducts a x → Passed a x e b
+odd-passed : (a x : List ℕ) (e : ℕ) (b : List ℕ) → ShortTo 12 a → ShortTo 12 x → e < 2 ^ 64 → e % 2 ≡ 1
+    → b ≡ wordProducts a x → Passed a x e b
 odd-passed a x e b ha hx h z q =
     subst (Passed a x e) (sym q) (record {
       size = length-word-products a x;
       short = word-products-short a x ha hx;
-      same = ap (λ p. products p (powers (products (elements x) (elements x)) (e / 2))) (elements-of-products a x ha hx) ∙ powers-odd (elements a) (elements x) e h z;
+      same = ap (λ p. products p (powers (products (elements x) (elements x)) (e / 2))) (elements-of-products a x ha hx)
+          ∙ powers-odd (elements a) (elements x) e h z;
     })
 
-even-passed : (a x : List ℕ) (e : ℕ) (b : List ℕ) → length a ≡ 12 → ShortTo 12 a → e < 2 ^ 64 → e % 2 ≡ 0 → b ≡ a → Passed a x e b
+even-passed : (a x : List ℕ) (e : ℕ) (b : List ℕ) → length a ≡ 12 → ShortTo 12 a → e < 2 ^ 64 → e % 2 ≡ 0 → b ≡ a
+    → Passed a x e b
 even-passed a x e b l ha h z q =
     subst (Passed a x e) (sym q) (record { size = l; short = ha; same = powers-even (elements a) (elements x) e h z })
 
@@ -56,14 +62,17 @@ passed : (t : ℕ) (c : powers-times-lts.Joined2 (
   powers-times-below t,
   powers-times.Post,
 ) (powers-times-at t) powers-times.Post) →
-    Passed (c .before .before .before .args .acc .now) (c .before .before .before .args .x .now) (c .before .before .before .args .e) (c .if2 .acc)
+    let a = c .before .before .before .args in
+    Passed (a .acc .now) (a .x .now) (a .e) (c .if2 .acc)
 passed t c =
     let a = c .before .before .before in
     let e = a .args .e in
     let h : e < 2 ^ 64 = omega arith in
     ⊎-elim
-    (λ w. odd-passed (a .args .acc .now) (a .args .x .now) e _ (a .pre .1 .1) (a .pre .1 .3) h (w .0 .taken) (w .3 ∙ w .2 .ensures))
-    (λ w. even-passed (a .args .acc .now) (a .args .x .now) e _ (a .pre .1 .0) (a .pre .1 .1) h (omega (arith, w .0 .left)) (w .1))
+    (λ w. odd-passed (a .args .acc .now) (a .args .x .now) e _ (a .pre .1 .1) (a .pre .1 .3) h (w .0 .taken)
+    (w .3 ∙ w .2 .ensures))
+    (λ w. even-passed (a .args .acc .now) (a .args .x .now) e _ (a .pre .1 .0) (a .pre .1 .1) h
+    (omega (arith, w .0 .left)) (w .1))
     (c .if2 .came)
 
 powers-times-returns : (t : ℕ) → powers-times-lts.Need-returns (
@@ -73,8 +82,12 @@ powers-times-returns : (t : ℕ) → powers-times-lts.Need-returns (
   powers-times.Post,
 ) (powers-times-at t) powers-times.Post
 powers-times-returns t c =
-    let a = c .before in
-    (powers-done (a .args .acc .now) (elements (a .args .x .now)) ∙ ap (λ e. products (elements (a .args .acc .now)) (powers (elements (a .args .x .now)) e)) (sym (c .if1 .taken)), a .pre .1 .1)
+    let a = c .before in (
+      powers-done (a .args .acc .now) (elements (a .args .x .now))
+          ∙ ap (λ e. products (elements (a .args .acc .now)) (powers (elements (a .args .x .now)) e))
+          (sym (c .if1 .taken)),
+      a .pre .1 .1,
+    )
 
 powers-times-multiply-requires : (t : ℕ) → powers-times-lts.Need-multiply-requires (
   multiply-reads.Asked,
@@ -106,8 +119,15 @@ powers-times-powers-times-requires t c κs =
     let a = c .before .before .before .before .before .before .before in
     let q = passed t (c .before .before .before .before) in
     let m = c .before .before .multiply2 .ensures in
-    let x = a .args .x .now in
-    (omega arith, (q .size, q .short, ap length m ∙ length-word-products x x, subst (ShortTo 12) (sym m) (word-products-short x x (a .pre .1 .3) (a .pre .1 .3))))
+    let x = a .args .x .now in (
+      omega arith,
+      (
+        q .size,
+        q .short,
+        ap length m ∙ length-word-products x x,
+        subst (ShortTo 12) (sym m) (word-products-short x x (a .pre .1 .3) (a .pre .1 .3)),
+      ),
+    )
 
 powers-times-returns-2 : (t : ℕ) → powers-times-lts.Need-returns-2 (
   multiply-reads.Asked,
@@ -120,7 +140,11 @@ powers-times-returns-2 t c =
     let a = j .before .before .before in
     let x = a .args .x .now in
     let q = passed t j in (
-      c .powers-times .ensures .0 ∙ ap (λ y. products (elements (j .if2 .acc)) (powers y (a .args .e / 2))) (ap elements (c .before .before .before .multiply2 .ensures) ∙ elements-of-products x x (a .pre .1 .3) (a .pre .1 .3)) ∙ q .same,
+      c .powers-times .ensures .0
+          ∙ ap (λ y. products (elements (j .if2 .acc)) (powers y (a .args .e / 2)))
+          (ap elements (c .before .before .before .multiply2 .ensures)
+          ∙ elements-of-products x x (a .pre .1 .3) (a .pre .1 .3))
+          ∙ q .same,
       c .powers-times .ensures .1,
     )
 

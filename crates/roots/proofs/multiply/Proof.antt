@@ -1,4 +1,4 @@
--- `roots::multiply` meets its contract: the cells passed are filled with the products.
+-- `roots::multiply`: the cells passed are filled with the products, and the others are as they were.
 -- Assumes nothing.
 use mathlib.Core.Path.{_≡_, sym, ap, subst, _∙_}
 use mathlib.Core.List.{List}
@@ -60,7 +60,8 @@ loop-again : tie.Need-loop-again Inv-loop μ-loop
 loop-again c =
     let a = c .before .before .before .before .args in
     let l = c .before .before .before .loop in
-    let e : c .times .result ≡ timesWord (cell (a .a .now) (l .j)) (cell (a .t2) (l .j)) = c .times .ensures .0 ∙ ap (λ v. timesWord v (cell (a .t2) (l .j))) (unpassed (l .j) _ _ (l .a) (l .inv .2)) in
+    let e : c .times .result ≡ timesWord (cell (a .a .now) (l .j)) (cell (a .t2) (l .j)) =
+    c .times .ensures .0 ∙ ap (λ v. timesWord v (cell (a .t2) (l .j))) (unpassed (l .j) _ _ (l .a) (l .inv .2)) in
     (omega arith, simp length-set (l .inv .1), filled-more _ (l .j) _ _ (l .a) (omega arith) e (l .inv .2))
 
 returns : tie.Need-returns Inv-loop μ-loop

@@ -1,4 +1,4 @@
--- `roots::roots` meets its contract: twelve ones times the cells raised to the exponent of the root.
+-- `roots::roots`: twelve ones times the cells raised to (2p - 1) / 3, entered and left in Montgomery's form.
 -- Assumes nothing.
 use mathlib.Core.Path.{refl, sym, ap, _∙_, subst}
 use borrow.Author.Needs.{needs}
@@ -19,8 +19,12 @@ powers-times-requires : tie.Need-powers-times-requires
 unfolding words
 powers-times-requires c κs =
     let e = c .before .before .enter .ensures in
-    let a = c .before .before .before in
-    (refl, ones-short, ap length e ∙ length-tab 12 (λ j. enterWord (cell (a .args .s) j)), subst (ShortTo 12) (sym e) (words-short (a .args .s) (a .pre)))
+    let a = c .before .before .before in (
+      refl,
+      ones-short,
+      ap length e ∙ length-tab 12 (λ j. enterWord (cell (a .args .s) j)),
+      subst (ShortTo 12) (sym e) (words-short (a .args .s) (a .pre)),
+    )
 
 leave-requires : tie.Need-leave-requires
 leave-requires c κs = search needs
@@ -31,7 +35,8 @@ returns c =
     let s = w .before .args .s in
     c .leave .ensures
     ∙ c .before .powers-times .ensures .0
-    ∙ ap (λ x. products (elements (replicate 12 2305842407918272505)) (powers x third)) (ap elements (w .enter .ensures) ∙ elements-of-words s (w .before .pre))
+    ∙ ap (λ x. products (elements (replicate 12 2305842407918272505)) (powers x third))
+    (ap elements (w .enter .ensures) ∙ elements-of-words s (w .before .pre))
     ∙ roots-of-powers s
 
 pub roots-spec : {M : Type 1} → statement M

@@ -1,4 +1,5 @@
--- `steps::back_step` meets its contract.
+-- `steps::back_step`: the cells passed are the cubes of the stored inverse times the differences, as the back scale
+-- makes up for the divisions.
 -- Assumes nothing.
 use mathlib.Core.Path.{_≡_, refl, ap, _∙_}
 use Prim.Native.Nat.{_-_, _≤_}
@@ -16,7 +17,9 @@ use Rattle.steps.proofs.back_step.Statement.{statement}
 use Rattle.steps.proofs.back_step.Tie as tie
 
 abbrev Inv-loop : tie.InvT-loop
-Inv-loop ready table round less excess out₀ i₀ out i = (i ≤ 12) × (length out ≡ 12) × (out ≡ filled i (λ n. cube (timesColumn 12 (entry (inverseOf table)) (cell less) n)) out₀)
+Inv-loop ready table round less excess out₀ i₀ out i =
+    (i ≤ 12) × (length out ≡ 12)
+    × (out ≡ filled i (λ n. cube (timesColumn 12 (entry (inverseOf table)) (cell less) n)) out₀)
 
 abbrev μ-loop : tie.MeasureT-loop
 μ-loop ready table round less excess out₀ i₀ out i = 12 - i
@@ -73,8 +76,14 @@ loop-again c =
     let l = y .before .before .before in
     let q = l .loop in
     let a = l .before .before .before .before .before .before in
-    let v = c .thin-cube .ensures .0 ∙ back-word (a .args .table .now) (a .args .ready .now) (l .before .before .before .less-first-step .result) (q .i) (y .cell-plus .result) (omega arith) (a .pre .1) (y .cell-plus .ensures .0) in
-    (omega arith, length-set (q .out) (q .i) (c .thin-cube .result) ∙ q .inv .1, filled-more _ (q .i) (c .thin-cube .result) _ (q .out) (omega arith) v (q .inv .2))
+    let v =
+    c .thin-cube .ensures .0
+    ∙ back-word (a .args .table .now) (a .args .ready .now) (l .before .before .before .less-first-step .result)
+    (q .i) (y .cell-plus .result) (omega arith) (a .pre .1) (y .cell-plus .ensures .0) in (
+      omega arith,
+      length-set (q .out) (q .i) (c .thin-cube .result) ∙ q .inv .1,
+      filled-more _ (q .i) (c .thin-cube .result) _ (q .out) (omega arith) v (q .inv .2),
+    )
 
 returns : tie.Need-returns Inv-loop μ-loop
 returns c =
@@ -82,7 +91,8 @@ returns c =
     let q = l .before .before .before in
     let a = q .before .before .before in
     let e : l .loop .i ≡ 12 = omega arith in
-    undone-made (a .args .table .now) (a .args .s) (q .less-first-step .result) (l .loop .out) (a .args .round) (q .less-first-step .ensures .0) (l .loop .inv .2 ∙ rw e (filled-all 12 _ (replicate 12 0) refl))
+    undone-made (a .args .table .now) (a .args .s) (q .less-first-step .result) (l .loop .out) (a .args .round)
+    (q .less-first-step .ensures .0) (l .loop .inv .2 ∙ rw e (filled-all 12 _ (replicate 12 0) refl))
 
 pub back-step-spec : {M : Type 1} → statement M
 back-step-spec =

@@ -1,4 +1,4 @@
--- `steps::forward_ready` meets its contract.
+-- `steps::forward_ready`: M's 144 words lie in the table and are canonical; they are made ready with the forward scale.
 -- Assumes nothing.
 use mathlib.Core.Path.{sym, ap, _∙_, subst}
 use native.Mathlib.Omega.{arith}

@@ -1,4 +1,4 @@
--- `steps::less_first_step` meets its contract: the cells passed are the differences.
+-- `steps::less_first_step`: the cells passed are the differences.
 -- Assumes nothing.
 use mathlib.Core.Path.{_≡_, refl, sym, ap, _∙_, subst}
 use Prim.Native.Nat.{_-_, _≤_}

@@ -1,4 +1,4 @@
--- `steps::less_initial` meets its contract: the cells passed are the differences.
+-- `steps::less_initial`: the cells passed are the differences.
 -- Assumes nothing.
 use mathlib.Core.Path.{_≡_, refl, ap, _∙_}
 use Prim.Native.Nat.{_-_, _≤_}

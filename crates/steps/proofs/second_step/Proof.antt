@@ -1,4 +1,5 @@
--- `steps::second_step` meets its contract.
+-- `steps::second_step`: the columns passed are M's rows times the cubes, plus the constant, as the forward scale makes
+-- up for the divisions.
 -- Assumes nothing.
 use mathlib.Core.Path.{_≡_, refl, ap, _∙_}
 use mathlib.Core.List.{List}
@@ -90,8 +91,11 @@ loop-again c =
     let w = y .cell-plus in
     let e = plus-word (w .result) (inner (a .args .ready .now) cubed (q .i)) (w .ensures .0) (k .ensures .0) in
     let v : c .less-once .result ≡ f (q .i) =
-    made-canonical (f (q .i)) (w .result) (c .less-once .result) (w .ensures .1) e (c .less-once .ensures) .0 in
-    (omega arith, length-set (q .out) (q .i) (c .less-once .result) ∙ q .inv .1, filled-more f (q .i) (c .less-once .result) _ (q .out) (omega arith) v (q .inv .2))
+    made-canonical (f (q .i)) (w .result) (c .less-once .result) (w .ensures .1) e (c .less-once .ensures) .0 in (
+      omega arith,
+      length-set (q .out) (q .i) (c .less-once .result) ∙ q .inv .1,
+      filled-more f (q .i) (c .less-once .result) _ (q .out) (omega arith) v (q .inv .2),
+    )
 
 returns : tie.Need-returns Inv-loop μ-loop
 returns c =
@@ -100,7 +104,9 @@ returns c =
     let a = q .before .before .before in
     let e : l .loop .i ≡ a .args .count = omega arith in
     let f : ℕ → ℕ = sums (a .args .ready .now) (a .args .table .now) (a .args .round) (q .thin-cubes .result) in
-    second-made (a .args .table .now) (a .args .ready .now) (a .args .s) (q .thin-cubes .result) (l .loop .out) (a .args .round) (a .args .count) (a .pre .4) (a .pre .1) (q .thin-cubes .ensures .0) (l .loop .inv .2 ∙ ap (λ n. filled n f (replicate 12 0)) e)
+    second-made (a .args .table .now) (a .args .ready .now) (a .args .s) (q .thin-cubes .result) (l .loop .out)
+    (a .args .round) (a .args .count) (a .pre .4) (a .pre .1) (q .thin-cubes .ensures .0)
+    (l .loop .inv .2 ∙ ap (λ n. filled n f (replicate 12 0)) e)
 
 pub second-step-spec : {M : Type 1} → statement M
 second-step-spec =

@@ -1,4 +1,4 @@
--- `steps::thin_cube` meets its contract.
+-- `steps::thin_cube`: two products in Montgomery's form divide by 2^64 each, and `less_once` brings the result below p.
 -- Assumes nothing.
 use mathlib.Core.Path.{ap, _∙_}
 use Prim.Native.Nat.{_%_}
@@ -27,7 +27,11 @@ returns c =
     let a = q .before in
     let x = a .args .x in
     let s = q .times .result in
-    made-canonical (thinCube x) (p .times2 .result) (c .less-once .result) (p .times2 .ensures .2) (ap (λ y. y % P) (p .times2 .ensures .0) ∙ times-divided s x (q .times .ensures .2) (a .pre) ∙ thin-made x s (ap (λ y. y % P) (q .times .ensures .0) ∙ times-divided x x (a .pre) (a .pre))) (c .less-once .ensures)
+    made-canonical (thinCube x) (p .times2 .result) (c .less-once .result) (p .times2 .ensures .2)
+    (ap (λ y. y % P) (p .times2 .ensures .0)
+    ∙ times-divided s x (q .times .ensures .2) (a .pre)
+    ∙ thin-made x s (ap (λ y. y % P) (q .times .ensures .0) ∙ times-divided x x (a .pre) (a .pre)))
+    (c .less-once .ensures)
 
 pub thin-cube-spec : {M : Type 1} → statement M
 thin-cube-spec = tie.close (tie.spec times-requires times-requires-2 less-once-requires returns)

@@ -1,4 +1,4 @@
--- `steps::thin_cubes` meets its contract.
+-- `steps::thin_cubes`: the cells passed are filled with the cubes divided by 2^128.
 -- Assumes nothing.
 use mathlib.Core.Path.{_≡_, refl, sym, _∙_, subst}
 use Prim.Native.Nat.{ℕ, _-_, _≤_}
@@ -47,8 +47,12 @@ loop-less c = search needs
 
 loop-again : tie.Need-loop-again Inv-loop μ-loop
 loop-again c =
-    let l = c .before .before .loop in
-    (omega arith, length-set (l .out) (l .j) (c .thin-cube .result) ∙ l .inv .1, filled-more _ (l .j) (c .thin-cube .result) _ (l .out) (omega arith) (c .thin-cube .ensures .0) (l .inv .2))
+    let l = c .before .before .loop in (
+      omega arith,
+      length-set (l .out) (l .j) (c .thin-cube .result) ∙ l .inv .1,
+      filled-more _ (l .j) (c .thin-cube .result) _ (l .out) (omega arith) (c .thin-cube .ensures .0)
+          (l .inv .2),
+    )
 
 returns : tie.Need-returns Inv-loop μ-loop
 returns c =

@@ -1,4 +1,4 @@
--- `table::column` meets its contract: the cells passed are those of the column.
+-- `table::column`: the cells passed are those of the column.
 -- Assumes nothing.
 use mathlib.Core.Path.{_≡_, refl, _∙_}
 use Prim.Native.Nat.{_-_, _≤_}

@@ -1,4 +1,4 @@
--- `table::constant` meets its contract: K_n stands where the definition reads it.
+-- `table::constant`: K_n stands where the definition reads it, and a table's words are canonical.
 -- Assumes nothing.
 use mathlib.Core.Path.{sym}
 use Prim.Native.Nat.{_+_, _*_}

@@ -1,4 +1,4 @@
--- `table::first_step_constant` meets its contract: it is K_(2 round + 1).
+-- `table::first_step_constant`: it is K_(2 round + 1).
 -- Assumes nothing.
 use borrow.Author.Needs.{needs}
 use Rattle.table.specs.Table.{firstStepConstant}

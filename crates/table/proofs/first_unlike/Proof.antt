@@ -1,4 +1,4 @@
--- `table::first_unlike` meets its contract: the cells passed are those of the identity.
+-- `table::first_unlike`: the product is of M and the stored inverse, and the cells passed are those of the identity.
 -- Assumes nothing.
 use mathlib.Core.Path.{_≡_, sym, ap, ap₂, _∙_, subst}
 use mathlib.Core.Bool.{false}
@@ -75,7 +75,8 @@ returns c =
     let t = p .before .before .before .before .args .table .now in
     let l = c .before .before .before .loop in
     let value = at-cell (matrixOf t) (inverseOf t) _ (l .c) (omega arith) (multiplied p) in
-    stops t (l .c) (omega arith) (l .inv .1) (unlike-yes t (l .c) _ _ value (c .before .identity .ensures) (c .if1 .taken))
+    stops t (l .c) (omega arith) (l .inv .1)
+    (unlike-yes t (l .c) _ _ value (c .before .identity .ensures) (c .if1 .taken))
 
 add-c : tie.Need-add-c Inv-loop μ-loop
 add-c c = search needs
@@ -88,8 +89,10 @@ loop-again c =
     let p = c .before .before .before .before in
     let t = p .before .before .before .before .args .table .now in
     let l = c .before .before .before .loop in
-    let value = at-cell (matrixOf t) (inverseOf t) _ (l .c) (omega arith) (multiplied p) in
-    (omega arith, below-more _ _ (l .inv .1) (unlike-no t (l .c) _ _ value (c .before .identity .ensures) (c .if1 .left)))
+    let value = at-cell (matrixOf t) (inverseOf t) _ (l .c) (omega arith) (multiplied p) in (
+      omega arith,
+      below-more _ _ (l .inv .1) (unlike-no t (l .c) _ _ value (c .before .identity .ensures) (c .if1 .left)),
+    )
 
 returns-2 : tie.Need-returns-2 Inv-loop μ-loop
 returns-2 c =

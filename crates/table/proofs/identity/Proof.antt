@@ -1,4 +1,4 @@
--- `table::identity` meets its contract.
+-- `table::identity`: 1 where row and column are equal, 0 elsewhere, is the definition's identity.
 -- Assumes nothing.
 use mathlib.Core.Path.{sym, ap, _∙_}
 use Rattle.matrix.specs.Matrix.{identity}

@@ -1,4 +1,4 @@
--- `table::initial_constant` meets its contract: it is K_0.
+-- `table::initial_constant`: it is K_0.
 -- Assumes nothing.
 use borrow.Author.Needs.{needs}
 use Rattle.table.specs.Table.{initialConstant}

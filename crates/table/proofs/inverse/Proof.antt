@@ -1,4 +1,4 @@
--- `table::inverse` meets its contract: the inverse is the next 144 words.
+-- `table::inverse`: the inverse is the 144 words after M.
 -- Assumes nothing.
 use mathlib.Core.Path.{refl}
 use borrow.Author.Needs.{needs}

@@ -1,4 +1,4 @@
--- `table::matrix` meets its contract: M is the table's first 144 words.
+-- `table::matrix`: M is the table's first 144 words.
 -- Assumes nothing.
 use mathlib.Core.Path.{refl}
 use borrow.Author.Needs.{needs}

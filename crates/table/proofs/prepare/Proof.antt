@@ -1,4 +1,4 @@
--- `table::prepare` meets its contract: each return is the case of the definition that the tests before it left.
+-- `table::prepare`: each return is the case of the definition that the tests before it left.
 -- Assumes nothing.
 use mathlib.Core.Path.{_≡_, refl, sym, _∙_}
 use native.Mathlib.Omega.{arith}
@@ -15,17 +15,23 @@ use Rattle.table.proofs.prepare.Statement.{statement}
 use Rattle.table.proofs.prepare.Tie as tie
 
 -- the tests have accepted
-tested : (c : tie.Else3) → rawTest (c .before .before .before .before .before .before .args .raw .now) (length (c .before .before .before .before .before .before .args .destination .now)) ≡ Accepted
+tested : (c : tie.Else3) →
+    let s = c .before .before .before .before .before .before .args in
+    rawTest (s .raw .now) (length (s .destination .now)) ≡ Accepted
 tested c =
     let e = c .before .before in
     raw-accepted _ _ (e .before .if1 .left) (e .if2 .left) (sym (c .before .first-bad .ensures) ∙ c .if3 .left)
 
 -- and the inverse is found
-found : (c : tie.Else4) → RawInverse (c .before .before .before .before .before .before .before .before .before .before .args .raw .now) (c .before .invert .last .1 .0)
+found : (c : tie.Else4) →
+    let t = c .before .before .before .before in
+    let s = t .before .before .before .before .before .before .args in
+    RawInverse (s .raw .now) (c .before .invert .last .1 .0)
 found c =
     let t = c .before .before .before .before in
     let s = t .before .before .before .before .before .before .args in
-    inverted (s .raw .now) (s .destination .now) (tested t) _ _ _ (c .before .invert .ensures) (not-false (c .before .invert .result) (c .if4 .left))
+    inverted (s .raw .now) (s .destination .now) (tested t) _ _ _ (c .before .invert .ensures)
+    (not-false (c .before .invert .result) (c .if4 .left))
 
 returns : tie.Need-returns
 returns c =
@@ -44,7 +50,9 @@ returns-3 : tie.Need-returns-3
 returns-3 c =
     let s = c .before .before .before .before .before .before .args in
     let e = c .before .before in
-    refuses _ (wrong-word (s .raw .now) (length (s .destination .now)) (e .before .if1 .left) (e .if2 .left) _ (c .before .first-bad .ensures) (c .if3 .taken))
+    refuses _
+    (wrong-word (s .raw .now) (length (s .destination .now)) (e .before .if1 .left) (e .if2 .left) _
+    (c .before .first-bad .ensures) (c .if3 .taken))
 
 slice-aggregate-invert : tie.Need-slice-aggregate-invert
 slice-aggregate-invert c =
@@ -55,14 +63,19 @@ invert-requires : tie.Need-invert-requires
 invert-requires c κs =
     let e = c .before .before in
     let raw = e .before .before .before .before .before .before .args .raw .now in
-    let size : length raw ≡ rawWords = e .before .before .before .if1 .left in
-    (length-part raw 0 144 (omega arith), part-canonical raw 0 144 (omega arith) (good-all raw (sym (e .before .first-bad .ensures) ∙ e .if3 .left ∙ sym size)), refl)
+    let size : length raw ≡ rawWords = e .before .before .before .if1 .left in (
+      length-part raw 0 144 (omega arith),
+      part-canonical raw 0 144 (omega arith)
+          (good-all raw (sym (e .before .first-bad .ensures) ∙ e .if3 .left ∙ sym size)),
+      refl,
+    )
 
 returns-4 : tie.Need-returns-4
 returns-4 c =
     let e = c .before .before .before .before in
     let s = e .before .before .before .before .before .before .args in
-    without (s .raw .now) (s .destination .now) (tested e) _ _ _ (c .before .invert .ensures) (not-true (c .before .invert .result) (c .if4 .taken))
+    without (s .raw .now) (s .destination .now) (tested e) _ _ _ (c .before .invert .ensures)
+    (not-true (c .before .invert .result) (c .if4 .taken))
 
 write-requires : tie.Need-write-requires
 write-requires c κs =

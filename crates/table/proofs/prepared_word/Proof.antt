@@ -1,4 +1,4 @@
--- `table::prepared_word` meets its contract.
+-- `table::prepared_word`: one case for each part of the prepared table, M, its inverse and the constants.
 -- Assumes nothing.
 use Prim.Native.Nat.{_-_}
 use native.Mathlib.Omega.{arith}
@@ -33,12 +33,14 @@ shared-slice-read-result-2 c = search needs
 returns-2 : tie.Need-returns-2
 returns-2 c =
     let s = c .before .before .before in
-    word-inverse (s .args .raw .now) (s .args .n .now) (s .pre .0) (s .pre .1) (s .args .t) (s .args .t - 144) (omega arith) (omega arith)
+    word-inverse (s .args .raw .now) (s .args .n .now) (s .pre .0) (s .pre .1) (s .args .t) (s .args .t - 144)
+    (omega arith) (omega arith)
 
 returns-3 : tie.Need-returns-3
 returns-3 c =
     let s = c .before .before .before in
-    word-constant (s .args .raw .now) (s .args .n .now) (s .pre .0) (s .pre .1) (s .args .t) (s .args .t - 144) (omega arith) (omega arith)
+    word-constant (s .args .raw .now) (s .args .n .now) (s .pre .0) (s .pre .1) (s .args .t) (s .args .t - 144)
+    (omega arith) (omega arith)
 
 pub prepared-word-spec : {M : Type 1} → statement M
 prepared-word-spec =

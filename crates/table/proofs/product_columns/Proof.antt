@@ -1,4 +1,4 @@
--- `table::product_columns` meets its contract: the cells passed are those of the product.
+-- `table::product_columns`: the cells passed, column after column, are those of the product.
 -- Assumes nothing.
 use Prim.Native.Nat.{ℕ, _+_, _*_, _-_, _≤_}
 use mathlib.Core.Path.{_≡_, refl, ap, _∙_}
@@ -41,8 +41,12 @@ column-requires c κs =
 
 times-requires : tie.Need-times-requires Inv-loop2 μ-loop2 Inv-loop μ-loop
 times-requires c κs =
-    let s = c .before .before .before .before .before in
-    (s .pre .0, s .pre .1, column-canonical (s .args .n .now) _ (c .before .before .loop .k) (s .pre .2) (s .pre .3) (omega arith) (c .column .ensures))
+    let s = c .before .before .before .before .before in (
+      s .pre .0,
+      s .pre .1,
+      column-canonical (s .args .n .now) _ (c .before .before .loop .k) (s .pre .2) (s .pre .3) (omega arith)
+          (c .column .ensures),
+    )
 
 loop2-holds : tie.Need-loop2-holds Inv-loop2 μ-loop2 Inv-loop μ-loop
 loop2-holds c =
@@ -80,7 +84,9 @@ loop2-again c =
     let s = c .before .before .before .before .before .before .before .before .args in
     let k = c .before .before .before .before .before .loop .k in
     let l = c .before .loop2 in
-    let next = next-cell (s .m .now) (s .n .now) _ _ k (l .i) (omega arith) (c .before .before .before .column .ensures) (c .before .before .times .ensures .0) in
+    let next =
+    next-cell (s .m .now) (s .n .now) _ _ k (l .i) (omega arith) (c .before .before .before .column .ensures)
+    (c .before .before .times .ensures .0) in
     let e : 12 * k + l .i + 1 ≡ 12 * k + (l .i + 1) = omega arith in
     (omega arith, filled-more _ _ _ _ _ (omega arith) next (l .inv .1) ∙ ap (so-far (s .m .now) (s .n .now)) e)
 

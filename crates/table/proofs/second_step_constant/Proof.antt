@@ -1,4 +1,4 @@
--- `table::second_step_constant` meets its contract: it is K_(2 round + 2).
+-- `table::second_step_constant`: it is K_(2 round + 2).
 -- Assumes nothing.
 use borrow.Author.Needs.{needs}
 use Rattle.table.specs.Table.{secondStepConstant}

@@ -1,4 +1,4 @@
--- `table::test` meets its contract: each return is the case of the definition that the tests before it left.
+-- `table::test`: each return is the case of the definition that the tests before it left.
 -- Assumes nothing.
 use mathlib.Core.Path.{sym, _∙_}
 use Rattle.words.proofs.Laws.{good-all}
@@ -26,12 +26,14 @@ first-unlike-requires c κs =
 returns-3 : tie.Need-returns-3
 returns-3 c =
     let b = c .before .before in
-    wrong-cell _ (b .before .before .if1 .left) (sym (b .before .first-bad .ensures) ∙ b .if2 .left) _ (c .before .first-unlike .ensures) (c .if3 .taken)
+    wrong-cell _ (b .before .before .if1 .left) (sym (b .before .first-bad .ensures) ∙ b .if2 .left) _
+    (c .before .first-unlike .ensures) (c .if3 .taken)
 
 returns-4 : tie.Need-returns-4
 returns-4 c =
     let b = c .before .before in
-    accepted _ (b .before .before .if1 .left) (sym (b .before .first-bad .ensures) ∙ b .if2 .left) (sym (c .before .first-unlike .ensures) ∙ c .if3 .left)
+    accepted _ (b .before .before .if1 .left) (sym (b .before .first-bad .ensures) ∙ b .if2 .left)
+    (sym (c .before .first-unlike .ensures) ∙ c .if3 .left)
 
 pub test-spec : {M : Type 1} → statement M
 test-spec =

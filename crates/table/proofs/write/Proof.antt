@@ -1,4 +1,4 @@
--- `table::write` meets its contract: the words passed are those of the prepared table.
+-- `table::write`: the words passed are those of the prepared table.
 -- Assumes nothing.
 use Prim.Native.Nat.{_-_, _≤_}
 use mathlib.Core.Path.{_≡_, sym, _∙_}
@@ -44,8 +44,11 @@ loop-less c = search needs
 loop-again : tie.Need-loop-again Inv-loop μ-loop
 loop-again c =
     let l = c .before .before .loop in
-    let size = c .before .before .before .before .before .pre .2 in
-    (omega arith, simp length-set (l .inv .1), filled-more _ _ _ _ _ (omega arith) (c .prepared-word .ensures) (l .inv .2))
+    let size = c .before .before .before .before .before .pre .2 in (
+      omega arith,
+      simp length-set (l .inv .1),
+      filled-more _ _ _ _ _ (omega arith) (c .prepared-word .ensures) (l .inv .2),
+    )
 
 same-length : tie.Need-same-length Inv-loop μ-loop
 same-length c =
@@ -56,7 +59,9 @@ returns c =
     let s = c .before .before .before .before in
     let l = c .before .loop in
     let e : l .t ≡ tableWords = omega arith in
-    l .inv .2 ∙ rw e (filled-all tableWords _ _ (s .pre .2)) ∙ tab-cell tableWords _ (length-prepared (s .args .raw .now) (s .args .n .now) (s .pre .0) (s .pre .1))
+    l .inv .2
+    ∙ rw e (filled-all tableWords _ _ (s .pre .2))
+    ∙ tab-cell tableWords _ (length-prepared (s .args .raw .now) (s .args .n .now) (s .pre .0) (s .pre .1))
 
 pub write-spec : {M : Type 1} → statement M
 write-spec =

@@ -1,4 +1,5 @@
--- `trace::build`: nothing is written before all tests have passed; then the trace is, and the state that comes back begins with the output.
+-- `trace::build`: nothing is written before all tests have passed; then the trace is, and the state that comes back
+-- begins with the output.
 -- Assumes nothing.
 use mathlib.Core.Path.{sym, ap, _∙_}
 use native.Mathlib.Omega.{arith}

@@ -1,4 +1,4 @@
--- `trace::put` meets its contract: the words passed are filled with the cells.
+-- `trace::put`: the words passed are filled with the cells.
 -- Assumes nothing.
 use mathlib.Core.Path.{_≡_, refl, _∙_}
 use Prim.Native.Nat.{_-_, _≤_}

@@ -27,9 +27,11 @@ entry p = p .before .before .before .before .before .before .before .before .bef
 abbrev words : tie.After-known-told → ℕ
 words p = length (entry p .args .taps .now)
 
-permitted : (p : tie.After-known-told) → (tapWordBatches (words p) ≡ p .before .k .given .0 .0) × (p .before .k .given .0 .0 ≤ 1024)
+permitted : (p : tie.After-known-told)
+    → (tapWordBatches (words p) ≡ p .before .k .given .0 .0) × (p .before .k .given .0 .0 ≤ 1024)
 permitted p =
-    let t = tap-permitted mostBatches (words p) (p .before .before .before .tap-batches .ensures) (p .before .k .given .1) in
+    let t =
+    tap-permitted mostBatches (words p) (p .before .before .before .tap-batches .ensures) (p .before .k .given .1) in
     let s = tap-length-sound mostBatches (words p) (t .0) in
     (t .1, omega (arith, s .1 .high, t .1))
 

@@ -1,4 +1,4 @@
--- `trace::write_batch` meets its contract: row 0, the rows of the three hashes, row 31.
+-- `trace::write_batch`: row 0, the ten rows of each of the three hashes, row 31; joined, they are the batch's 32 rows.
 -- Assumes nothing.
 use mathlib.Core.Path.{_≡_, ap, _∙_}
 use Prim.Native.Nat.{_+_, _*_}
@@ -16,27 +16,32 @@ use Rattle.trace.proofs.write_batch.Tie as tie
 abbrev entry : tie.After-write-row → tie.Start
 entry c = c .before .before .before .before .before .before .before .before
 
-after-start : (c : tie.After-write-row) → Writable (entry c .args .table .now) (entry c .args .taps .now) (entry c .args .batch .0) (c .write-row .last .0)
+after-start : (c : tie.After-write-row) → let a = entry c .args in
+    Writable (a .table .now) (a .taps .now) (a .batch .0) (c .write-row .last .0)
 after-start c = still-writable (c .write-row .kept .0) (entry c .pre .0)
 
 -- the input of the first hash
-made : (c : tie.After-write-row) → c .before .input-of .result ≡ hashInput (entry c .args .table .now) (entry c .args .taps .now) (3 * entry c .args .batch .0)
+made : (c : tie.After-write-row) → let a = entry c .args in
+    c .before .input-of .result ≡ hashInput (a .table .now) (a .taps .now) (3 * a .batch .0)
 made c =
     let a = entry c in
     let w = a .args .taps .now in
     let n : c .before .before .hash .result .0 ≡ 3 * a .args .batch .0 = omega arith in
-    is-input (a .args .table .now) w (3 * a .args .batch .0) (a .args .last) _ (a .pre .1) (c .before .input-of .ensures ∙ ap (λ x. input (take 4 (a .args .last)) (tap w (x + 1))) n)
+    is-input (a .args .table .now) w (3 * a .args .batch .0) (a .args .last) _ (a .pre .1)
+    (c .before .input-of .ensures ∙ ap (λ x. input (take 4 (a .args .last)) (tap w (x + 1))) n)
 
 abbrev before-first : tie.After-write-hash → tie.After-write-row
 before-first c = c .before .before .before .before
 
-after-first : (c : tie.After-write-hash) → Writable (entry (before-first c) .args .table .now) (entry (before-first c) .args .taps .now) (entry (before-first c) .args .batch .0) (c .write-hash .last .1 .1 .1 .1 .1 .0)
+after-first : (c : tie.After-write-hash) → let a = entry (before-first c) .args in
+    Writable (a .table .now) (a .taps .now) (a .batch .0) (c .write-hash .last .1 .1 .1 .1 .1 .0)
 after-first c = still-writable (c .write-hash .kept .1 .1 .1 .1 .1 .0) (after-start (before-first c))
 
 abbrev before-second : tie.After-write-hash2 → tie.After-write-hash
 before-second c = c .before .before .before .before
 
-after-second : (c : tie.After-write-hash2) → Writable (entry (before-first (before-second c)) .args .table .now) (entry (before-first (before-second c)) .args .taps .now) (entry (before-first (before-second c)) .args .batch .0) (c .write-hash2 .last .1 .1 .1 .1 .1 .0)
+after-second : (c : tie.After-write-hash2) → let a = entry (before-first (before-second c)) .args in
+    Writable (a .table .now) (a .taps .now) (a .batch .0) (c .write-hash2 .last .1 .1 .1 .1 .1 .0)
 after-second c = still-writable (c .write-hash2 .kept .1 .1 .1 .1 .1 .0) (after-first (before-second c))
 
 abbrev before-third : tie.After-write-hash3 → tie.After-write-hash2
@@ -64,14 +69,22 @@ write-hash-requires c κs =
 write-hash-requires-2 : tie.Need-write-hash-requires-2
 write-hash-requires-2 c κs =
     let h = c .before .before .before in
-    let a = entry (before-first h) .args in
-    (after-first h, omega arith, is-output (a .table .now) (a .taps .now) (3 * a .batch .0 + 0) (3 * a .batch .0 + 1) _ (omega arith) (h .write-hash .ensures .0))
+    let a = entry (before-first h) .args in (
+      after-first h,
+      omega arith,
+      is-output (a .table .now) (a .taps .now) (3 * a .batch .0 + 0) (3 * a .batch .0 + 1) _ (omega arith)
+          (h .write-hash .ensures .0),
+    )
 
 write-hash-requires-3 : tie.Need-write-hash-requires-3
 write-hash-requires-3 c κs =
     let h = c .before .before .before in
-    let a = entry (before-first (before-second h)) .args in
-    (after-second h, omega arith, is-output (a .table .now) (a .taps .now) (3 * a .batch .0 + 1) (3 * a .batch .0 + 2) _ (omega arith) (h .write-hash2 .ensures .0))
+    let a = entry (before-first (before-second h)) .args in (
+      after-second h,
+      omega arith,
+      is-output (a .table .now) (a .taps .now) (3 * a .batch .0 + 1) (3 * a .batch .0 + 2) _ (omega arith)
+          (h .write-hash2 .ensures .0),
+    )
 
 row-requires-2 : tie.Need-row-requires-2
 row-requires-2 c κs =
@@ -100,7 +113,11 @@ returns c =
     let z : 32 * a .args .batch .0 + 0 ≡ 32 * a .args .batch .0 = omega arith in
     let at = i .before .before .row .result .0 in (
       h₃ .write-hash3 .ensures .0,
-      batch-rows (a .args .table .now) (a .args .taps .now) (a .args .batch .0) _ _ _ _ _ _ _ _ at (w .before .row2 .result .0) (a .pre .0 .room) (made r) (i .before .before .row .ensures ∙ z) (r .write-row .ensures) (h₁ .write-hash .ensures .1) (h₂ .write-hash2 .ensures .1) (h₃ .write-hash3 .ensures .1) (h₃ .write-hash3 .ensures .0) (w .before .row2 .ensures) (w .write-row2 .ensures),
+      batch-rows (a .args .table .now) (a .args .taps .now) (a .args .batch .0) _ _ _ _ _ _ _ _ at
+          (w .before .row2 .result .0) (a .pre .0 .room) (made r) (i .before .before .row .ensures ∙ z)
+          (r .write-row .ensures) (h₁ .write-hash .ensures .1) (h₂ .write-hash2 .ensures .1)
+          (h₃ .write-hash3 .ensures .1) (h₃ .write-hash3 .ensures .0) (w .before .row2 .ensures)
+          (w .write-row2 .ensures),
     )
 
 pub write-batch-spec : {M : Type 1} → statement M

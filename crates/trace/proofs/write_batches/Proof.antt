@@ -1,4 +1,4 @@
--- `trace::write_batches` meets its contract: the rows of the batches passed are written, and the state begins with their output.
+-- `trace::write_batches`: the rows of the batches passed are written, and the state begins with their output.
 -- Assumes nothing.
 use mathlib.Core.Path.{_≡_, refl, sym, ap, _∙_}
 use Prim.Native.Nat.{_+_, _*_, _-_, _≤_}
@@ -16,7 +16,8 @@ use Rattle.trace.proofs.write_batches.Tie as tie
 
 abbrev Inv-loop : tie.InvT-loop
 Inv-loop table taps k destination₀ state₀ b₀ destination state b =
-    (b ≤ k) × (length destination ≡ length destination₀) × (take 4 state ≡ outputAt table taps (3 * b)) × (destination ≡ withRows (traceRow table taps) 0 (32 * b) destination₀)
+    (b ≤ k) × (length destination ≡ length destination₀) × (take 4 state ≡ outputAt table taps (3 * b))
+    × (destination ≡ withRows (traceRow table taps) 0 (32 * b) destination₀)
 
 abbrev μ-loop : tie.MeasureT-loop
 μ-loop table taps k destination₀ state₀ b₀ destination state b = k - b
@@ -26,8 +27,12 @@ chain-start-requires c κs = omega arith
 
 loop-holds : tie.Need-loop-holds Inv-loop μ-loop
 loop-holds c =
-    let a = c .before .before .before .before .args in
-    (omega arith, refl, starts (a .table .now) (a .taps .now) _ (omega arith) (c .chain-start .ensures), sym (rows-none _ 0 (a .destination .now)))
+    let a = c .before .before .before .before .args in (
+      omega arith,
+      refl,
+      starts (a .table .now) (a .taps .now) _ (omega arith) (c .chain-start .ensures),
+      sym (rows-none _ 0 (a .destination .now)),
+    )
 
 write-batch-requires : tie.Need-write-batch-requires Inv-loop μ-loop
 write-batch-requires c κs =
@@ -48,8 +53,10 @@ loop-again c =
     let a = w .before .before .before .before .before .before .before .before .args in (
       omega arith,
       w .write-batch .kept .1 .1 .1 .1 .0 ∙ l .inv .1,
-      is-output (a .table .now) (a .taps .now) (3 * l .b + 2) (3 * (l .b + 1)) _ (omega arith) (w .write-batch .ensures .0),
-      more-rows (a .table .now) (a .taps .now) (l .b) (a .destination .now) (l .destination) _ (omega arith) (l .inv .3) (w .write-batch .ensures .1),
+      is-output (a .table .now) (a .taps .now) (3 * l .b + 2) (3 * (l .b + 1)) _ (omega arith)
+          (w .write-batch .ensures .0),
+      more-rows (a .table .now) (a .taps .now) (l .b) (a .destination .now) (l .destination) _ (omega arith)
+          (l .inv .3) (w .write-batch .ensures .1),
     )
 
 same-length : tie.Need-same-length Inv-loop μ-loop
@@ -63,7 +70,9 @@ returns c =
     let l = c .before .loop in
     let e : l .b ≡ a .k = omega arith in (
       l .inv .2 ∙ ap (λ n. outputAt (a .table .now) (a .taps .now) (3 * n)) e,
-      l .inv .3 ∙ ap (λ n. withRows (traceRow (a .table .now) (a .taps .now)) 0 (32 * n) (a .destination .now)) e ∙ all-rows (a .table .now) (a .taps .now) (a .k) (a .destination .now) (b .pre .4),
+      l .inv .3
+          ∙ ap (λ n. withRows (traceRow (a .table .now) (a .taps .now)) 0 (32 * n) (a .destination .now)) e
+          ∙ all-rows (a .table .now) (a .taps .now) (a .k) (a .destination .now) (b .pre .4),
     )
 
 pub write-batches-spec : {M : Type 1} → statement M

@@ -1,4 +1,4 @@
--- `trace::write_hash` meets its contract: the middle states are the trace's rows.
+-- `trace::write_hash`: the input is that of the hash, so that its ten middle states are the trace's rows.
 -- Assumes nothing.
 use mathlib.Core.Path.{_≡_, ap, _∙_}
 use Prim.Native.Nat.{ℕ, _+_, _*_}
@@ -19,11 +19,17 @@ abbrev number : tie.After-input-of → ℕ
 number c = 3 * entry c .args .batch .0 + entry c .args .within
 
 -- the input is that of the hash
-made : (c : tie.After-input-of) → c .input-of .result ≡ input (take 4 (entry c .args .last)) (tap (entry c .args .taps .now) (number c + 1))
-made c = c .input-of .ensures ∙ ap (λ n. input (take 4 (entry c .args .last)) (tap (entry c .args .taps .now) (n + 1))) (c .before .hash .ensures)
+made : (c : tie.After-input-of) → let a = entry c .args in
+    c .input-of .result ≡ input (take 4 (a .last)) (tap (a .taps .now) (number c + 1))
+made c =
+    let a = entry c .args in
+    c .input-of .ensures ∙ ap (λ n. input (take 4 (a .last)) (tap (a .taps .now) (n + 1))) (c .before .hash .ensures)
 
-is-made : (c : tie.After-input-of) → c .input-of .result ≡ hashInput (entry c .args .table .now) (entry c .args .taps .now) (number c)
-is-made c = is-input (entry c .args .table .now) (entry c .args .taps .now) (number c) (entry c .args .last) _ (entry c .pre .2) (made c)
+is-made : (c : tie.After-input-of) → let a = entry c .args in
+    c .input-of .result ≡ hashInput (a .table .now) (a .taps .now) (number c)
+is-made c =
+    let a = entry c .args in
+    is-input (a .table .now) (a .taps .now) (number c) (a .last) _ (entry c .pre .2) (made c)
 
 hash-requires : tie.Need-hash-requires
 hash-requires c κs = search needs
@@ -45,7 +51,8 @@ write-rounds-requires c κs =
     let i = c .before .before in
     let a = entry i in (
       a .pre .0 .table,
-      input-canonical (a .args .table .now) (a .args .taps .now) (number i) (a .args .last) _ (a .pre .2) (made i) (a .pre .0 .canonical) (omega (arith, a .pre)),
+      input-canonical (a .args .table .now) (a .args .taps .now) (number i) (a .args .last) _ (a .pre .2) (made i)
+          (a .pre .0 .canonical) (omega (arith, a .pre)),
       omega (arith, a .pre),
       omega (arith, a .pre),
     )
@@ -59,7 +66,9 @@ returns c =
     let i = w .before .before .before in
     let a = entry i .args in (
       w .write-rounds .ensures .0 ∙ ap (finalState (a .table .now)) (is-made i),
-      hash-rows (a .table .now) (a .taps .now) (a .batch .0) (a .within) (w .before .row .result .0) (i .input-of .result) (a .destination .now) _ (entry i .pre .1) (w .before .row .ensures) (is-made i) (w .write-rounds .ensures .1),
+      hash-rows (a .table .now) (a .taps .now) (a .batch .0) (a .within) (w .before .row .result .0)
+          (i .input-of .result) (a .destination .now) _ (entry i .pre .1) (w .before .row .ensures) (is-made i)
+          (w .write-rounds .ensures .1),
     )
 
 pub write-hash-spec : {M : Type 1} → statement M

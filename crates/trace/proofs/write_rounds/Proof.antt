@@ -1,4 +1,5 @@
--- `trace::write_rounds` meets its contract: the rows passed are middle states, and the state is that before the round, from whatever input the first one came.
+-- `trace::write_rounds`: the rows passed are middle states, and the state is that before the round, from whatever input
+-- the first one came.
 -- Assumes nothing.
 use mathlib.Core.Path.{_≡_, refl, sym, ap, _∙_}
 use mathlib.Core.List.{List}
@@ -29,7 +30,18 @@ next : (T s : List ℕ) (first : ℕ) (old new state : List ℕ) (round : ℕ) (
     Passed T s first old new state round →
     Passed T s first old new₂ state₂ (round + 1)
 unfolding middleState
-next T s first old new state round new₂ middle state₂ l em en es p = record { at = es ∙ ap (secondStep T round) is-middle ∙ sym (stateAt-suc T s round) ∙ ap (stateAt T s) (sym (add-one round)); rows = en ∙ ap (withRows (λ i. middle) r (r + 1)) (p .rows) ∙ rows-ext _ row r (r + 1) _ same ∙ rows-join row first r old (omega arith) l (r + 1) (omega arith) ∙ ap (λ n. withRows row first n old) more }
+next T s first old new state round new₂ middle state₂ l em en es p =
+    record {
+      at = es
+          ∙ ap (secondStep T round) is-middle
+          ∙ sym (stateAt-suc T s round)
+          ∙ ap (stateAt T s) (sym (add-one round));
+      rows = en
+          ∙ ap (withRows (λ i. middle) r (r + 1)) (p .rows)
+          ∙ rows-ext _ row r (r + 1) _ same
+          ∙ rows-join row first r old (omega arith) l (r + 1) (omega arith)
+          ∙ ap (λ n. withRows row first n old) more;
+    }
   where
     r : ℕ
     r = first + round
@@ -50,7 +62,8 @@ next T s first old new state round new₂ middle state₂ l em en es p = record 
 
 abbrev Inv-loop : tie.InvT-loop
 Inv-loop table destination₀ first state₀ round₀ destination state round =
-    (round ≤ 10) × CanonicalTo 12 state × (length destination ≡ length destination₀) × ((s : List ℕ) → state₀ ≡ stateAt table s 0 → Passed table s first destination₀ destination state round)
+    (round ≤ 10) × CanonicalTo 12 state × (length destination ≡ length destination₀)
+    × ((s : List ℕ) → state₀ ≡ stateAt table s 0 → Passed table s first destination₀ destination state round)
 
 abbrev μ-loop : tie.MeasureT-loop
 μ-loop table destination₀ first state₀ round₀ destination state round = 10 - round
@@ -61,11 +74,17 @@ opening-requires c κs = (c .before .before .pre .0, c .before .before .pre .1)
 loop-holds : tie.Need-loop-holds Inv-loop μ-loop
 loop-holds c =
     let a = c .before .before .before .args in
-    let z : a .row .0 + 0 ≡ a .row .0 = omega arith in (
+    let r = a .row .0 in
+    let d = a .destination .now in
+    let z : r + 0 ≡ r = omega arith in (
       omega arith,
       canonical-state (c .opening .ensures) (stateAt-state _ _ 0),
       refl,
-      λ s e. record { at = e; rows = sym (ap (λ n. withRows (λ i. middleState (a .table .now) s (i - a .row .0)) (a .row .0) n (a .destination .now)) z ∙ rows-none _ (a .row .0) (a .destination .now)) },
+      λ s e. record {
+        at = e;
+        rows = sym
+            (ap (λ n. withRows (λ i. middleState (a .table .now) s (i - r)) r n d) z ∙ rows-none _ r d);
+      },
     )
 
 first-step-requires : tie.Need-first-step-requires Inv-loop μ-loop
@@ -79,8 +98,11 @@ write-row-requires c κs = omega arith
 
 second-step-requires : tie.Need-second-step-requires Inv-loop μ-loop
 second-step-requires c κs =
-    let f = c .before .before .before .before in
-    (f .before .before .before .before .before .before .pre .0, omega arith, canonical-state (f .first-step .ensures) (firstStep-state _ _ _))
+    let f = c .before .before .before .before in (
+      f .before .before .before .before .before .before .pre .0,
+      omega arith,
+      canonical-state (f .first-step .ensures) (firstStep-state _ _ _),
+    )
 
 add-round : tie.Need-add-round Inv-loop μ-loop
 add-round c = search needs
@@ -97,7 +119,9 @@ loop-again c =
       omega arith,
       canonical-state (c .second-step .ensures) (secondStep-state _ _ _),
       w .write-row .kept .0 ∙ l .inv .2,
-      λ s e. next (a .args .table .now) s (a .args .row .0) (a .args .destination .now) (l .destination) (l .state) (l .round) _ _ _ (omega arith) (f .first-step .ensures) (w .write-row .ensures) (c .second-step .ensures) (l .inv .3 s e),
+      λ s e. next (a .args .table .now) s (a .args .row .0) (a .args .destination .now) (l .destination) (l .state)
+          (l .round) _ _ _ (omega arith) (f .first-step .ensures) (w .write-row .ensures) (c .second-step .ensures)
+          (l .inv .3 s e),
     )
 
 same-length : tie.Need-same-length Inv-loop μ-loop
@@ -110,8 +134,12 @@ returns c =
     let a = o .before .before .before .args in
     let l = c .before .loop in
     let e : l .round ≡ 10 = omega arith in
-    let p = l .inv .3 (a .input) (o .opening .ensures) in
-    (p .at ∙ ap (stateAt (a .table .now) (a .input)) e, p .rows ∙ ap (λ n. withRows (λ i. middleState (a .table .now) (a .input) (i - a .row .0)) (a .row .0) (a .row .0 + n) (a .destination .now)) e)
+    let r = a .row .0 in
+    let t = a .table .now in
+    let p = l .inv .3 (a .input) (o .opening .ensures) in (
+      p .at ∙ ap (stateAt t (a .input)) e,
+      p .rows ∙ ap (λ n. withRows (λ i. middleState t (a .input) (i - r)) r (r + n) (a .destination .now)) e,
+    )
 
 pub write-rounds-spec : {M : Type 1} → statement M
 write-rounds-spec =

@@ -1,4 +1,4 @@
--- `trace::write_row` meets its contract: the part is back in its place.
+-- `trace::write_row`: the part that `put` filled is back in its place, which makes it the row.
 -- Assumes nothing.
 use mathlib.Core.Path.{_≡_, sym, ap, ap₂, _∙_}
 use mathlib.Core.List.{List, _++_, append-assoc}
@@ -12,7 +12,8 @@ use Rattle.trace.proofs.WrittenRows.{row-one}
 use Rattle.trace.proofs.write_row.Statement.{statement}
 use Rattle.trace.proofs.write_row.Tie as tie
 
-in-place : (s : List ℕ) (r start : ℕ) (d part : List ℕ) → length s ≡ 12 → start ≡ 12 * r → part ≡ s → putMid start (start + 12 - start) d part ≡ withRows (λ i. s) r (r + 1) d
+in-place : (s : List ℕ) (r start : ℕ) (d part : List ℕ) → length s ≡ 12 → start ≡ 12 * r → part ≡ s
+    → putMid start (start + 12 - start) d part ≡ withRows (λ i. s) r (r + 1) d
 in-place s r start d part l e q =
     sym (append-assoc (take start d) part (postOf start (start + 12 - start) d))
     ∙ ap₂ (λ x y. take start d ++ x ++ y) q (post-is start (start + 12) d (omega arith))
@@ -46,7 +47,8 @@ same-length c = search needs
 returns : tie.Need-returns
 returns c =
     let a = c .before .before .before .before .before .before .args in
-    in-place (a .cells) (a .row .0) _ (a .destination .now) _ (search needs) (c .before .before .before .before .start .ensures) (c .before .before .put .ensures)
+    in-place (a .cells) (a .row .0) _ (a .destination .now) _ (search needs)
+    (c .before .before .before .before .start .ensures) (c .before .before .put .ensures)
 
 pub write-row-spec : {M : Type 1} → statement M
 write-row-spec =

@@ -1,4 +1,4 @@
--- `words::first_bad` meets its contract: the words passed are canonical.
+-- `words::first_bad`: the words passed are canonical, so that the first one that is not is the first bad word.
 -- Assumes nothing.
 use mathlib.Core.Path.{_≡_, sym, _∙_}
 use Prim.Native.Nat.{ℕ, _-_, _≤_, _<_}
@@ -32,7 +32,9 @@ is-canonical-requires : tie.Need-is-canonical-requires Inv-loop μ-loop
 is-canonical-requires c κs = search needs
 
 returns : tie.Need-returns Inv-loop μ-loop
-returns c = stops _ _ (omega arith) (c .before .before .before .before .loop .inv .1) (ltb-false _ _ (sym (c .before .is-canonical .ensures) ∙ not-true _ (c .if1 .taken)))
+returns c =
+    stops _ _ (omega arith) (c .before .before .before .before .loop .inv .1)
+    (ltb-false _ _ (sym (c .before .is-canonical .ensures) ∙ not-true _ (c .if1 .taken)))
 
 add-i : tie.Need-add-i Inv-loop μ-loop
 add-i c = omega arith
@@ -41,7 +43,11 @@ loop-less : tie.Need-loop-less Inv-loop μ-loop
 loop-less c = omega arith
 
 loop-again : tie.Need-loop-again Inv-loop μ-loop
-loop-again c = (omega arith, below-more _ _ (c .before .before .before .before .loop .inv .1) (ltb-true _ _ (sym (c .before .is-canonical .ensures) ∙ not-false _ (c .if1 .left))))
+loop-again c = (
+  omega arith,
+  below-more _ _ (c .before .before .before .before .loop .inv .1)
+      (ltb-true _ _ (sym (c .before .is-canonical .ensures) ∙ not-false _ (c .if1 .left))),
+)
 
 returns-2 : tie.Need-returns-2 Inv-loop μ-loop
 returns-2 c =

@@ -1,4 +1,4 @@
--- `elements::Word::join` meets its contract.
+-- `elements::Word::join`: a kind shifted above 30 bits of payload, joined by |, is their sum.
 -- Assumes nothing.
 use borrow.Author.Needs.{needs}
 use Rattle.elements.proofs.Shifts.{above}

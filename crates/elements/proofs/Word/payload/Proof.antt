@@ -1,4 +1,4 @@
--- `elements::Word::payload` meets its contract.
+-- `elements::Word::payload`: the mask of 30 bits leaves the rest modulo 2^30.
 -- Assumes nothing.
 use lib.Bits.{and-mask}
 use Rattle.elements.proofs.Word.payload.Statement.{statement}

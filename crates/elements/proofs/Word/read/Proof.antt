@@ -1,4 +1,4 @@
--- `elements::Word::read` meets its contract: four bytes, low byte first.
+-- `elements::Word::read`: four bytes, low byte first, joined by shifts.
 -- Assumes nothing.
 use Prim.Native.Nat.{ℕ, _+_, _*_, _^_, _<_}
 use native.Mathlib.Omega.{arith}

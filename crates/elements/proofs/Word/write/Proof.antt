@@ -1,4 +1,4 @@
--- `elements::Word::write` meets its contract: four stores, low byte first.
+-- `elements::Word::write`: four stores, low byte first.
 -- Assumes nothing.
 use mathlib.Core.Path.{_≡_}
 use Prim.Native.Nat.{ℕ, _/_, _%_, _^_}

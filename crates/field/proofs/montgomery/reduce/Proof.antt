@@ -1,4 +1,5 @@
--- `field::montgomery::reduce` meets its contract: what is taken off has the same lower word, so that 2^64 divides the rest.
+-- `field::montgomery::reduce`: what is taken off is a multiple of p with the same lower word, so that 2^64 divides the
+-- rest; its upper word is below p, so that nothing goes below 0.
 -- Assumes nothing.
 use mathlib.Core.Path.{_≡_, sym, ap, _∙_, subst}
 use Prim.Native.Nat.{_+_, _*_, _-_, _/_, _^_, _<_}
@@ -23,7 +24,10 @@ high-requires c κs = search needs
 
 -- the upper word of what is taken off
 off : (c : tie.After-high) → c .high .result < P
-off c = subst (λ x. x < P) (sym (c .high .ensures)) (factor-small (c .before .low .result) (subst (λ x. x < 2 ^ 64) (sym (c .before .low .ensures)) (mod-lt _ (lit< tt))))
+off c =
+    subst (λ x. x < P) (sym (c .high .ensures))
+    (factor-small (c .before .low .result)
+    (subst (λ x. x < 2 ^ 64) (sym (c .before .low .ensures)) (mod-lt _ (lit< tt))))
 
 sub-result : tie.Need-sub-result
 sub-result c = omega (arith, off c)

@@ -1,4 +1,4 @@
--- `field::montgomery::times` meets its contract: the product's two words are reduced.
+-- `field::montgomery::times`: the product's two words are reduced; the result stands for the product, and is below 2p.
 -- Assumes nothing.
 use mathlib.Core.Path.{_≡_, sym, ap₂, _∙_, subst}
 use native.Mathlib.Omega.{arith}
@@ -25,9 +25,11 @@ unfolding timesWord
 returns c =
     let h = c .before in
     let a = h .before .before in
-    let e : c .reduce .result ≡ timesWord (a .args .a) (a .args .b) = c .reduce .ensures .0 ∙ ap₂ reduceWord (h .high .ensures) (h .before .low .ensures) in (
+    let e : c .reduce .result ≡ timesWord (a .args .a) (a .args .b) =
+    c .reduce .ensures .0 ∙ ap₂ reduceWord (h .high .ensures) (h .before .low .ensures) in (
       e,
-      subst (λ r. element r ≡ mul (element (a .args .a)) (element (a .args .b))) (sym e) (times-element (a .args .a) (a .args .b) (a .pre .0) (a .pre .1)),
+      subst (λ r. element r ≡ mul (element (a .args .a)) (element (a .args .b))) (sym e)
+          (times-element (a .args .a) (a .args .b) (a .pre .0) (a .pre .1)),
       subst Short (sym e) (times-short (a .args .a) (a .args .b) (a .pre .0) (a .pre .1)),
     )
 
