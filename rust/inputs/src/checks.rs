@@ -204,14 +204,18 @@ fn refused_words(honest: &Day) -> Vec<ReadOffCase> {
 fn check_corners(seed: u64) -> Vec<CheckCase> {
     let mut cases = read_off_corners(seed);
     cases.retain(|case| case.refusal != Some(Refusal::DestinationLength));
-    let check = |case: ReadOffCase| CheckCase {
+    cases.into_iter().map(without_destination).collect()
+}
+
+/// The case as Check is lent it.
+fn without_destination(case: ReadOffCase) -> CheckCase {
+    CheckCase {
         name: case.name,
         table: case.table,
         trace: case.trace,
         claim: case.claim,
         refusal: case.refusal,
-    };
-    cases.into_iter().map(check).collect()
+    }
 }
 
 /// Check: 1, 2, 4, 7, 9, 10, 11. The corner cases and `n` others; of the single
@@ -228,14 +232,7 @@ pub fn check_cases(seed: u64, n: usize) -> Vec<CheckCase> {
             word: flags[6],
             constraint: flags[1] || flags[3] || flags[5] || flags[7],
         };
-        let case = lent_case(&mut random, number, damaged);
-        CheckCase {
-            name: case.name,
-            table: case.table,
-            trace: case.trace,
-            claim: case.claim,
-            refusal: case.refusal,
-        }
+        without_destination(lent_case(&mut random, number, damaged))
     };
     let mut cases = check_corners(seed);
     cases.extend((0..n).map(make));
