@@ -1,7 +1,7 @@
 #!/bin/sh
 # Runs the built program on inputs made here, and compares each line that it prints with the one that document 01 gives
-# ("The board file", "What is turned back", "Known days"; docs/DECISIONS.md, 9); then has its reads and writes fail, where
-# it prints no line. Stops at the first difference, which it names.
+# ("The board file", "What is turned back", "Known days"; docs/DECISIONS.md, 9); then has its reads and writes fail,
+# where it prints no line. Stops at the first difference, which it names.
 set -eu
 cd "$(dirname "$0")/.."
 
@@ -56,10 +56,13 @@ expect 'Z, the file of zeros' 'accepted 1 372' 'Z; zero_file 1'
 expect 'Z, claim (1,0,0,0)' 'refused 11 31 49' 'Z; word 1; elements 1; repeat 19 "elements 0"'
 expect 'A, four zero taps, claim (3,0,0,0)' 'accepted 1 372' 'A; word 1; elements 3; repeat 19 "elements 0"'
 expect 'A, four zero taps, zero claim' 'refused 11 31 49' 'A; zero_file 1'
-expect 'S, last tap and claim (5,6,7,9)' 'accepted 1 372' 'S; word 1; elements 5 6 7 9; repeat 12 "elements 8"; elements 5 6 7 9'
-expect 'Z, first tap and claim (8,27,1,0)' 'accepted 1 372' 'Z; word 1; elements 8 27 1 0 8 27 1 0; repeat 12 "elements 0"'
+expect 'S, last tap and claim (5,6,7,9)' 'accepted 1 372' \
+    'S; word 1; elements 5 6 7 9; repeat 12 "elements 8"; elements 5 6 7 9'
+expect 'Z, first tap and claim (8,27,1,0)' 'accepted 1 372' \
+    'Z; word 1; elements 8 27 1 0 8 27 1 0; repeat 12 "elements 0"'
 expect 'Zero M' 'refused 3' 'zeros 3168; zero_file 1'
-expect 'p - 1 in a tap and the claim' 'accepted 1 372' 'Z; word 1; elements $((P - 1)) 0 0 0 $((P - 1)) 0 0 0; repeat 12 "elements 0"'
+expect 'p - 1 in a tap and the claim' 'accepted 1 372' \
+    'Z; word 1; elements $((P - 1)) 0 0 0 $((P - 1)) 0 0 0; repeat 12 "elements 0"'
 expect 'p - 1 in M' 'accepted 1 372' 'with "Z; zero_file 1" 0 "bytes 8 $((P - 1))"'
 
 # ---- the claim: one constraint for each of its words
@@ -80,11 +83,13 @@ expect '200000 bytes' 'too long' 'zeros 200000'
 
 # ---- the table comes before the file
 expect 'table word 17 is p' 'refused 2 17' 'with "Z; zero_file 1" $(table_word 17) "bytes 8 $P"'
-expect 'table words 17 and 20 are p' 'refused 2 17' 'with "with Z $(table_word 20) \"bytes 8 \$P\"; zero_file 1" $(table_word 17) "bytes 8 $P"'
+expect 'table words 17 and 20 are p' 'refused 2 17' \
+    'with "with Z $(table_word 20) \"bytes 8 \$P\"; zero_file 1" $(table_word 17) "bytes 8 $P"'
 expect 'the last table word is p' 'refused 2 395' 'with "Z; zero_file 1" $(table_word 395) "bytes 8 $P"'
 expect 'a table word of 2^64 - 1, and no file' 'refused 2 0' 'fill 8 377; zeros 3160'
 expect 'zero M with p among the constants' 'refused 2 200' 'with "zeros 3168" $(table_word 200) "bytes 8 $P"'
-expect 'byte order: 2^61 + 21 * 2^32' 'refused 2 5' 'with "Z; zero_file 1" $(table_word 5) "bytes 8 $((1 << 61 | 21 << 32))"'
+expect 'byte order: 2^61 + 21 * 2^32' 'refused 2 5' \
+    'with "Z; zero_file 1" $(table_word 5) "bytes 8 $((1 << 61 | 21 << 32))"'
 expect 'byte order: 255' 'accepted 1 372' 'with "Z; zero_file 1" $(table_word 5) "bytes 8 255"'
 expect 'two equal rows of M, and half a file' 'refused 3' 'with Z $(table_word 0) "zeros 8; bytes 8 1"; zeros 50'
 
@@ -115,8 +120,10 @@ expect 'the last word of kind 0' 'refused 13 60' 'with "Z; zero_file 1" $(file_w
 expect 'element 0 is p' 'refused 14 1' 'with "Z; zero_file 1" $(file_word 1) "elements $P"'
 expect 'the last element is p' 'refused 14 58' 'with "Z; zero_file 1" $(file_word 58) "elements $P"'
 expect 'an element of 2^64' 'refused 14 4' 'with "Z; zero_file 1" $(file_word 4) "word 0x40000010"'
-expect 'element 0 is p, element 1 of wrong kind' 'refused 14 1' 'with "Z; zero_file 1" $(file_word 1) "elements $P; word 0"'
-expect 'element 0 is too large and of wrong kind' 'refused 13 3' 'with "Z; zero_file 1" $(file_word 1) "word 0x7fffffff; word 0x80000000; word 0"'
+expect 'element 0 is p, element 1 of wrong kind' 'refused 14 1' \
+    'with "Z; zero_file 1" $(file_word 1) "elements $P; word 0"'
+expect 'element 0 is too large and of wrong kind' 'refused 13 3' \
+    'with "Z; zero_file 1" $(file_word 1) "word 0x7fffffff; word 0x80000000; word 0"'
 
 # ---- the permitted counts up to 16
 expect 'k = 2' 'accepted 2 744' 'Z; zero_file 2'

@@ -1,8 +1,8 @@
 #!/bin/sh
 # Clears folders of boards made here in the two ways of the README, "Many boards": with examples/rust/folder.rs, and
-# with the program under xargs, by the README's own command. Each line must be document 01's, so that both say the same of
-# each board. Also sums, exit statuses, and what is said where something cannot be read. Stops at the first difference.
-# Needs the static library, which tests/library.sh builds, and the program.
+# with the program under xargs, by the README's own command. Each line must be document 01's, so that both say the same
+# of each board. Also sums, exit statuses, and what is said where something cannot be read. Stops at the first
+# difference. Needs the static library, which tests/library.sh builds, and the program.
 set -eu
 cd "$(dirname "$0")/.."
 
@@ -61,7 +61,8 @@ readme 'mkdir boards' >try.sh
 readme xargs >many.sh
 sh -eu try.sh
 sh -eu many.sh
-echo 'boards/duty 7: accepted 1 372' | diff - lines || fail 'the command of the README printed another line for its board'
+echo 'boards/duty 7: accepted 1 372' | diff - lines ||
+    fail 'the command of the README printed another line for its board'
 
 # ---- boards of all kinds, the last entries none. The order is that of the names.
 mkdir "$work/all" && cd "$work/all"
@@ -117,8 +118,8 @@ cp "$root/target/bin/clear" target/bin/clear
 by_readme boards.program 'all boards'
 [ ! -s errors ] || fail "the README's command, on standard error: $(cat errors)"
 
-# Every board has its line, also where there is no verdict on it: the table is not there, the board cannot be read (a cat
-# that fails after the table stands for that, since every file can be read as root), or the program is stopped.
+# Every board has its line, also where there is no verdict on it: the table is not there, the board cannot be read (a
+# cat that fails after the table stands for that, since every file can be read as root), or the program is stopped.
 sed 's/: .*/: no answer/' boards.program >boards.unanswered
 mv table.raw away.raw
 by_readme boards.unanswered 'no table'

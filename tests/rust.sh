@@ -1,6 +1,7 @@
 #!/bin/sh
-# Runs all Rust tests and holds those that passed to tests/rust-tests.txt, which has a line `CRATE TARGET TEST` for each: a test that is dropped,
-# renamed, ignored, filtered out or new fails, and is named. Needs the static libraries, which tests/library.sh builds, and the program.
+# Runs all Rust tests and holds those that passed to tests/rust-tests.txt, which has a line `CRATE TARGET TEST` for
+# each: a test that is dropped, renamed, ignored, filtered out or new fails, and is named. Needs the static libraries,
+# which tests/library.sh builds, and the program.
 set -eu
 cd "$(dirname "$0")/.."
 
@@ -14,16 +15,19 @@ for manifest in rust/*/Cargo.toml; do
     awk -v crate="$crate" '
         $1 == "Running" { target = $2 == "unittests" ? $3 : $2; sub(/^tests\//, "", target); sub(/\.rs$/, "", target) }
         $1 == "Doc-tests" { target = "doc" }
-        /^test .* \.\.\. ok$/ { sub(/^test /, ""); sub(/ \.\.\. ok$/, ""); print crate, target, $0 }' "$work/out" >>"$work/ran"
+        /^test .* \.\.\. ok$/ { sub(/^test /, ""); sub(/ \.\.\. ok$/, ""); print crate, target, $0 }
+    ' "$work/out" >>"$work/ran"
     grep '^test result: ' "$work/out" >>"$work/results" || :
 done
 
 LC_ALL=C sort "$work/ran" >"$work/sorted"
 if ! diff tests/rust-tests.txt "$work/sorted" >"$work/diff"; then
-    sed -n 's/^< /tests\/rust.sh: did not run: /p; s/^> /tests\/rust.sh: is not in tests\/rust-tests.txt: /p' "$work/diff" >&2
+    sed -n 's|^< |tests/rust.sh: did not run: |p; s|^> |tests/rust.sh: is not in tests/rust-tests.txt: |p' \
+        "$work/diff" >&2
     exit 1
 fi
-if grep -vE '^test result: ok\. [0-9]+ passed; 0 failed; 0 ignored; 0 measured; 0 filtered out; ' "$work/results" >&2; then
+if grep -vE '^test result: ok\. [0-9]+ passed; 0 failed; 0 ignored; 0 measured; 0 filtered out; ' \
+    "$work/results" >&2; then
     echo "tests/rust.sh: not every test ran" >&2
     exit 1
 fi

@@ -6,7 +6,7 @@ use Prim.Native.Nat.{ℕ, _+_, _*_, _/_, _%_, _^_, _≤_, _<_}
 use lib.Dec.{eqb, leb}
 use lib.ListN.{length}
 use Rattle.words.specs.Words.{firstBad, canonicalWords}
-use Rattle.numbers.specs.Numbers.{IsPermittedTo, permitted, tapWordBatches, isTapLength}
+use Rattle.numbers.specs.Numbers.{tapWords, IsPermittedTo, permitted, tapWordBatches, isTapLength}
 use Rattle.refusals.specs.Refusals.{digest}
 use Rattle.refusals.specs.Answers.{unless, after, digestAfter, leaves}
 use Rattle.refusals.specs.declared.Refusal.the-variants.{TapLength, TapWord, DestinationLength, ClaimWord}
@@ -30,6 +30,10 @@ countWord k = joined 0 k
 -- then claim and taps
 unfoldable pub fileOf : List ℕ → List ℕ → ℕ → List ℕ
 fileOf taps claim k = bytesOf (countWord k ∷ wordsOf (claim ++ taps))
+
+-- the elements of the claim and of 3k + 1 taps
+abbrev pub elementCount : ℕ → ℕ
+elementCount k = 12 * k + 8
 
 -- length 144k + 100 bytes
 abbrev pub fileSize : ℕ → ℕ
@@ -74,7 +78,7 @@ claimIn file = elementsAt file 1 4
 
 -- its taps: the elements after the claim
 unfoldable pub tapsIn : List ℕ → List ℕ
-tapsIn file = elementsAt file 13 (12 * batchesIn file + 4)
+tapsIn file = elementsAt file 13 (tapWords (batchesIn file))
 
 -- ---- Unpack: 12 (below 4), word 0's 13 then 14, 12, 8, then each element's three kinds and its value
 
@@ -92,8 +96,8 @@ unpackTest file size =
     unless (leb 4 (length file)) FileLength
     (after (countTest (wordAt file 0))
     (unless (eqb (length file) (fileSize (batchesIn file))) FileLength
-    (unless (eqb size (12 * batchesIn file + 4)) DestinationLength
-    (elementsTest file 1 (12 * batchesIn file + 8)))))
+    (unless (eqb size (tapWords (batchesIn file))) DestinationLength
+    (elementsTest file 1 (elementCount (batchesIn file))))))
 
 -- the claim is returned
 unfoldable pub unpackAnswer : List ℕ → ℕ → DigestAnswer
@@ -108,15 +112,15 @@ pub record IsBoard (file : List ℕ) (k : ℕ) : Type 0 where
   pub permitted : IsPermittedTo mostFileBatches k
   pub word : wordAt file 0 ≡ countWord k
   pub size : length file ≡ fileSize k
-  pub elements : (i : ℕ) → i < 12 * k + 8 → IsElement file (1 + 3 * i)
+  pub elements : (i : ℕ) → i < elementCount k → IsElement file (1 + 3 * i)
 
 -- what Unpack has found when it comes to the value of element i, counted from the claim's first
 pub record ReadTo (file : List ℕ) (size i : ℕ) : Type 0 where
   pub four : 4 ≤ length file
   pub count : countTest (wordAt file 0) ≡ Accepted
   pub bytes : length file ≡ fileSize (batchesIn file)
-  pub room : size ≡ 12 * batchesIn file + 4
-  pub within : i < 12 * batchesIn file + 8
+  pub room : size ≡ tapWords (batchesIn file)
+  pub within : i < elementCount (batchesIn file)
   pub before : (n : ℕ) → n < i → IsElement file (1 + 3 * n)
   pub high : kindOf (wordAt file (1 + 3 * i)) ≡ 1
   pub middle : kindOf (wordAt file (1 + 3 * i + 1)) ≡ 2

@@ -3,10 +3,13 @@
 ghost use mathlib.Core.Path.{_≡_};
 ghost use Prim.Native.Nat.{_+_, _*_, _≤_};
 ghost use lib.ListN.{length};
+ghost use Rattle.numbers.specs.Numbers.{tapWords};
 ghost use Rattle.board.specs.Board.{mostFileBatches, fileOf, fileSize, packTest, packLeaves};
 ghost use Rattle.board.specs.Board.{countIn, countTest, unpackTest, unpackAnswer, unpackLeaves};
 use elements::Word;
+use numbers::BATCH_TAP_WORDS;
 use numbers::BatchCount;
+use numbers::TAP_WORDS;
 use refusals::Answer;
 use refusals::Digest;
 use refusals::DigestAnswer;
@@ -15,6 +18,14 @@ use refusals::Refusal;
 // The most batches of a file.
 pub const MOST_BATCHES: usize = 1024;
 
+// The elements beside those of the batches: the claim, and the one tap more.
+const EXTRA_ELEMENTS: usize = 2 * TAP_WORDS;
+
+// An element is three words of four bytes. The bytes of a batch, and those beside them, with the first word.
+pub const BATCH_BYTES: usize = 12 * BATCH_TAP_WORDS;
+
+pub const EXTRA_BYTES: usize = 4 + 12 * EXTRA_ELEMENTS;
+
 // What Pack tests: 5, 8, 9, 6.
 fn test_pack(taps: &[u64], claim: [u64; 4], size: usize) -> Answer
     ensures { λ r. ⌜ r ≡ packTest (now (taps .entry)) claim size ⌝ }
@@ -22,7 +33,7 @@ fn test_pack(taps: &[u64], claim: [u64; 4], size: usize) -> Answer
     let BatchCount::Permitted(k) = numbers::tap_batches(MOST_BATCHES, taps.len()) else {
         return Answer::Refused(Refusal::TapLength);
     };
-    if size != 144 * k + 100 {
+    if size != BATCH_BYTES * k + EXTRA_BYTES {
         return Answer::Refused(Refusal::DestinationLength);
     }
     let bad_claim = words::first_bad(&claim);
@@ -38,7 +49,7 @@ fn test_pack(taps: &[u64], claim: [u64; 4], size: usize) -> Answer
 
 // Word 0, then claim and taps.
 fn write_file(taps: &[u64], claim: [u64; 4], k: usize, destination: &mut [u8])
-    requires { ⌜ (k ≤ mostFileBatches) × (length (now taps) ≡ 12 * k + 4) × (length (now destination) ≡ fileSize k) ⌝ }
+    requires { ⌜ (k ≤ mostFileBatches) × (length (now taps) ≡ tapWords k) × (length (now destination) ≡ fileSize k) ⌝ }
     ensures { λ _. ⌜ now (destination .exit) ≡ fileOf (now (taps .entry)) claim k ⌝ }
 {
     Word::join(0, k as u32).write(0, destination);
@@ -51,11 +62,11 @@ pub fn pack(taps: &[u64], claim: [u64; 4], destination: &mut [u8]) -> Answer
     ensures { λ r. ⌜ r ≡ packTest (now (taps .entry)) claim (length (now (destination .entry))) ⌝ }
     ensures { λ _. ⌜ now (destination .exit) ≡ packLeaves (now (taps .entry)) claim (now (destination .entry)) ⌝ }
 {
-    let tested = test_pack(taps, claim, destination.len());
-    let Answer::Accepted = tested else {
-        return tested;
+    let answer = test_pack(taps, claim, destination.len());
+    let Answer::Accepted = answer else {
+        return answer;
     };
-    write_file(taps, claim, taps.len() / 12, destination);
+    write_file(taps, claim, taps.len() / BATCH_TAP_WORDS, destination);
     Answer::Accepted
 }
 
@@ -91,18 +102,18 @@ fn test_unpack(file: &[u8], size: usize) -> Answer
         return Answer::Refused(Refusal::FileLength);
     }
     let word = Word::read(file, 0);
-    let tested = test_count(word);
-    let Answer::Accepted = tested else {
-        return tested;
+    let of_count = test_count(word);
+    let Answer::Accepted = of_count else {
+        return of_count;
     };
     let k = count_in(word);
-    if file.len() != 144 * k + 100 {
+    if file.len() != BATCH_BYTES * k + EXTRA_BYTES {
         return Answer::Refused(Refusal::FileLength);
     }
-    if size != 12 * k + 4 {
+    if size != BATCH_TAP_WORDS * k + TAP_WORDS {
         return Answer::Refused(Refusal::DestinationLength);
     }
-    elements::test_all(file, 1, 12 * k + 8)
+    elements::test_all(file, 1, BATCH_TAP_WORDS * k + EXTRA_ELEMENTS)
 }
 
 // Unpack writes the taps of a board file and returns its claim when all its tests have passed.
@@ -110,9 +121,9 @@ pub fn unpack(file: &[u8], destination: &mut [u64]) -> DigestAnswer
     ensures { λ r. ⌜ r ≡ unpackAnswer (now (file .entry)) (length (now (destination .entry))) ⌝ }
     ensures { λ _. ⌜ now (destination .exit) ≡ unpackLeaves (now (file .entry)) (now (destination .entry)) ⌝ }
 {
-    let tested = test_unpack(file, destination.len());
-    let Answer::Accepted = tested else {
-        return DigestAnswer::Refused(tested.refusal());
+    let of_file = test_unpack(file, destination.len());
+    let Answer::Accepted = of_file else {
+        return DigestAnswer::Refused(of_file.refusal());
     };
     let claim = Digest(
         elements::read(file, 1),

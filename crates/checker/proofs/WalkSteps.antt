@@ -12,7 +12,7 @@ use Rattle.refusals.specs.declared.TestsAnswer.{TestsAnswer}
 use Rattle.refusals.specs.declared.TestsAnswer.the-variants.{Accepted, Refused}
 use Rattle.refusals.specs.Answers.{testsAfter}
 use Rattle.constraints.specs.Constraints.{Test, applies, holds, rowTests, testsFrom, tests, walk, constraintTest}
-use Rattle.rowtests.proofs.SpanLaws.{Spans}
+use Rattle.rowtests.specs.TestHelpers.{Spans}
 
 module _ (T t claim : List ℕ) (k : ℕ) where
   -- what is answered in the end, where n tests are walked and xs are left
@@ -91,18 +91,19 @@ module _ (T t claim : List ℕ) (k : ℕ) where
   unfolding constraints rows rowTests
   row-over i m n = refl
 
-  module _ (i low high : ℕ) (s : Spans i low high) where
-    -- a row begins with the lowest constraint of its span, and is over after the highest
+  module _ (i low end : ℕ) (s : Spans i low end) where
+    -- a row begins with the lowest constraint of its span, and is over at its end
     pub enter : (r n : ℕ) → i < r → rows i (r - i) n ≡ constraints i low (r - (i + 1)) n
     enter r n h =
         whole-row i r n h
-        ∙ skip-some i 1 (r - (i + 1)) n (low - 1) (omega (arith, s .from-one, s .some, s .to-last)) (λ e p q. s .below k e (omega (arith, s .from-one)))
+        ∙ skip-some i 1 (r - (i + 1)) n (low - 1) (omega (arith, s .from-one, s .some, s .to-last))
+        (λ e p q. s .below k e (omega (arith, s .from-one)))
         ∙ ap (λ x. constraints i x (r - (i + 1)) n) one
       where
         one : 1 + (low - 1) ≡ low
         one = omega (arith, s .from-one)
 
-    pub leave : (c m n : ℕ) → high < c → c ≤ 53 → constraints i c m n ≡ rows (i + 1) m n
+    pub leave : (c m n : ℕ) → end ≤ c → c ≤ 53 → constraints i c m n ≡ rows (i + 1) m n
     leave c m n h l =
         skip-some i c m n (53 - c) (omega arith) (λ e p q. s .above k e (omega arith))
         ∙ ap (λ x. constraints i x m n) one

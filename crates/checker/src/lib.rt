@@ -3,11 +3,13 @@ ghost use mathlib.Core.Path.{_≡_};
 ghost use Prim.Native.Nat.{_*_, _<_, _^_};
 ghost use lib.ListN.{length};
 ghost use Rattle.words.specs.Words.{AllCanonical, canonicalWords, firstBad};
+ghost use Rattle.numbers.specs.Numbers.{traceWords};
 ghost use Rattle.refusals.specs.Answers.{unless, testsAfter};
 ghost use Rattle.table.specs.Table.{IsTable};
 ghost use Rattle.constraints.specs.Constraints.{tests, constraintTest};
-ghost use Rattle.steps.specs.Steps.{forwardReady, backReady};
+ghost use Rattle.steps.specs.StepHelpers.{forwardReady, backReady};
 ghost use Rattle.checker.specs.Answers.{checkAnswer};
+use numbers::BATCH_ROWS;
 use numbers::BatchCount;
 use numbers::MOST_BATCHES;
 use numbers::RowNumber;
@@ -25,11 +27,11 @@ fn walk_tests(
     k: usize,
 ) -> TestsAnswer
     requires { ⌜ (now m ≡ forwardReady (now table)) × (now inverse ≡ backReady (now table)) × IsTable (now table)
-        × AllCanonical (now trace) × (length (now trace) ≡ 384 * k) × (k < 2 ^ 32) ⌝ }
+        × AllCanonical (now trace) × (length (now trace) ≡ traceWords k) × (k < 2 ^ 32) ⌝ }
     ensures { λ r. ⌜ r ≡ testsAfter (constraintTest (now (table .entry)) (now (trace .entry)) (now (claim .entry)) k)
         (length (tests k)) ⌝ }
 {
-    let rows = 32 * k;
+    let rows = BATCH_ROWS * k;
     let mut tests: usize = 0;
     let mut i: usize = 0;
     'walk: loop {
@@ -40,9 +42,8 @@ fn walk_tests(
         let forward = rowtests::forward_of(m, table, trace, row);
         let back = rowtests::back_after(inverse, table, trace, row);
         let span = rowtests::span_of(row);
-        let last = span.1;
-        let mut constraint = span.0;
-        while constraint <= last {
+        let end = span.1;
+        for constraint in span.0..end {
             if rowtests::applies(k, row, constraint) {
                 tests += 1;
                 if !rowtests::holds(table, trace, claim, row, constraint, &forward, &back) {
@@ -53,7 +54,6 @@ fn walk_tests(
                     });
                 }
             }
-            constraint += 1;
         }
         i += 1;
     }
@@ -87,7 +87,7 @@ pub fn test_words(trace: &[u64]) -> Answer
 
 // 11: the walk, for a trace of canonical words.
 pub fn test_constraints(table: &[u64], trace: &[u64], claim: &[u64; 4], k: usize) -> TestsAnswer
-    requires { ⌜ IsTable (now table) × AllCanonical (now trace) × (length (now trace) ≡ 384 * k) × (k < 2 ^ 32) ⌝ }
+    requires { ⌜ IsTable (now table) × AllCanonical (now trace) × (length (now trace) ≡ traceWords k) × (k < 2 ^ 32) ⌝ }
     ensures { λ r. ⌜ r ≡ testsAfter (constraintTest (now (table .entry)) (now (trace .entry)) (now (claim .entry)) k)
         (length (tests k)) ⌝ }
 {
@@ -100,9 +100,9 @@ pub fn test_constraints(table: &[u64], trace: &[u64], claim: &[u64; 4], k: usize
 pub fn check(table: &[u64], trace: &[u64], claim: [u64; 4]) -> TestsAnswer
     ensures { λ r. ⌜ r ≡ checkAnswer (now (table .entry)) (now (trace .entry)) claim ⌝ }
 {
-    let tested = table::test(table);
-    let Answer::Accepted = tested else {
-        return TestsAnswer::Refused(tested.refusal());
+    let of_table = table::test(table);
+    let Answer::Accepted = of_table else {
+        return TestsAnswer::Refused(of_table.refusal());
     };
     let BatchCount::Permitted(k) = numbers::trace_batches(MOST_BATCHES, trace.len()) else {
         return TestsAnswer::Refused(Refusal::TraceLength);

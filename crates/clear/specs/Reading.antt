@@ -1,4 +1,5 @@
--- What an input is, from what `read` answered. Assumes nothing.
+-- What an input is, from what `read` answered.
+-- Assumes nothing.
 use Prim.Native.Nat.{ℕ, _≤_}
 use lib.IntN.{ℤ, pos, negsuc}
 use Rattle.clear.specs.declared.Input.{Input}

@@ -16,7 +16,9 @@ use Rattle.clearing.specs.Line.{digit, decimalIn, decimal}
 room : (most n : ℕ) → n < 10 ^ suc most → decimalIn (suc (suc most)) n ≡ decimalIn (suc most) n
 unfolding decimalIn
 room zero n h = rw (lt-ltb n 10 (omega arith))
-room (suc most) n h = ap (λ s. choose (ltb n 10) (digit n ∷ []) (s ++ (digit (n % 10) ∷ []))) (room most (n / 10) (omega (arith, pow-suc 10 (suc most))))
+room (suc most) n h =
+    ap (λ s. choose (ltb n 10) (digit n ∷ []) (s ++ (digit (n % 10) ∷ [])))
+    (room most (n / 10) (omega (arith, pow-suc 10 (suc most))))
 
 pub one-digit : (most n : ℕ) → n < 10 → decimalIn (suc most) n ≡ digit n ∷ []
 unfolding decimalIn
@@ -39,7 +41,8 @@ unfolding decimalIn
 most-digits zero n = omega arith
 most-digits (suc most) n = go (ltb n 10) (most-digits most (n / 10))
   where
-    go : (b : Bool) → length (decimalIn most (n / 10)) ≤ most → length (choose b (digit n ∷ []) (decimalIn most (n / 10) ++ (digit (n % 10) ∷ []))) ≤ suc most
+    go : (b : Bool) → length (decimalIn most (n / 10)) ≤ most
+        → length (choose b (digit n ∷ []) (decimalIn most (n / 10) ++ (digit (n % 10) ∷ []))) ≤ suc most
     go true h = omega arith
     go false h = omega (arith, length-append (decimalIn most (n / 10)) (digit (n % 10) ∷ []))
 

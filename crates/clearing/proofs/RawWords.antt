@@ -13,15 +13,11 @@ use Rattle.clearing.specs.Clearing.{rawWord}
 two-words : (s : List ℕ) (j : ℕ) → rawWord s j ≡ wordAt s (2 * j) + wordAt s (2 * j + 1) * 2 ^ 32
 unfolding rawWord sum wordAt
 two-words s j =
-    let e0 : 8 * j + 0 ≡ 4 * (2 * j) = omega arith in
-    let e1 : 8 * j + 1 ≡ 4 * (2 * j) + 1 = omega arith in
-    let e2 : 8 * j + 2 ≡ 4 * (2 * j) + 2 = omega arith in
-    let e3 : 8 * j + 3 ≡ 4 * (2 * j) + 3 = omega arith in
-    let e4 : 8 * j + 4 ≡ 4 * (2 * j + 1) = omega arith in
-    let e5 : 8 * j + 5 ≡ 4 * (2 * j + 1) + 1 = omega arith in
-    let e6 : 8 * j + 6 ≡ 4 * (2 * j + 1) + 2 = omega arith in
-    let e7 : 8 * j + 7 ≡ 4 * (2 * j + 1) + 3 = omega arith in
-    omega (arith, ap (cell s) e0, ap (cell s) e1, ap (cell s) e2, ap (cell s) e3, ap (cell s) e4, ap (cell s) e5, ap (cell s) e6, ap (cell s) e7)
+    let low : (b : ℕ) → cell s (8 * j + b) ≡ cell s (4 * (2 * j) + b) = λ b. ap (cell s) (omega arith) in
+    let high : (b : ℕ) → cell s (8 * j + (4 + b)) ≡ cell s (4 * (2 * j + 1) + b) = λ b. ap (cell s) (omega arith) in
+    let first : (i : ℕ) → cell s (4 * i + 0) ≡ cell s (4 * i) = λ i. ap (cell s) (omega arith) in
+    omega (arith, first (2 * j), first (2 * j + 1), low 0, low 1, low 2, low 3, high 0, high 1, high 2, high 3)
 
-pub joined-word : (s : List ℕ) (j low high : ℕ) → low < 2 ^ 32 → high < 2 ^ 32 → low ≡ wordAt s (2 * j) → high ≡ wordAt s (2 * j + 1) → bitOr low (high * 2 ^ 32 % 2 ^ 64) ≡ rawWord s j
+pub joined-word : (s : List ℕ) (j low high : ℕ) → low < 2 ^ 32 → high < 2 ^ 32
+    → low ≡ wordAt s (2 * j) → high ≡ wordAt s (2 * j + 1) → bitOr low (high * 2 ^ 32 % 2 ^ 64) ≡ rawWord s j
 joined-word s j low high l h e q = below 64 high 32 low (omega arith) l ∙ omega (arith, two-words s j)

@@ -1,4 +1,5 @@
--- What the stages answer one after the other: the taps of an accepted file are built and their trace checked without any other refusal.
+-- What the stages answer one after the other: the taps of an accepted file are built and their trace checked without
+-- any other refusal.
 -- Assumes nothing.
 use mathlib.Core.Path.{_≡_, refl, sym, ap, _∙_, subst, subst₂}
 use mathlib.Core.List.{List, _++_}
@@ -78,9 +79,11 @@ module _ (T w : List ℕ) (table : IsTable T) (taps : Taps w) where
   unfolding checkedTaps
   taps-cleared claim old t a o good room built checked told =
       let k : ℕ = tapWordBatches (length w) in
-      let t-is : t ≡ trace T w k = built ∙ build-leaves T w k table (taps .permitted) (taps .size) (taps .canonical) old room in
+      let left = build-leaves T w k table (taps .permitted) (taps .size) (taps .canonical) old room in
+      let t-is : t ≡ trace T w k = built ∙ left in
+      let size = length-trace T w k in
       let canonical = trace-canonical T w k (taps .size) (taps .canonical) in
-      let answered = check-verdict T (trace T w k) claim k table (taps .permitted) (length-trace T w k) canonical good in
+      let answered = check-verdict T (trace T w k) claim k table (taps .permitted) size canonical good in
       told
       ∙ ap (reported k) (checked ∙ ap (λ s. checkAnswer T s claim) t-is ∙ answered)
       ∙ reported-after k (constraintTest T (trace T w k) claim k) (length (tests k))
@@ -88,11 +91,13 @@ module _ (T w : List ℕ) (table : IsTable T) (taps : Taps w) where
 -- ---- the file
 
 -- its length decides where the taps go; where it is no file's length, that is 12 and the destination does not matter
-pub any-room : (file : List ℕ) (size : ℕ) → size ≡ length file / 12 - 4 → unpackTest file size ≡ unpackTest file (12 * batchesIn file + 4)
+pub any-room : (file : List ℕ) (size : ℕ) → size ≡ length file / 12 - 4
+    → unpackTest file size ≡ unpackTest file (12 * batchesIn file + 4)
 unfolding unpackTest
 any-room file size e = go (ℕ-discrete (length file) (fileSize (batchesIn file)))
   where
-    go : Dec (length file ≡ fileSize (batchesIn file)) → unpackTest file size ≡ unpackTest file (12 * batchesIn file + 4)
+    go : Dec (length file ≡ fileSize (batchesIn file))
+        → unpackTest file size ≡ unpackTest file (12 * batchesIn file + 4)
     go (yes l) =
         let room : size ≡ 12 * batchesIn file + 4 = omega arith in
         ap (unpackTest file) room
@@ -112,21 +117,24 @@ module _ (file : List ℕ) (board : IsBoard file (batchesIn file)) where
   }
 
 -- unpacked into the room that its length gives
-module _ (T file : List ℕ) (size : ℕ) (room : size ≡ length file / 12 - 4) (a : DigestAnswer) (e : a ≡ unpackAnswer file size) where
+module _ (T file : List ℕ) (size : ℕ) (room : size ≡ length file / 12 - 4)
+    (a : DigestAnswer) (e : a ≡ unpackAnswer file size) where
   pub file-board : (d : Digest) → a ≡ Accepted d → IsBoard file (batchesIn file) × (claimIn file ≡ digestWords d)
   file-board d q =
       let b = accepted-board file size d (sym e ∙ q) in
       (b .0, b .2)
 
-  pub file-cleared : (d : Digest) → a ≡ Accepted d → (w : List ℕ) (o : Outcome) → w ≡ tapsIn file → o ≡ checkedTaps T w (digestWords d) (tapWordBatches (length w)) → o ≡ cleared T file
+  pub file-cleared : (d : Digest) → a ≡ Accepted d → (w : List ℕ) (o : Outcome) → w ≡ tapsIn file
+      → o ≡ checkedTaps T w (digestWords d) (tapWordBatches (length w)) → o ≡ cleared T file
   unfolding cleared
   file-cleared d q w o taps told =
       let b = file-board d q in
+      let rest = checkedTaps T (tapsIn file) (claimIn file) (batchesIn file) in
       told
       ∙ ap (λ s. checkedTaps T s (digestWords d) (tapWordBatches (length s))) taps
       ∙ ap (checkedTaps T (tapsIn file) (digestWords d)) (batches-are file (b .0))
       ∙ ap (λ s. checkedTaps T (tapsIn file) s (batchesIn file)) (sym (b .1))
-      ∙ sym (ap (λ t. outcomeAfter t (checkedTaps T (tapsIn file) (claimIn file) (batchesIn file))) (unpack-complete file (batchesIn file) (b .0)))
+      ∙ sym (ap (λ t. outcomeAfter t rest) (unpack-complete file (batchesIn file) (b .0)))
 
   pub file-refused : (r : Refusal) → a ≡ Refused r → outcome.Refused r ≡ cleared T file
   unfolding cleared unpackAnswer
@@ -140,18 +148,24 @@ module _ (T file : List ℕ) (size : ℕ) (room : size ≡ length file / 12 - 4)
 -- what is left after the table
 pub rest-file : (input : List ℕ) → take (length input - tableBytes) (drop tableBytes input) ≡ fileIn input
 unfolding fileIn
-rest-file input = take-all (length input - tableBytes) (drop tableBytes input) (omega (arith, length-drop tableBytes input))
+rest-file input =
+    take-all (length input - tableBytes) (drop tableBytes input) (omega (arith, length-drop tableBytes input))
 
-module _ (input old T : List ℕ) (a : Answer) (low : tableBytes ≤ length input) (high : length input ≤ longest) (room : old ≡ unprepared) (prepares : Prepares (rawIn input) old a T) where
+module _ (input old T : List ℕ) (a : Answer) (low : tableBytes ≤ length input) (high : length input ≤ longest)
+    (room : old ≡ unprepared) (prepares : Prepares (rawIn input) old a T) where
+  prepared : (b : Answer) → a ≡ b → Prepares (rawIn input) unprepared b T
+  prepared b e = subst₂ (λ s b. Prepares (rawIn input) s b T) room e prepares
+
   pub is-table : a ≡ answer.Accepted → IsTable T
-  is-table e = test-sound T (prepared-accepted (rawIn input) old T (subst (λ b. Prepares (rawIn input) old b T) e prepares))
+  is-table e = test-sound T (prepared-accepted (rawIn input) unprepared T (prepared answer.Accepted e))
 
-  pub file-judged : (file : List ℕ) (o : Outcome) → a ≡ answer.Accepted → file ≡ fileIn input → o ≡ cleared T file → Clears input o
+  pub file-judged : (file : List ℕ) (o : Outcome) → a ≡ answer.Accepted → file ≡ fileIn input
+      → o ≡ cleared T file → Clears input o
   file-judged file o e f q =
-      subst (Clears input) (sym (q ∙ ap (cleared T) f))
-      (judged low high T (subst₂ (λ s b. Prepares (rawIn input) s b T) room e prepares))
+      subst (Clears input) (sym (q ∙ ap (cleared T) f)) (judged low high T (prepared answer.Accepted e))
 
   pub table-turned-back : (r : Refusal) → a ≡ answer.Refused r → Clears input (outcome.Refused r)
   table-turned-back r e =
-      let p : Prepares (rawIn input) unprepared (answer.Refused r) T = subst₂ (λ s b. Prepares (rawIn input) s b T) room e prepares in
-      turned-back low high r (subst (Prepares (rawIn input) unprepared (answer.Refused r)) (refused-kept (rawIn input) unprepared T r p) p)
+      let p = prepared (answer.Refused r) e in
+      let kept = refused-kept (rawIn input) unprepared T r p in
+      turned-back low high r (subst (Prepares (rawIn input) unprepared (answer.Refused r)) kept p)

@@ -1,4 +1,5 @@
--- What the program promises (document 01, "The board file"): every input has one answer, `accepted` and `refused` mean what they say.
+-- What the program promises (document 01, "The board file"): every input has one answer, `accepted` and `refused` mean
+-- what they say.
 -- Assumes nothing.
 use mathlib.Core.Path.{_≡_, refl, sym, ap, _∙_, subst}
 use mathlib.Core.Logic.{_↔_}
@@ -34,9 +35,11 @@ use Rattle.clearing.proofs.Stages.{table-turned-back}
 pub clears-some : (input : List ℕ) → (o : Outcome) × Clears input o
 clears-some input = go (decLt (length input) tableBytes) (decLt longest (length input))
   where
-    prepared : (a : Answer) (T : List ℕ) → tableBytes ≤ length input → length input ≤ longest → Prepares (rawIn input) unprepared a T → (o : Outcome) × Clears input o
+    prepared : (a : Answer) (T : List ℕ) → tableBytes ≤ length input → length input ≤ longest
+        → Prepares (rawIn input) unprepared a T → (o : Outcome) × Clears input o
     prepared answer.Accepted T low high p = (cleared T (fileIn input), judged low high T p)
-    prepared (answer.Refused r) T low high p = (Refused r, table-turned-back input unprepared T (answer.Refused r) low high refl p r refl)
+    prepared (answer.Refused r) T low high p =
+        (Refused r, table-turned-back input unprepared T (answer.Refused r) low high refl p r refl)
 
     go : Dec (length input < tableBytes) → Dec (longest < length input) → (o : Outcome) × Clears input o
     go (yes l) h = (_, short l)
@@ -44,6 +47,11 @@ clears-some input = go (decLt (length input) tableBytes) (decLt longest (length 
     go (no l) (no h) =
         let p = prepares-some (rawIn input) unprepared in
         prepared (p .0) (p .1 .0) (omega arith) (omega arith) (p .1 .1)
+
+-- one raw table is prepared in one way
+one-way : (input S T : List ℕ) (a b : Answer) → Prepares (rawIn input) unprepared a S
+    → Prepares (rawIn input) unprepared b T → (a ≡ b) × (S ≡ T)
+one-way input S T a b = prepares-unique (rawIn input) unprepared a b S T
 
 pub clears-unique : (input : List ℕ) (a b : Outcome) → Clears input a → Clears input b → a ≡ b
 clears-unique input a b (short l) (short m) = refl
@@ -57,14 +65,17 @@ clears-unique input a b (long l) (judged m n T p) = absurd (omega arith)
 clears-unique input a b (turned-back l h s q) (short m) = absurd (omega arith)
 clears-unique input a b (turned-back l h s q) (long m) = absurd (omega arith)
 clears-unique input a b (turned-back l h s q) (turned-back m n r p) =
-    let e = prepares-unique (rawIn input) unprepared (answer.Refused s) (answer.Refused r) unprepared unprepared q p .0 in
+    let e = one-way input unprepared unprepared (answer.Refused s) (answer.Refused r) q p .0 in
     let same : s ≡ r = cc in
     ap Refused same
-clears-unique input a b (turned-back l h s q) (judged m n T p) = absurd (not-accepted s (prepares-unique (rawIn input) unprepared (answer.Refused s) answer.Accepted unprepared T q p .0))
+clears-unique input a b (turned-back l h s q) (judged m n T p) =
+    absurd (not-accepted s (one-way input unprepared T (answer.Refused s) answer.Accepted q p .0))
 clears-unique input a b (judged l h S q) (short m) = absurd (omega arith)
 clears-unique input a b (judged l h S q) (long m) = absurd (omega arith)
-clears-unique input a b (judged l h S q) (turned-back m n r p) = absurd (not-accepted r (prepares-unique (rawIn input) unprepared (answer.Refused r) answer.Accepted unprepared S p q .0))
-clears-unique input a b (judged l h S q) (judged m n T p) = ap (λ s. cleared s (fileIn input)) (prepares-unique (rawIn input) unprepared answer.Accepted answer.Accepted S T q p .1)
+clears-unique input a b (judged l h S q) (turned-back m n r p) =
+    absurd (not-accepted r (one-way input unprepared S (answer.Refused r) answer.Accepted p q .0))
+clears-unique input a b (judged l h S q) (judged m n T p) =
+    ap (λ s. cleared s (fileIn input)) (one-way input S T answer.Accepted answer.Accepted q p .1)
 
 -- ---- accepted
 
@@ -74,7 +85,8 @@ unfolding fileIn
 at-most-16 input T k h = omega (arith, h .board .size, h .high, length-drop tableBytes input)
 
 -- accepted exactly where table and file are accepted and the taps chain to the claim, with all tests of the order
-pub accepts-exactly : (input : List ℕ) (o : Outcome) (k tests : ℕ) → Clears input o → (o ≡ Accepted k tests) ↔ (IsCleared input k × (tests ≡ 372 * k))
+pub accepts-exactly : (input : List ℕ) (o : Outcome) (k tests : ℕ) → Clears input o
+    → (o ≡ Accepted k tests) ↔ (IsCleared input k × (tests ≡ 372 * k))
 accepts-exactly input o k tests c = (to o c, λ s. clears-unique input o (Accepted k tests) c (from (s .0) (s .1)))
   where
     w : List ℕ
@@ -97,7 +109,8 @@ accepts-exactly input o k tests c = (to o c, λ s. clears-unique input o (Accept
         let chained : IsCleared input n = record { table = T; accepted = h; chains = taps-chain input T n h e } in
         (subst (IsCleared input) (same .0) chained, omega (arith, same .0, same .1))
 
-    after-table : (p : Outcome) (T : List ℕ) → Judged input T p → p ≡ Accepted k tests → IsCleared input k × (tests ≡ 372 * k)
+    after-table : (p : Outcome) (T : List ℕ) → Judged input T p → p ≡ Accepted k tests
+        → IsCleared input k × (tests ≡ 372 * k)
     after-table p T (file-refused r e) q = absurd (never r q)
     after-table p T (checked-taps n h) q = check _ T n h refl q
 
@@ -119,13 +132,14 @@ accepts-exactly input o k tests c = (to o c, λ s. clears-unique input o (Accept
 
 -- ---- refused
 
--- it is 1 for a short input, 2 or 3 for the table, 12, 13 or 14 for the file; and 11 is always the claim's: the last row of the trace, and
--- constraint 49 to 52 for a word of the output that is another than the claim's
+-- it is 1 for a short input, 2 or 3 for the table, 12, 13 or 14 for the file; and 11 is always the claim's: the last
+-- row of the trace, and constraint 49 to 52 for a word of the output that is another than the claim's
 pub data Refuses (input : List ℕ) : Refusal → Type 0 where
   short-input : length input < tableBytes → Refuses input TableLength
   for-table : (r : Refusal) → OfTable r → Refuses input r
   for-file : (r : Refusal) → OfFile r → Refuses input r
-  for-claim : (k c tests : ℕ) → 49 ≤ c → IsUnlike input k (c - 49) → Refuses input (Constraint (record { 0 = 32 * k - 1 }) c tests)
+  for-claim : (k c tests : ℕ) → 49 ≤ c → IsUnlike input k (c - 49)
+      → Refuses input (Constraint (record { 0 = 32 * k - 1 }) c tests)
 
 pub refuses-only : (input : List ℕ) (r : Refusal) → Clears input (Refused r) → Refuses input r
 refuses-only input r a = go (Refused r) a refl
@@ -161,7 +175,8 @@ refuses-only input r a = go (Refused r) a refl
     go p (judged l h T e) q = after-table (cleared T (fileIn input)) T (judged-cases input T l h e) q
 
 -- and where a word of the output is another than the claim's, 11 it is
-pub unlike-refused : (input : List ℕ) (o : Outcome) (k j : ℕ) → Clears input o → IsUnlike input k j → (c : ℕ) × (tests : ℕ) × (o ≡ Refused (Constraint (record { 0 = 32 * k - 1 }) c tests))
+pub unlike-refused : (input : List ℕ) (o : Outcome) (k j : ℕ) → Clears input o → IsUnlike input k j
+    → (c : ℕ) × (tests : ℕ) × (o ≡ Refused (Constraint (record { 0 = 32 * k - 1 }) c tests))
 unlike-refused input o k j a u = go (constraintTest T (trace T w k) claim k) refl
   where
     T : List ℕ

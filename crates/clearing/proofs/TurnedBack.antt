@@ -1,4 +1,5 @@
--- Which refusals Prepare and Unpack have left in the program: those of a table or a file of the wrong size do not come up.
+-- Which refusals Prepare and Unpack have left in the program: for the table 2 or 3, for the file 12, 13 or 14. The room
+-- that each is lent has the right length, and so has the raw table.
 -- Assumes nothing.
 use mathlib.Core.Path.{_≡_, refl, sym, _∙_, subst}
 use mathlib.Core.List.{List}
@@ -55,7 +56,8 @@ of-table input r T p = go (Refused r) T p refl
     go : (a : Answer) (s : List ℕ) → Prepares (rawIn input) unprepared a s → a ≡ Refused r → OfTable r
     go a s (accepts n t i) e = absurd (not-accepted r (sym e))
     go a s (no-inverse t k) e = subst OfTable (same-refusal NoInverse r e) matrix
-    go a s (refuses q t) e = subst (AnswerEnds OfTable) (t ∙ e) (raw-ends (rawIn input) (length unprepared) (length-raw input) refl)
+    go a s (refuses q t) e =
+        subst (AnswerEnds OfTable) (t ∙ e) (raw-ends (rawIn input) (length unprepared) (length-raw input) refl)
 
 -- ---- the file: 12, 13 or 14
 element-ends : (file : List ℕ) (j : ℕ) → AnswerEnds OfFile (elementTest file j)

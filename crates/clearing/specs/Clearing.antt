@@ -6,7 +6,7 @@ use Prim.Native.Nat.{ℕ, _+_, _*_, _^_, _≤_, _<_}
 use lib.ListN.{length, drop, replicate}
 use Rattle.lists.specs.Lists.{cell, tab, sum}
 use Rattle.words.specs.Words.{AllCanonical}
-use Rattle.numbers.specs.Numbers.{IsPermitted, tapWordBatches}
+use Rattle.numbers.specs.Numbers.{tapWords, IsPermitted, tapWordBatches}
 use Rattle.refusals.specs.declared.Refusal.{Refusal}
 use Rattle.refusals.specs.declared.Refusal.the-variants.{TableLength}
 use Rattle.refusals.specs.declared.Answer.{Answer}
@@ -62,7 +62,8 @@ checkedTaps T w claim k = outcomeAfter (constraintTest T (trace T w k) claim k) 
 -- with the table prepared: the file's taps, and the file's claim
 unfoldable pub cleared : List ℕ → List ℕ → Outcome
 cleared T file =
-    outcomeAfter (unpackTest file (12 * batchesIn file + 4)) (checkedTaps T (tapsIn file) (claimIn file) (batchesIn file))
+    outcomeAfter (unpackTest file (tapWords (batchesIn file)))
+    (checkedTaps T (tapsIn file) (claimIn file) (batchesIn file))
 
 -- where Prepare writes
 abbrev pub unprepared : List ℕ
@@ -101,7 +102,7 @@ pub record IsUnlike (input : List ℕ) (k j : ℕ) : Type 0 where
 
 -- ---- what the stages hand on: the tap words of an accepted file of k batches, k at most 16
 pub record Taps (w : List ℕ) : Type 0 where
-  pub size : length w ≡ 12 * tapWordBatches (length w) + 4
+  pub size : length w ≡ tapWords (tapWordBatches (length w))
   pub permitted : IsPermitted (tapWordBatches (length w))
   pub few : length w ≤ 196
   pub canonical : AllCanonical w

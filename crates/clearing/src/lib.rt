@@ -10,6 +10,9 @@ ghost use Rattle.table.specs.Table.{rawWords, IsTable, Prepares};
 ghost use Rattle.clearing.specs.Clearing.{tableBytes, rawWord, rawIn, reported, checkedTaps, cleared};
 ghost use Rattle.clearing.specs.Clearing.{unprepared, Clears, Taps};
 use elements::Word;
+use numbers::BATCH_TAP_WORDS;
+use numbers::BATCH_WORDS;
+use numbers::TAP_WORDS;
 use refusals::Answer;
 use refusals::Digest;
 use refusals::DigestAnswer;
@@ -28,8 +31,11 @@ pub enum Outcome {
 // A raw table, 8 bytes a word.
 const TABLE_BYTES: usize = table::RAW_WORDS * 8;
 
+// The most batches of a board that the program takes.
+const MOST_BATCHES: usize = 16;
+
 // The longest input: a table, and a file of 16 batches.
-pub const LONGEST: usize = TABLE_BYTES + 144 * 16 + 100;
+pub const LONGEST: usize = TABLE_BYTES + MOST_BATCHES * board::BATCH_BYTES + board::EXTRA_BYTES;
 
 // Word j of the raw table: 8 bytes, low byte first.
 fn raw_word(input: &[u8], j: usize) -> u64
@@ -46,10 +52,8 @@ fn read_table(input: &[u8], raw: &mut [u64])
     requires { ⌜ (tableBytes ≤ length (now input)) × (length (now raw) ≡ rawWords) ⌝ }
     ensures { λ r. ⌜ now (raw .exit) ≡ rawIn (now (input .entry)) ⌝ }
 {
-    let mut j: usize = 0;
-    while j < table::RAW_WORDS {
+    for j in 0..table::RAW_WORDS {
         raw[j] = raw_word(input, j);
-        j += 1;
     }
 }
 
@@ -63,23 +67,27 @@ fn prepare(input: &[u8], table: &mut [u64]) -> Answer
     table::prepare(&raw, table)
 }
 
-// Room for a prepared table, and for the taps and the trace of 16 batches.
+// Room for a prepared table, and for the list and the trace of that many batches.
+const LIST_ROOM: usize = MOST_BATCHES * BATCH_TAP_WORDS + TAP_WORDS;
+
+const TRACE_ROOM: usize = MOST_BATCHES * BATCH_WORDS;
+
 fn table_room() -> [u64; table::WORDS]
     ensures { λ r. ⌜ r ≡ unprepared ⌝ }
 {
     [0; table::WORDS]
 }
 
-fn tap_room() -> [u64; 196]
+fn tap_room() -> [u64; LIST_ROOM]
     ensures { λ r. ⌜ length r ≡ 196 ⌝ }
 {
-    [0; 196]
+    [0; LIST_ROOM]
 }
 
-fn trace_room() -> [u64; 6144]
+fn trace_room() -> [u64; TRACE_ROOM]
     ensures { λ r. ⌜ length r ≡ 6144 ⌝ }
 {
-    [0; 6144]
+    [0; TRACE_ROOM]
 }
 
 // What a check of k batches comes to.
@@ -98,8 +106,8 @@ fn clear_taps(table: &[u64], taps: &[u64], claim: Digest) -> Outcome
     ensures { λ r. ⌜ r ≡ checkedTaps (now (table .entry)) (now (taps .entry)) (digestWords claim)
         (tapWordBatches (length (now (taps .entry)))) ⌝ }
 {
-    let k = taps.len() / 12;
-    let cells = 384 * k;
+    let k = taps.len() / BATCH_TAP_WORDS;
+    let cells = BATCH_WORDS * k;
     let mut rows = trace_room();
     match trace::build(table, taps, &mut rows[..cells]) {
         DigestAnswer::Accepted(_) => {

@@ -25,27 +25,25 @@ fn put_number(n: usize, out: &mut [u8], at: usize) -> usize
 // The bytes of a word, from the start on. The place after it.
 fn put_word(word: &[u8], out: &mut [u8]) -> usize
     requires { ⌜ length (now word) ≤ length (now out) ⌝ }
-    ensures { λ r. ⌜ (r ≡ length (now (word .entry))) × (now (out .exit) ≡ sets (now (out .entry)) 0 (now (word .entry))) ⌝ }
+    ensures { λ r. ⌜ (r ≡ length (now (word .entry)))
+        × (now (out .exit) ≡ sets (now (out .entry)) 0 (now (word .entry))) ⌝ }
 {
-    let mut i: usize = 0;
-    while i < word.len() {
+    for i in 0..word.len() {
         out[i] = word[i];
-        i += 1;
     }
-    i
+    word.len()
 }
 
 // Each number after a space, from `at` on. The place after them.
 fn put_numbers(numbers: &[usize], out: &mut [u8], at: usize) -> usize
     requires { ⌜ (length (now numbers) ≤ 3) × (at + 63 ≤ length (now out)) ⌝ }
-    ensures { λ r. ⌜ (r ≡ at + length (fields (now (numbers .entry)))) × (now (out .exit) ≡ sets (now (out .entry)) at (fields (now (numbers .entry)))) ⌝ }
+    ensures { λ r. ⌜ (r ≡ at + length (fields (now (numbers .entry))))
+        × (now (out .exit) ≡ sets (now (out .entry)) at (fields (now (numbers .entry)))) ⌝ }
 {
     let mut end = at;
-    let mut i: usize = 0;
-    while i < numbers.len() {
+    for i in 0..numbers.len() {
         out[end] = b' ';
         end = put_number(numbers[i], out, end + 1);
-        i += 1;
     }
     end
 }
@@ -53,7 +51,8 @@ fn put_numbers(numbers: &[usize], out: &mut [u8], at: usize) -> usize
 // A word, its numbers and the line's end. The line's length.
 fn put_line(word: &[u8], numbers: &[usize], out: &mut [u8]) -> usize
     requires { ⌜ (length (now numbers) ≤ 3) × (length (now word) + 64 ≤ length (now out)) ⌝ }
-    ensures { λ r. ⌜ (r ≡ length (line (now (word .entry)) (now (numbers .entry)))) × (now (out .exit) ≡ sets (now (out .entry)) 0 (line (now (word .entry)) (now (numbers .entry)))) ⌝ }
+    ensures { λ r. ⌜ (r ≡ length (line (now (word .entry)) (now (numbers .entry))))
+        × (now (out .exit) ≡ sets (now (out .entry)) 0 (line (now (word .entry)) (now (numbers .entry)))) ⌝ }
 {
     let start = put_word(word, out);
     let end = put_numbers(numbers, out, start);

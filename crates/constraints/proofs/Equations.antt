@@ -6,14 +6,19 @@ use mathlib.Core.List.{List}
 use Prim.Native.Nat.{ℕ, _+_, _*_, _-_, _≤_, _<_}
 use native.Mathlib.Decide.{decLt}
 use native.Mathlib.Omega.{arith}
-use borrow.Author.Tests.{le-leb, lt-leb, eq-eqb, eqb-true}
+use borrow.Author.Tests.{eq-eqb, eqb-true}
 use lib.Dec.{eqb}
-use Rattle.lists.specs.Lists.{cell}
+use Rattle.lists.specs.Lists.{cell, tab}
+use Rattle.lists.proofs.Tab.{cell-tab}
 use Rattle.field.specs.Field.{add}
 use Rattle.table.specs.Table.{initialConstant}
-use Rattle.constraints.specs.Constraints.{row, within, entering, forward, back, applies, holds}
+use Rattle.hash.specs.Hash.{plus}
+use Rattle.trace.specs.Trace.{row}
+use Rattle.numbers.specs.Numbers.{within}
+use Rattle.constraints.specs.Constraints.{entering, forward, back, applies, holds, compares, ofFamily, families}
 use Rattle.constraints.proofs.Families as families
-use Rattle.constraints.proofs.Families.{Applies, applies-cases, applies-yes}
+use Rattle.constraints.proofs.Families.{Applies, applies-cases, applies-yes, under}
+use Rattle.constraints.proofs.Families.{asked-1, asked-5, asked-9, asked-21, asked-33, asked-45, asked-49}
 
 pub record Equations (T t claim : List ℕ) (k : ℕ) : Type 0 where
   -- 1 to 4
@@ -40,79 +45,61 @@ pub record Equations (T t claim : List ℕ) (k : ℕ) : Type 0 where
 module _ (T t claim : List ℕ) where
   -- ---- what is compared at column j, by the constraint's number
   module _ (i j : ℕ) where
-    at-zero-columns : j < 4 → holds T t claim i (1 + j) ≡ eqb (cell (row t i) (8 + j)) 0
+    -- a comparison of two states, at another spelling of its column
+    column : (x y : List ℕ) {m n : ℕ} → m ≡ n → eqb (cell x m) (cell y m) ≡ eqb (cell x n) (cell y n)
+    column x y e = ap (λ n. eqb (cell x n) (cell y n)) e
+
+    pub at-zero-columns : j < 4 → holds T t claim i (1 + j) ≡ eqb (cell (row t i) (8 + j)) 0
     unfolding holds
     at-zero-columns h =
-        let e : 1 + j + 7 ≡ 8 + j = omega arith in
-        rw (le-leb (1 + j) 4 (omega arith), e)
+        asked-1 (1 + j) (compares T t claim i (1 + j)) (omega arith) (omega arith)
+        ∙ column (row t i) (tab 12 (λ _. 0)) (omega arith)
+        ∙ ap (eqb (cell (row t i) (8 + j))) (cell-tab 12 (λ _. 0) (8 + j) (omega arith))
 
-    at-new-zeros : j < 4
+    pub at-new-zeros : j < 4
         → holds T t claim i (5 + j) ≡ eqb (cell (back T t (i + 1)) (8 + j)) (cell (initialConstant T) (8 + j))
     unfolding holds
     at-new-zeros h =
-        let e : 5 + j + 3 ≡ 8 + j = omega arith in
-        rw (lt-leb (5 + j) 4 (omega arith), le-leb (5 + j) 8 (omega arith), e)
+        asked-5 (5 + j) (compares T t claim i (5 + j)) (omega arith) (omega arith)
+        ∙ column (back T t (i + 1)) (initialConstant T) (omega arith)
 
-    at-starts : j < 12
+    pub at-starts : j < 12
         → holds T t claim i (9 + j)
         ≡ eqb (add (cell (row t i) j) (cell (initialConstant T) j)) (cell (back T t (i + 1)) j)
-    unfolding holds
+    unfolding holds plus
     at-starts h =
-        let e : 9 + j - 9 ≡ j = omega arith in
-        rw (lt-leb (9 + j) 4 (omega arith), lt-leb (9 + j) 8 (omega arith), le-leb (9 + j) 20 (omega arith), e)
+        asked-9 (9 + j) (compares T t claim i (9 + j)) (omega arith) (omega arith)
+        ∙ column (plus (row t i) (initialConstant T)) (back T t (i + 1)) (omega arith)
+        ∙ ap (λ x. eqb x (cell (back T t (i + 1)) j)) (cell-tab 12 _ j h)
 
-    at-goes-on : j < 12 → holds T t claim i (21 + j) ≡ eqb (cell (forward T t i) j) (cell (back T t (i + 1)) j)
+    pub at-goes-on : j < 12 → holds T t claim i (21 + j) ≡ eqb (cell (forward T t i) j) (cell (back T t (i + 1)) j)
     unfolding holds
     at-goes-on h =
-        let e : 21 + j - 21 ≡ j = omega arith in
-        rw (
-          lt-leb (21 + j) 4 (omega arith),
-          lt-leb (21 + j) 8 (omega arith),
-          lt-leb (21 + j) 20 (omega arith),
-          le-leb (21 + j) 32 (omega arith),
-          e,
-        )
+        asked-21 (21 + j) (compares T t claim i (21 + j)) (omega arith) (omega arith)
+        ∙ column (forward T t i) (back T t (i + 1)) (omega arith)
 
-    at-ends : j < 12 → holds T t claim i (33 + j) ≡ eqb (cell (forward T t i) j) (cell (row t (i + 1)) j)
+    pub at-ends : j < 12 → holds T t claim i (33 + j) ≡ eqb (cell (forward T t i) j) (cell (row t (i + 1)) j)
     unfolding holds
     at-ends h =
-        let e : 33 + j - 33 ≡ j = omega arith in
-        rw (
-          lt-leb (33 + j) 4 (omega arith),
-          lt-leb (33 + j) 8 (omega arith),
-          lt-leb (33 + j) 20 (omega arith),
-          lt-leb (33 + j) 32 (omega arith),
-          le-leb (33 + j) 44 (omega arith),
-          e,
-        )
+        asked-33 (33 + j) (compares T t claim i (33 + j)) (omega arith) (omega arith)
+        ∙ column (forward T t i) (row t (i + 1)) (omega arith)
 
-    at-joins : j < 4 → holds T t claim i (45 + j) ≡ eqb (cell (row t i) j) (cell (row t (i + 1)) j)
+    pub at-joins : j < 4 → holds T t claim i (45 + j) ≡ eqb (cell (row t i) j) (cell (row t (i + 1)) j)
     unfolding holds
     at-joins h =
-        let e : 45 + j - 45 ≡ j = omega arith in
-        rw (
-          lt-leb (45 + j) 4 (omega arith),
-          lt-leb (45 + j) 8 (omega arith),
-          lt-leb (45 + j) 20 (omega arith),
-          lt-leb (45 + j) 32 (omega arith),
-          lt-leb (45 + j) 44 (omega arith),
-          le-leb (45 + j) 48 (omega arith),
-          e,
-        )
+        asked-45 (45 + j) (compares T t claim i (45 + j)) (omega arith) (omega arith)
+        ∙ column (row t i) (row t (i + 1)) (omega arith)
 
-    at-claims : j < 4 → holds T t claim i (49 + j) ≡ eqb (cell (row t i) j) (cell claim j)
+    pub at-claims : j < 4 → holds T t claim i (49 + j) ≡ eqb (cell (row t i) j) (cell claim j)
     unfolding holds
     at-claims h =
-        let e : 49 + j - 49 ≡ j = omega arith in
-        rw (
-          lt-leb (49 + j) 4 (omega arith),
-          lt-leb (49 + j) 8 (omega arith),
-          lt-leb (49 + j) 20 (omega arith),
-          lt-leb (49 + j) 32 (omega arith),
-          lt-leb (49 + j) 44 (omega arith),
-          lt-leb (49 + j) 48 (omega arith),
-          e,
-        )
+        asked-49 (49 + j) (compares T t claim i (49 + j)) (omega arith) (omega arith)
+        ∙ column (row t i) claim (omega arith)
+
+  -- only constraints 49 to 52 look at the claim
+  pub claim-unread : (other : List ℕ) (i q : ℕ) → q < 49 → holds T t claim i q ≡ holds T t other i q
+  unfolding holds ofFamily families
+  claim-unread other i q h = rw (under 49 52 q h)
 
   -- ---- the tests hold where the equations do
   pub equations-hold : (k : ℕ) → Equations T t claim k → (i c : ℕ) → i < 32 * k → applies k i c ≡ true

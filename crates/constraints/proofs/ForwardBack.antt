@@ -17,8 +17,10 @@ use Rattle.field.specs.Field.{add}
 use Rattle.table.specs.Table.{IsTable, initialConstant}
 use Rattle.hash.specs.Hash.{firstStep, secondStep}
 use Rattle.hash.proofs.States.{IsState}
-use Rattle.constraints.specs.Constraints.{row, within, round, entering, plusFirst, forward, backStep, back}
-use Rattle.constraints.specs.ReadOff.{firstRow}
+use Rattle.trace.specs.Trace.{row}
+use Rattle.numbers.specs.Numbers.{within}
+use Rattle.constraints.specs.Constraints.{round, entering, plusFirst, forward, backStep, back}
+use Rattle.numbers.specs.Numbers.{firstRow}
 use Rattle.constraints.proofs.OneRound.{first-back, backStep-state}
 
 -- ---- rows 10 and 20

@@ -9,7 +9,7 @@ use lib.Seq.{getD-take, getD-drop}
 use Rattle.lists.specs.Lists.{cell}
 use Rattle.words.specs.Words.{AllCanonical}
 use Rattle.hash.proofs.States.{IsState, cell-lt, same-cells}
-use Rattle.constraints.specs.Constraints.{row}
+use Rattle.trace.specs.Trace.{row}
 
 pub cell-row : (t : List ℕ) (i j : ℕ) → j < 12 → cell (row t i) j ≡ cell t (12 * i + j)
 unfolding row

@@ -2,7 +2,7 @@
 -- batch.
 -- Assumes nothing.
 use mathlib.Core.Path.{_≡_, refl, sym, ap, ap₂, _∙_}
-use mathlib.Core.Bool.{Bool, true, false, _&&_, _||_, not}
+use mathlib.Core.Bool.{Bool, true, false, _||_, not}
 use Prim.Native.Nat.{ℕ, zero, suc, _+_, _*_, _%_, _<_}
 use native.Mathlib.Nat.{add-assoc}
 use native.Mathlib.Decide.{decLt}
@@ -13,7 +13,9 @@ use lib.ListN.{length, length-append}
 use Rattle.lists.specs.Lists.{choose, sum, first}
 use Rattle.lists.proofs.First.{none-first}
 use Rattle.lists.proofs.Sum.{sum-ext, sum-split, sum-suc, sum-zero}
-use Rattle.constraints.specs.Constraints.{keep, within, between, lastRow, applies, rowTests, testsFrom, tests}
+use Rattle.numbers.specs.Numbers.{within}
+use Rattle.constraints.specs.Constraints.{lastRow, ofFamily, families, applies}
+use Rattle.constraints.specs.Constraints.{keep, rowTests, testsFrom, tests}
 
 -- the tests at row r of a batch
 abbrev pub testsAt : ℕ → ℕ
@@ -40,50 +42,38 @@ length-rowTests k i c (suc n) = go (applies k i c) (length-rowTests k i (c + 1) 
     go true e = omega arith
     go false e = omega arith
 
-appliesAt : ℕ → Bool → ℕ → Bool
-appliesAt r last c =
-    (between 1 4 c && eqb r 0)
-    || ((between 5 8 c && (eqb r 10 || eqb r 20))
-    || ((between 9 20 c && eqb r 0)
-    || ((between 21 24 c && between 1 29 r)
-    || ((between 25 32 c && (between 1 29 r && not (eqb r 10 || eqb r 20)))
-    || ((between 33 44 c && eqb r 30)
-    || ((between 45 48 c && (eqb r 31 && not last))
-    || (between 49 52 c && last)))))))
+-- a constraint applies by the row's number within its batch, and by whether the row is the last
+same-row : (k l i n q : ℕ) → within i ≡ within n → lastRow k i ≡ lastRow l n → applies k i q ≡ applies l n q
+unfolding applies ofFamily families
+same-row k l i n q e f = rw (e, f)
 
-applies-at : (k i c : ℕ) → applies k i c ≡ appliesAt (within i) (lastRow k i) c
-unfolding applies appliesAt
-applies-at k i c = refl
-
--- computed for each of the 32 rows
-rows-but-the-last : first 31 (λ r. not (eqb (count (appliesAt r false) 1 52) (testsAt r))) ≡ 31
-unfolding first count appliesAt
+-- computed for each row of a batch that another follows, and for the last row of one alone
+rows-but-the-last : first 32 (λ r. not (eqb (count (applies 2 r) 1 52) (testsAt r))) ≡ 32
+unfolding first count applies ofFamily families
 rows-but-the-last = refl
 
-last-row : (last : Bool) → count (appliesAt 31 last) 1 52 ≡ 4
-unfolding count appliesAt
-last-row true = refl
-last-row false = refl
-
-count-at : (r : ℕ) (last : Bool) → r < 32 → (r < 31 → last ≡ false) → count (appliesAt r last) 1 52 ≡ testsAt r
-count-at r last h l = go (decLt r 31)
-  where
-    go : Dec (r < 31) → count (appliesAt r last) 1 52 ≡ testsAt r
-    go (yes b) =
-        ap (λ x. count (appliesAt r x) 1 52) (l b)
-        ∙ eqb-true _ _
-        (not-false _
-        (none-first 31 (λ x. not (eqb (count (appliesAt x false) 1 52) (testsAt x))) rows-but-the-last r b))
-    go (no b) =
-        let e : r ≡ 31 = omega arith in
-        ap (λ x. count (appliesAt x last) 1 52) e ∙ last-row last ∙ ap testsAt (sym e)
+last-row : count (applies 1 31) 1 52 ≡ testsAt 31
+unfolding count applies ofFamily families
+last-row = refl
 
 pub length-row-tests : (k i : ℕ) → length (rowTests k i 1 52) ≡ testsAt (within i)
-length-row-tests k i =
-    length-rowTests k i 1 52
-    ∙ count-ext (applies k i) (appliesAt (within i) (lastRow k i)) 1 52 (applies-at k i)
-    ∙ count-at (within i) (lastRow k i) (omega arith)
-    (λ h. ne-eqb (i + 1) (32 * k) (λ (e : i + 1 ≡ 32 * k). omega arith))
+length-row-tests k i = length-rowTests k i 1 52 ∙ go (lastRow k i) refl
+  where
+    inside : within i < 32
+    inside = omega arith
+
+    go : (b : Bool) → lastRow k i ≡ b → count (applies k i) 1 52 ≡ testsAt (within i)
+    go true e =
+        let l = eqb-true (i + 1) (32 * k) e in
+        let w : within i ≡ 31 = omega arith in
+        count-ext (applies k i) (applies 1 31) 1 52 (λ q. same-row k 1 i 31 q w e) ∙ last-row ∙ ap testsAt (sym w)
+    go false e =
+        count-ext (applies k i) (applies 2 (within i)) 1 52
+        (λ q. same-row k 2 i (within i) q (omega arith)
+        (e ∙ sym (ne-eqb (within i + 1) (32 * 2) (λ (z : within i + 1 ≡ 32 * 2). omega (arith, inside)))))
+        ∙ eqb-true _ _
+        (not-false _
+        (none-first 32 (λ r. not (eqb (count (applies 2 r) 1 52) (testsAt r))) rows-but-the-last (within i) inside))
 
 -- ---- the tests of n rows, and of k batches
 length-testsFrom : (k i n : ℕ) → length (testsFrom k i n) ≡ sum n (λ m. testsAt (within (i + m)))

@@ -1,31 +1,24 @@
 -- The 52 constraints, and the ordered list of all tests of a trace (document 01, "The 52 constraints"; Rescue STARK
 -- documentation 1.0, section 3.3.2). T is a prepared table, t a trace of k batches, row by row; i is the number of a
--- row in the whole trace, c that of a constraint.
+-- row in the whole trace, j a column, q the number of a constraint.
 -- Assumes nothing.
 use mathlib.Core.Bool.{Bool, true, false, _&&_, _||_, not}
 use mathlib.Core.List.{List, [], _∷_, _++_}
 use Prim.Native.Nat.{ℕ, zero, suc, _+_, _*_, _-_, _%_}
 use lib.Dec.{leb, ltb, eqb}
-use lib.ListN.{take, drop}
 use Rattle.lists.specs.Lists.{choose, cell, tab}
 use Rattle.field.specs.Field.{add, sub}
+use Rattle.numbers.specs.Numbers.{traceRows, width, within}
 use Rattle.matrix.specs.Matrix.{times}
 use Rattle.table.specs.Table.{inverseOf, initialConstant, firstStepConstant}
-use Rattle.hash.specs.Hash.{cubes, secondStep}
+use Rattle.hash.specs.Hash.{cubes, plus, secondStep}
+use Rattle.trace.specs.Trace.{row}
 use Rattle.refusals.specs.declared.Refusal.the-variants.{Constraint}
 use Rattle.refusals.specs.declared.Answer.{Answer}
 use Rattle.refusals.specs.declared.Answer.the-variants.{Accepted}
 use Rattle.refusals.specs.Answers.{unless}
 
--- ---- rows, forward and back
-
--- the twelve cells of row i
-unfoldable pub row : List ℕ → ℕ → List ℕ
-row t i = take 12 (drop (12 * i) t)
-
--- the number of row i within its batch
-abbrev pub within : ℕ → ℕ
-within i = i % 32
+-- ---- forward and back
 
 -- the round whose middle state row i holds: rows 1 to 10, 11 to 20, 21 to 30 of a batch are rounds 0 to 9
 abbrev pub round : ℕ → ℕ
@@ -35,9 +28,17 @@ round i = (within i - 1) % 10
 abbrev pub entering : ℕ → Bool
 entering i = eqb (within i) 10 || eqb (within i) 20
 
+-- the last row of a trace of k batches
+abbrev pub lastRow : ℕ → ℕ → Bool
+lastRow k i = eqb (i + 1) (traceRows k)
+
+-- the row that is compared with the claim, which is the last
+abbrev pub claimRow : ℕ → ℕ → Bool
+claimRow k i = lastRow k i
+
 -- the first n columns of a state plus those of another, the others as they are
 unfoldable pub plusFirst : ℕ → List ℕ → List ℕ → List ℕ
-plusFirst n s k = tab 12 (λ j. choose (ltb j n) (add (cell s j) (cell k j)) (cell s j))
+plusFirst n s u = tab width (λ j. choose (ltb j n) (add (cell s j) (cell u j)) (cell s j))
 
 -- forward of row i: its cells cubed, times M, plus that round's second-step constant; at rows 10 and 20 K_0 is added
 -- too, in columns 0 to 3 only
@@ -48,7 +49,7 @@ forward T t i =
 
 -- a state less another, cell by cell
 unfoldable pub minus : List ℕ → List ℕ → List ℕ
-minus s k = tab 12 (λ j. sub (cell s j) (cell k j))
+minus s u = tab width (λ j. sub (cell s j) (cell u j))
 
 -- a middle state's cells less the first-step constant of round r, times the inverse of M, then cubed
 unfoldable pub backStep : List ℕ → ℕ → List ℕ → List ℕ
@@ -61,38 +62,102 @@ back T t i = backStep T (round i) (row t i)
 -- ---- the constraints. One on two rows belongs to the earlier
 
 abbrev pub between : ℕ → ℕ → ℕ → Bool
-between a b c = leb a c && leb c b
+between a b n = leb a n && leb n b
 
--- the last row of a trace of k batches
-abbrev pub lastRow : ℕ → ℕ → Bool
-lastRow k i = eqb (i + 1) (32 * k)
+-- a family of constraints: the numbers of the first and the last, one number for each column; the rows at which they
+-- apply; the two states that they compare there; the column that the first compares
+abbrev pub Rows : Type 0
+Rows = ℕ → ℕ → ℕ → Bool
 
--- the row that is compared with the claim, which is the last
-abbrev pub claimRow : ℕ → ℕ → Bool
-claimRow k i = lastRow k i
+abbrev pub State : Type 0
+State = List ℕ → List ℕ → List ℕ → ℕ → List ℕ
 
--- whether constraint c applies at row i of a trace of k batches
+pub record Family : Type 0 where
+  pub first : ℕ
+  pub last : ℕ
+  pub rows : Rows
+  pub left : State
+  pub right : State
+  pub column : ℕ
+
+abbrev pub family : ℕ → ℕ → Rows → State → State → ℕ → Family
+family first last rows left right column =
+    record { first = first; last = last; rows = rows; left = left; right = right; column = column }
+
+-- the rows, of a trace of k batches, by the row i and the column j that is compared: row n of each batch; rows 10 and
+-- 20; rows 1 to 29, but at 10 and 20 columns 0 to 3 only; row 31 of every batch but the last; the row of the claim
+abbrev pub atRow : ℕ → Rows
+atRow n k i j = eqb (within i) n
+
+abbrev pub atEntering : Rows
+atEntering k i j = entering i
+
+abbrev pub atMiddle : Rows
+atMiddle k i j = between 1 29 (within i) && (not (entering i) || ltb j 4)
+
+abbrev pub atJoint : Rows
+atJoint k i j = eqb (within i) 31 && not (lastRow k i)
+
+abbrev pub atClaim : Rows
+atClaim k i j = claimRow k i
+
+-- the states, at row i
+abbrev pub zeros : State
+zeros T t claim i = tab width (λ j. 0)
+
+abbrev pub initial : State
+initial T t claim i = initialConstant T
+
+abbrev pub this : State
+this T t claim i = row t i
+
+abbrev pub thisPlusInitial : State
+thisPlusInitial T t claim i = plus (row t i) (initialConstant T)
+
+abbrev pub forwardOfThis : State
+forwardOfThis T t claim i = forward T t i
+
+abbrev pub next : State
+next T t claim i = row t (i + 1)
+
+abbrev pub backOfNext : State
+backOfNext T t claim i = back T t (i + 1)
+
+abbrev pub claimed : State
+claimed T t claim i = claim
+
+-- document 01's list: numbers, rows, what is compared, the first column
+unfoldable pub families : List Family
+families =
+    family 1 4 (atRow 0) this zeros 8
+    ∷ family 5 8 atEntering backOfNext initial 8
+    ∷ family 9 20 (atRow 0) thisPlusInitial backOfNext 0
+    ∷ family 21 32 atMiddle forwardOfThis backOfNext 0
+    ∷ family 33 44 (atRow 30) forwardOfThis next 0
+    ∷ family 45 48 atJoint this next 0
+    ∷ family 49 52 atClaim this claimed 0
+    ∷ []
+
+-- the column that constraint q of a family compares
+abbrev pub columnOf : Family → ℕ → ℕ
+columnOf f q = f .column + (q - f .first)
+
+-- what the family of constraint q answers, and no where q is the number of none
+unfoldable pub ofFamily : ℕ → (Family → Bool) → List Family → Bool
+ofFamily q answer [] = false
+ofFamily q answer (f ∷ fs) = choose (between (f .first) (f .last) q) (answer f) (ofFamily q answer fs)
+
+-- whether constraint q applies at row i of a trace of k batches
 unfoldable pub applies : ℕ → ℕ → ℕ → Bool
-applies k i c =
-    (between 1 4 c && eqb (within i) 0)
-    || ((between 5 8 c && entering i)
-    || ((between 9 20 c && eqb (within i) 0)
-    || ((between 21 24 c && between 1 29 (within i))
-    || ((between 25 32 c && (between 1 29 (within i) && not (entering i)))
-    || ((between 33 44 c && eqb (within i) 30)
-    || ((between 45 48 c && (eqb (within i) 31 && not (lastRow k i)))
-    || (between 49 52 c && claimRow k i)))))))
+applies k i q = ofFamily q (λ f. f .rows k i (columnOf f q)) families
 
--- whether constraint c holds at row i, where it applies
+-- whether constraint q holds at row i, where it applies
+abbrev pub compares : List ℕ → List ℕ → List ℕ → ℕ → ℕ → Family → Bool
+compares T t claim i q f =
+    eqb (cell (f .left T t claim i) (columnOf f q)) (cell (f .right T t claim i) (columnOf f q))
+
 unfoldable pub holds : List ℕ → List ℕ → List ℕ → ℕ → ℕ → Bool
-holds T t claim i c =
-    choose (leb c 4) (eqb (cell (row t i) (c + 7)) 0)
-    (choose (leb c 8) (eqb (cell (back T t (i + 1)) (c + 3)) (cell (initialConstant T) (c + 3)))
-    (choose (leb c 20) (eqb (add (cell (row t i) (c - 9)) (cell (initialConstant T) (c - 9))) (cell (back T t (i + 1)) (c - 9)))
-    (choose (leb c 32) (eqb (cell (forward T t i) (c - 21)) (cell (back T t (i + 1)) (c - 21)))
-    (choose (leb c 44) (eqb (cell (forward T t i) (c - 33)) (cell (row t (i + 1)) (c - 33)))
-    (choose (leb c 48) (eqb (cell (row t i) (c - 45)) (cell (row t (i + 1)) (c - 45)))
-    (eqb (cell (row t i) (c - 49)) (cell claim (c - 49))))))))
+holds T t claim i q = ofFamily q (compares T t claim i q) families
 
 -- ---- the order: rows of the whole trace rising, constraint numbers rising within a row
 
@@ -105,10 +170,10 @@ abbrev pub keep : Bool → Test → List Test → List Test
 keep true x xs = x ∷ xs
 keep false x xs = xs
 
--- the tests of row i among the constraints c to c + n - 1
+-- the tests of row i among the constraints q to q + n - 1
 unfoldable pub rowTests : ℕ → ℕ → ℕ → ℕ → List Test
-rowTests k i c zero = []
-rowTests k i c (suc n) = keep (applies k i c) (record { at = i; number = c }) (rowTests k i (c + 1) n)
+rowTests k i q zero = []
+rowTests k i q (suc n) = keep (applies k i q) (record { at = i; number = q }) (rowTests k i (q + 1) n)
 
 -- the tests of the rows i to i + n - 1
 unfoldable pub testsFrom : ℕ → ℕ → ℕ → List Test
@@ -117,7 +182,7 @@ testsFrom k i (suc n) = rowTests k i 1 52 ++ testsFrom k (i + 1) n
 
 -- all tests of a trace of k batches
 unfoldable pub tests : ℕ → List Test
-tests k = testsFrom k 0 (32 * k)
+tests k = testsFrom k 0 (traceRows k)
 
 -- the walk after n tests: it stops at the first test that fails, whose place is counted from 1
 unfoldable pub walk : List ℕ → List ℕ → List ℕ → List Test → ℕ → Answer

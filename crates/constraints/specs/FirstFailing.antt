@@ -11,11 +11,11 @@ use Rattle.constraints.specs.Constraints.{Test, holds}
 abbrev pub AllHold : List ℕ → List ℕ → List ℕ → List Test → Type 0
 AllHold T t claim tests = (x : Test) → List·Memᴰ x tests → holds T t claim (x .at) (x .number) ≡ true
 
--- constraint c at row i is the first test of the list that fails, and its place, counted from 1, is n
-pub record IsFirstFailing (T t claim : List ℕ) (tests : List Test) (i c n : ℕ) : Type 0 where
+-- constraint q at row i is the first test of the list that fails, and its place, counted from 1, is n
+pub record IsFirstFailing (T t claim : List ℕ) (tests : List Test) (i q n : ℕ) : Type 0 where
   pub before : List Test
   pub after : List Test
-  pub order : tests ≡ before ++ record { at = i; number = c } ∷ after
+  pub order : tests ≡ before ++ record { at = i; number = q } ∷ after
   pub passed : AllHold T t claim before
-  pub fails : holds T t claim i c ≡ false
+  pub fails : holds T t claim i q ≡ false
   pub place : n ≡ length before + 1

@@ -1,5 +1,6 @@
--- Demand 1: each operation refuses with its own numbers only, each call's word says a full result or such a refusal, and a refusal alters no lent
--- buffer. From how each can end (crate `export`, proofs/Endings.antt), and that its word loses nothing of its answer (there, proofs/Theorems.antt).
+-- Demand 1: each operation refuses with its own numbers only, each call's word says a full result or such a refusal,
+-- and a refusal alters no lent buffer. From how each can end (crate `export`, proofs/Endings.antt), and that its word
+-- loses nothing of its answer (there, proofs/Theorems.antt).
 -- Assumes nothing.
 use mathlib.Core.Path.{_≡_, refl, sym, ap, subst, _∙_}
 use mathlib.Core.Bool.{Bool, true, false, _&&_, _||_, true≢false}
@@ -8,7 +9,7 @@ use mathlib.Core.Logic.{_⊎_, inl, inr}
 use Prim.Native.Nat.{ℕ, _+_, _*_, _^_, _<_}
 use native.Mathlib.Omega.{arith}
 use borrow.Author.Tests.{eqb-true, eq-eqb}
-use lib.Dec.{eqb}
+use lib.Dec.{eqb, lit<}
 use lib.ListN.{length}
 use Rattle.lists.proofs.Bools.{or-cases, and-both}
 use Rattle.words.specs.Words.{AllCanonical}
@@ -39,14 +40,21 @@ use Rattle.readoff.specs.Answers.{readOffAnswer, readOffLeaves, readOffTest}
 use Rattle.readoff.proofs.Answers.{read-off-inputs}
 use Rattle.board.specs.Board.{packTest, packed, packLeaves, unpackAnswer, unpackTest, tapsIn, claimIn, unpackLeaves}
 use Rattle.board.proofs.Round.{claim-is}
-use Rattle.export.specs.Code.{answerCode, digestCode, testsCode}
-use Rattle.export.specs.Calls.{written, HandsOver, PrepareCall, hashCallTest, hashCall, chainCallTest, chainCall, buildCallTest, buildCall, BuildCall, ReadOffCall, PackCall, unpackCallTest, unpackCall, UnpackCall}
+use Rattle.export.specs.Code.{code as code-of, answerCode, digestCode, testsCode}
+use Rattle.export.specs.Calls.{written, HandsOver, PrepareCall, hashCallTest, hashCall, chainCallTest, chainCall}
+use Rattle.export.specs.Calls.{buildCallTest, buildCall, BuildCall, ReadOffCall, PackCall}
+use Rattle.export.specs.Calls.{unpackCallTest, unpackCall, UnpackCall}
 use Rattle.export.proofs.Answers.{chain-room, build-room}
 use Rattle.export.proofs.Bits.{RefusalInBits, says, says-accepted}
 use Rattle.export.proofs.Endings as ends
 use Rattle.export.proofs.Endings.{TableCauses}
 use Rattle.export.proofs.Theorems as bits
-use Rattle.demands.specs.Demand1.{Operation, prepare, hash, chain, build, check, read-off, pack, unpack, numbers, callNumbers, OneOf, Refuses, prepare-refuses, hash-refuses, chain-refuses, build-refuses, check-refuses, read-off-refuses, pack-refuses, unpack-refuses, Answered, accepted, refused, PrepareResult, HashResult, ChainResult, BuildResult, CheckResult, ReadOffResult, PackResult, UnpackResult, Demand1}
+use Rattle.demands.specs.Demand1.{Operation, prepare, hash, chain, build, check, read-off, pack, unpack}
+use Rattle.demands.specs.Demand1.{numbers, callNumbers, OneOf, Refuses, prepare-refuses, hash-refuses}
+use Rattle.demands.specs.Demand1.{chain-refuses, build-refuses, check-refuses, read-off-refuses, pack-refuses}
+use Rattle.demands.specs.Demand1.{unpack-refuses, Answered, accepted, refused, PrepareResult, HashResult}
+use Rattle.demands.specs.Demand1.{ChainResult, BuildResult, CheckResult, ReadOffResult, PackResult, UnpackResult}
+use Rattle.demands.specs.Demand1.{Demand1}
 use Rattle.demands.proofs.Returned.{four-words}
 
 -- ---- numbers of a list, by computing
@@ -75,14 +83,40 @@ not-among : (n : ℕ) (ns : List ℕ) → among n ns ≡ false → List·Memᴰ 
 not-among n ns e m = true≢false (sym (is-among n ns m) ∙ e)
 
 table-causes : (ns : List ℕ) → among 1 ns ≡ true → among 2 ns ≡ true → among 4 ns ≡ true → TableCauses (OneOf ns)
-table-causes ns a b c = record { by-length = one-of 1 ns a; by-word = λ i h. one-of 2 ns b; by-cell = λ i h. one-of 4 ns c }
+table-causes ns a b c =
+    record { by-length = one-of 1 ns a; by-word = λ i h. one-of 2 ns b; by-cell = λ i h. one-of 4 ns c }
+
+-- ---- the orders of tests that an operation and its call share
+
+prepare-numbers : (raw old new : List ℕ) (a : Answer) → Prepares raw old a new → AnswerEnds (OneOf (numbers prepare)) a
+prepare-numbers =
+    let ns = numbers prepare in
+    ends.prepare-ends (OneOf ns) (one-of 1 ns refl) (one-of 8 ns refl) (λ i l. one-of 2 ns refl) (one-of 3 ns refl)
+
+check-numbers : (T t claim : List ℕ) → AnswerEnds (OneOf (numbers check)) (checkTest T t claim)
+check-numbers T t claim =
+    let ns = numbers check in
+    ends.check-ends (OneOf ns) (table-causes ns refl refl refl) T t claim (one-of 7 ns refl) (λ i h. one-of 9 ns refl)
+    (λ k s p i h. one-of 10 ns refl) (λ k p i c n f. one-of 11 ns refl)
+
+read-off-numbers : (T t claim : List ℕ) (size : ℕ)
+    → AnswerEnds (OneOf (numbers read-off)) (readOffTest T t claim size)
+read-off-numbers T t claim size =
+    let ns = numbers read-off in
+    ends.read-off-ends (OneOf ns) (table-causes ns refl refl refl) T t claim (one-of 7 ns refl)
+    (λ i h. one-of 9 ns refl) (λ k s p i h. one-of 10 ns refl) (λ k p i c n f. one-of 11 ns refl) size
+    (one-of 8 ns refl)
+
+pack-numbers : (w claim : List ℕ) (size : ℕ) → AnswerEnds (OneOf (numbers pack)) (packTest w claim size)
+pack-numbers w claim size =
+    let ns = numbers pack in
+    ends.pack-ends (OneOf ns) w claim size (one-of 5 ns refl) (one-of 8 ns refl) (λ i h. one-of 9 ns refl)
+    (λ k s p i h. one-of 6 ns refl)
 
 -- ---- the operations
 numbered : (o : Operation) (r : Refusal) → Refuses o r → OneOf (numbers o) r
 unfolding hashAnswer chainAnswer buildAnswer checkAnswer readOffAnswer unpackAnswer
-numbered o r (prepare-refuses raw old new q h) =
-    let ns = numbers prepare in
-    ends.prepare-ends (OneOf ns) (one-of 1 ns refl) (one-of 8 ns refl) (λ i l. one-of 2 ns refl) (one-of 3 ns refl) raw old new (answer.Refused q) h
+numbered o r (prepare-refuses raw old new q h) = prepare-numbers raw old new (answer.Refused q) h
 numbered o r (hash-refuses T words q e) =
     let ns = numbers hash in
     subst (AnswerEnds (OneOf ns)) (digest-refused (hashTest T words) _ q e)
@@ -94,69 +128,76 @@ numbered o r (chain-refuses T w q e) =
 numbered o r (build-refuses T w size q e) =
     let ns = numbers build in
     subst (AnswerEnds (OneOf ns)) (digest-refused (buildTest T w size) _ q e)
-    (ends.build-ends (OneOf ns) (table-causes ns refl refl refl) T w (one-of 5 ns refl) (λ k s p i h. one-of 6 ns refl) size (one-of 8 ns refl))
+    (ends.build-ends (OneOf ns) (table-causes ns refl refl refl) T w (one-of 5 ns refl) (λ k s p i h. one-of 6 ns refl)
+    size (one-of 8 ns refl))
 numbered o r (check-refuses T t claim q e) =
-    let ns = numbers check in
-    subst (AnswerEnds (OneOf ns)) (tests-refused (checkTest T t claim) _ q e)
-    (ends.check-ends (OneOf ns) (table-causes ns refl refl refl) T t claim (one-of 7 ns refl) (λ i h. one-of 9 ns refl)
-    (λ k s p i h. one-of 10 ns refl) (λ k p i c n f. one-of 11 ns refl))
+    subst (AnswerEnds (OneOf (numbers check))) (tests-refused (checkTest T t claim) _ q e) (check-numbers T t claim)
 numbered o r (read-off-refuses T t claim size q e) =
-    let ns = numbers read-off in
-    subst (AnswerEnds (OneOf ns)) (tests-refused (readOffTest T t claim size) _ q e)
-    (ends.read-off-ends (OneOf ns) (table-causes ns refl refl refl) T t claim (one-of 7 ns refl) (λ i h. one-of 9 ns refl)
-    (λ k s p i h. one-of 10 ns refl) (λ k p i c n f. one-of 11 ns refl) size (one-of 8 ns refl))
+    subst (AnswerEnds (OneOf (numbers read-off))) (tests-refused (readOffTest T t claim size) _ q e)
+    (read-off-numbers T t claim size)
 numbered o r (pack-refuses w claim size q e) =
-    let ns = numbers pack in
-    subst (AnswerEnds (OneOf ns)) e
-    (ends.pack-ends (OneOf ns) w claim size (one-of 5 ns refl) (one-of 8 ns refl) (λ i h. one-of 9 ns refl) (λ k s p i h. one-of 6 ns refl))
+    subst (AnswerEnds (OneOf (numbers pack))) e (pack-numbers w claim size)
 numbered o r (unpack-refuses file size q e) =
     let ns = numbers unpack in
     subst (AnswerEnds (OneOf ns)) (digest-refused (unpackTest file size) _ q e)
-    (ends.unpack-ends (OneOf ns) file (one-of 12 ns refl) (one-of 8 ns refl) (λ j h. one-of 13 ns refl) (λ j h. one-of 14 ns refl) size)
+    (ends.unpack-ends (OneOf ns) file (one-of 12 ns refl) (one-of 8 ns refl) (λ j h. one-of 13 ns refl)
+    (λ j h. one-of 14 ns refl) size)
+
+-- no operation refuses with a number that is none of its own
+never : (o : Operation) (r : Refusal) → among (told r .number) (numbers o) ≡ false → Refuses o r → ⊥
+never o r e h = not-among (told r .number) (numbers o) e (numbered o r h)
 
 -- Prepare never returns 4, and only it returns 3
 never-4 : (i : ℕ) → Refuses prepare (WrongInverse i) → ⊥
-never-4 i h = not-among 4 (numbers prepare) refl (numbered prepare (WrongInverse i) h)
+never-4 i = never prepare (WrongInverse i) refl
 
 only-3 : (o : Operation) → Refuses o NoInverse → o ≡ prepare
 only-3 prepare h = refl
-only-3 hash h = absurd (not-among 3 (numbers hash) refl (numbered hash NoInverse h))
-only-3 chain h = absurd (not-among 3 (numbers chain) refl (numbered chain NoInverse h))
-only-3 build h = absurd (not-among 3 (numbers build) refl (numbered build NoInverse h))
-only-3 check h = absurd (not-among 3 (numbers check) refl (numbered check NoInverse h))
-only-3 read-off h = absurd (not-among 3 (numbers read-off) refl (numbered read-off NoInverse h))
-only-3 pack h = absurd (not-among 3 (numbers pack) refl (numbered pack NoInverse h))
-only-3 unpack h = absurd (not-among 3 (numbers unpack) refl (numbered unpack NoInverse h))
+only-3 hash h = absurd (never hash NoInverse refl h)
+only-3 chain h = absurd (never chain NoInverse refl h)
+only-3 build h = absurd (never build NoInverse refl h)
+only-3 check h = absurd (never check NoInverse refl h)
+only-3 read-off h = absurd (never read-off NoInverse refl h)
+only-3 pack h = absurd (never pack NoInverse refl h)
+only-3 unpack h = absurd (never unpack NoInverse refl h)
 
 -- ---- the calls
 
+-- the word of an answer that counts no tests is that of one with 0 tests
+answer-none : (t : Answer) → answerCode t ≡ testsCode (testsAfter t 0)
+unfolding answerCode testsCode code-of
+answer-none answer.Accepted = refl
+answer-none (answer.Refused r) = refl
+
+digest-none : (t : Answer) (d : Digest) → digestCode (digestAfter t d) ≡ testsCode (testsAfter t 0)
+unfolding digestCode testsCode code-of
+digest-none answer.Accepted d = refl
+digest-none (answer.Refused r) d = refl
+
 -- what a word says, from the tests t that it tells of: they are within its bits, and refuse with these numbers only
 module _ (code : ℕ) (ns : List ℕ) (full : ℕ → Type 0) (kept : Type 0) where
-  answer-says : (t : Answer) → code ≡ answerCode t → AnswerEnds RefusalInBits t → AnswerEnds (OneOf ns) t
-      → (t ≡ answer.Accepted → full 0) → (IsRefusal t → kept) → Answered code ns full kept
-  unfolding answerCode
-  answer-says answer.Accepted e b o f k = accepted 0 (rw e (record { number = refl; constraint = refl; row = refl; value = refl })) (f refl)
-  answer-says (answer.Refused r) e b o f k = refused r (rw e (says (told r) b)) o (k (r, refl))
-
-  digest-says : (t : Answer) (d : Digest) → code ≡ digestCode (digestAfter t d) → AnswerEnds RefusalInBits t → AnswerEnds (OneOf ns) t
-      → (t ≡ answer.Accepted → full 0) → (IsRefusal t → kept) → Answered code ns full kept
-  unfolding digestCode
-  digest-says answer.Accepted d e b o f k = accepted 0 (rw e (record { number = refl; constraint = refl; row = refl; value = refl })) (f refl)
-  digest-says (answer.Refused r) d e b o f k = refused r (rw e (says (told r) b)) o (k (r, refl))
-
-  tests-says : (t : Answer) (n : ℕ) → code ≡ testsCode (testsAfter t n) → (t ≡ answer.Accepted → n < 2 ^ 28) → AnswerEnds RefusalInBits t → AnswerEnds (OneOf ns) t
+  tests-says : (t : Answer) (n : ℕ) → code ≡ testsCode (testsAfter t n) → (t ≡ answer.Accepted → n < 2 ^ 28)
+      → AnswerEnds RefusalInBits t → AnswerEnds (OneOf ns) t
       → (t ≡ answer.Accepted → full n) → (IsRefusal t → kept) → Answered code ns full kept
   unfolding testsCode
   tests-says answer.Accepted n e l b o f k = accepted n (rw e (says-accepted n (l refl))) (f refl)
   tests-says (answer.Refused r) n e l b o f k = refused r (rw e (says (told r) b)) o (k (r, refl))
 
+  answer-says : (t : Answer) → code ≡ answerCode t → AnswerEnds RefusalInBits t → AnswerEnds (OneOf ns) t
+      → (t ≡ answer.Accepted → full 0) → (IsRefusal t → kept) → Answered code ns full kept
+  answer-says t e = tests-says t 0 (e ∙ answer-none t) (λ a. lit< tt)
+
+  digest-says : (t : Answer) (d : Digest) → code ≡ digestCode (digestAfter t d)
+      → AnswerEnds RefusalInBits t → AnswerEnds (OneOf ns) t
+      → (t ≡ answer.Accepted → full 0) → (IsRefusal t → kept) → Answered code ns full kept
+  digest-says t d e = tests-says t 0 (e ∙ digest-none t d) (λ a. lit< tt)
+
 prepare-call : (raw table table′ : List ℕ) (code : ℕ) → PrepareCall raw table code table′
     → Answered code (callNumbers prepare) (PrepareResult raw table table′) (table′ ≡ table)
 prepare-call raw table table′ code h =
-    let ns = callNumbers prepare in
-    answer-says code ns (PrepareResult raw table table′) (table′ ≡ table) (h .answer) (h .coded)
+    answer-says code (callNumbers prepare) (PrepareResult raw table table′) (table′ ≡ table) (h .answer) (h .coded)
     (bits.prepare-bits raw table table′ (h .answer) (h .prepares))
-    (ends.prepare-ends (OneOf ns) (one-of 1 ns refl) (one-of 8 ns refl) (λ i l. one-of 2 ns refl) (one-of 3 ns refl) raw table table′ (h .answer) (h .prepares))
+    (prepare-numbers raw table table′ (h .answer) (h .prepares))
     (λ e. record { none = refl; prepares = subst (λ a. Prepares raw table a table′) e (h .prepares) })
     (λ r. refused-kept raw table table′ (r .0) (subst (λ a. Prepares raw table a table′) (r .1) (h .prepares)))
 
@@ -170,7 +211,8 @@ module _ (t : Answer) (d : Digest) (code : ℕ) (old new : List ℕ) (h : HandsO
 
 hash-call : (T output output′ : List ℕ) (w0 w1 w2 w3 w4 w5 w6 w7 code : ℕ)
     → HandsOver (hashCall T (w0 ∷ w1 ∷ w2 ∷ w3 ∷ w4 ∷ w5 ∷ w6 ∷ w7 ∷ []) (length output)) code output output′
-    → Answered code (callNumbers hash) (HashResult T (w0 ∷ w1 ∷ w2 ∷ w3 ∷ []) (w4 ∷ w5 ∷ w6 ∷ w7 ∷ []) output′) (output′ ≡ output)
+    → Answered code (callNumbers hash) (HashResult T (w0 ∷ w1 ∷ w2 ∷ w3 ∷ []) (w4 ∷ w5 ∷ w6 ∷ w7 ∷ []) output′)
+    (output′ ≡ output)
 unfolding hashCall
 hash-call T output output′ w0 w1 w2 w3 w4 w5 w6 w7 code h =
     let words : List ℕ = w0 ∷ w1 ∷ w2 ∷ w3 ∷ w4 ∷ w5 ∷ w6 ∷ w7 ∷ [] in
@@ -181,16 +223,22 @@ hash-call T output output′ w0 w1 w2 w3 w4 w5 w6 w7 code h =
     let d = digest (rescue.hash T a b) in
     digest-says code ns (HashResult T a b output′) (output′ ≡ output) t d (h .coded)
     (bits.hash-bits T words (length output) refl)
-    (ends.hash-call-ends (OneOf ns) (table-causes ns refl refl refl) T words (λ i l. one-of 6 ns refl) (length output) (one-of 8 ns refl))
-    (λ e. record { none = refl; output-is = output-new t d code output output′ h e ∙ four-words (rescue.hash T a b) (hash-tap T a b .size) })
+    (ends.hash-call-ends (OneOf ns) (table-causes ns refl refl refl) T words (λ i l. one-of 6 ns refl) (length output)
+    (one-of 8 ns refl))
+    (λ e. record {
+      none = refl;
+      output-is = output-new t d code output output′ h e ∙ four-words (rescue.hash T a b) (hash-tap T a b .size);
+    })
     (output-old t d code output output′ h)
 
 -- the output of a list that passed
-chain-words : (T w : List ℕ) (k : ℕ) → length w ≡ 12 * k + 4 → AllCanonical w → digestWords (digest (rescue.chain T w k)) ≡ rescue.chain T w k
+chain-words : (T w : List ℕ) (k : ℕ) → length w ≡ 12 * k + 4 → AllCanonical w
+    → digestWords (digest (rescue.chain T w k)) ≡ rescue.chain T w k
 unfolding rescue.chain
 chain-words T w k s c = four-words (rescue.outputAt T w (3 * k)) (output-tap T w c (omega arith) (3 * k) .size)
 
-chain-call-inputs : (T w : List ℕ) (size : ℕ) → chainCallTest T w size ≡ answer.Accepted → ChainInputs T w (tapWordBatches (length w))
+chain-call-inputs : (T w : List ℕ) (size : ℕ) → chainCallTest T w size ≡ answer.Accepted
+    → ChainInputs T w (tapWordBatches (length w))
 unfolding chainCallTest
 chain-call-inputs T w size e =
     let a = both-accepted (tableTest T) _ e in
@@ -198,7 +246,8 @@ chain-call-inputs T w size e =
     let c = passed (eqb size 4) DestinationLength _ (b .1) in
     chain-inputs T w (chain-room T w size (eqb-true size 4 (c .0)) ∙ e)
 
-build-call-inputs : (T w : List ℕ) (rows size : ℕ) → buildCallTest T w rows size ≡ answer.Accepted → BuildInputs T w rows (tapWordBatches (length w))
+build-call-inputs : (T w : List ℕ) (rows size : ℕ) → buildCallTest T w rows size ≡ answer.Accepted
+    → BuildInputs T w rows (tapWordBatches (length w))
 unfolding buildCallTest
 build-call-inputs T w rows size e =
     let a = both-accepted (tableTest T) _ e in
@@ -217,7 +266,8 @@ chain-call T w output output′ code h =
     let d = digest (rescue.chain T w k) in
     digest-says code ns (ChainResult T w output′) (output′ ≡ output) t d (h .coded)
     (bits.chain-bits T w (length output))
-    (ends.chain-call-ends (OneOf ns) (table-causes ns refl refl refl) T w (one-of 5 ns refl) (λ k s p i l. one-of 6 ns refl) (length output) (one-of 8 ns refl))
+    (ends.chain-call-ends (OneOf ns) (table-causes ns refl refl refl) T w (one-of 5 ns refl)
+    (λ k s p i l. one-of 6 ns refl) (length output) (one-of 8 ns refl))
     (λ e. (let i = chain-call-inputs T w (length output) e in record {
       none = refl;
       k = k;
@@ -237,8 +287,8 @@ build-call T w rows rows′ output output′ code h =
     let d = digest (rescue.chain T w k) in
     digest-says code ns (BuildResult T w rows′ output′) ((rows′ ≡ rows) × (output′ ≡ output)) t d (h .four .coded)
     (bits.build-bits T w (length rows) (length output))
-    (ends.build-call-ends (OneOf ns) (table-causes ns refl refl refl) T w (one-of 5 ns refl) (λ k s p i l. one-of 6 ns refl)
-    (length rows) (length output) (one-of 8 ns refl))
+    (ends.build-call-ends (OneOf ns) (table-causes ns refl refl refl) T w (one-of 5 ns refl)
+    (λ k s p i l. one-of 6 ns refl) (length rows) (length output) (one-of 8 ns refl))
     (λ e. (let i = build-call-inputs T w (length rows) (length output) e in record {
       none = refl;
       k = k;
@@ -250,32 +300,35 @@ build-call T w rows rows′ output output′ code h =
     (λ r. (h .rows ∙ ap (λ x. leaves x (trace T w k) rows) (r .1), output-old t d code output output′ (h .four) r))
 
 module _ (T t : List ℕ) (c0 c1 c2 c3 : ℕ) where
-  check-call : (code : ℕ) → code ≡ testsCode (checkAnswer T t (c0 ∷ c1 ∷ c2 ∷ c3 ∷ [])) → Answered code (callNumbers check) (CheckResult t) Unit
+  check-call : (code : ℕ) → code ≡ testsCode (checkAnswer T t (c0 ∷ c1 ∷ c2 ∷ c3 ∷ []))
+      → Answered code (callNumbers check) (CheckResult t) Unit
   unfolding checkAnswer
   check-call code h =
-      let ns = callNumbers check in
       let claim : List ℕ = c0 ∷ c1 ∷ c2 ∷ c3 ∷ [] in
       let k = traceWordBatches (length t) in
-      tests-says code ns (CheckResult t) Unit (checkTest T t claim) (length (order.tests k)) h
+      tests-says code (callNumbers check) (CheckResult t) Unit (checkTest T t claim) (length (order.tests k)) h
       (λ e. bits.tests-bits k (check-inputs T t claim e .0 .permitted))
       (bits.check-bits T t claim refl)
-      (ends.check-ends (OneOf ns) (table-causes ns refl refl refl) T t claim (one-of 7 ns refl) (λ i l. one-of 9 ns refl)
-      (λ k s p i l. one-of 10 ns refl) (λ k p i c n f. one-of 11 ns refl))
-      (λ e. (let i = check-inputs T t claim e .0 in record { k = k; permitted = i .permitted; rows = i .size; all = length-tests k }))
+      (check-numbers T t claim)
+      (λ e. (let i = check-inputs T t claim e .0 in record {
+        k = k;
+        permitted = i .permitted;
+        rows = i .size;
+        all = length-tests k;
+      }))
       (λ r. tt)
 
   read-off-call : (taps taps′ : List ℕ) (code : ℕ) → ReadOffCall T t (c0 ∷ c1 ∷ c2 ∷ c3 ∷ []) code taps taps′
       → Answered code (callNumbers read-off) (ReadOffResult T t taps′) (taps′ ≡ taps)
   unfolding readOffAnswer readOffLeaves
   read-off-call taps taps′ code h =
-      let ns = callNumbers read-off in
       let claim : List ℕ = c0 ∷ c1 ∷ c2 ∷ c3 ∷ [] in
       let k = traceWordBatches (length t) in
-      tests-says code ns (ReadOffResult T t taps′) (taps′ ≡ taps) (readOffTest T t claim (length taps)) (length (order.tests k)) (h .coded)
+      tests-says code (callNumbers read-off) (ReadOffResult T t taps′) (taps′ ≡ taps)
+      (readOffTest T t claim (length taps)) (length (order.tests k)) (h .coded)
       (λ e. bits.tests-bits k (read-off-inputs T t claim (length taps) e .1 .permitted))
       (bits.read-off-bits T t claim refl (length taps))
-      (ends.read-off-ends (OneOf ns) (table-causes ns refl refl refl) T t claim (one-of 7 ns refl) (λ i l. one-of 9 ns refl)
-      (λ k s p i l. one-of 10 ns refl) (λ k p i c n f. one-of 11 ns refl) (length taps) (one-of 8 ns refl))
+      (read-off-numbers T t claim (length taps))
       (λ e. (let i = read-off-inputs T t claim (length taps) e .1 in record {
         k = k;
         permitted = i .permitted;
@@ -289,11 +342,11 @@ pack-call : (w file file′ : List ℕ) (c0 c1 c2 c3 code : ℕ) → PackCall w 
     → Answered code (callNumbers pack) (PackResult w (c0 ∷ c1 ∷ c2 ∷ c3 ∷ []) file′) (file′ ≡ file)
 unfolding packLeaves
 pack-call w file file′ c0 c1 c2 c3 code h =
-    let ns = callNumbers pack in
     let claim : List ℕ = c0 ∷ c1 ∷ c2 ∷ c3 ∷ [] in
-    answer-says code ns (PackResult w claim file′) (file′ ≡ file) (packTest w claim (length file)) (h .coded)
+    answer-says code (callNumbers pack) (PackResult w claim file′) (file′ ≡ file)
+    (packTest w claim (length file)) (h .coded)
     (bits.pack-bits w claim (length file) refl)
-    (ends.pack-ends (OneOf ns) w claim (length file) (one-of 5 ns refl) (one-of 8 ns refl) (λ i l. one-of 9 ns refl) (λ k s p i l. one-of 6 ns refl))
+    (pack-numbers w claim (length file))
     (λ e. record { none = refl; file-is = h .file ∙ ap (λ x. leaves x (packed w claim) file) e })
     (λ r. h .file ∙ ap (λ x. leaves x (packed w claim) file) (r .1))
 
@@ -306,7 +359,8 @@ unpack-call file taps taps′ claim claim′ code h =
     let d = digest (claimIn file) in
     digest-says code ns (UnpackResult file taps′ claim′) ((taps′ ≡ taps) × (claim′ ≡ claim)) t d (h .four .coded)
     (bits.unpack-bits file (length taps) (length claim))
-    (ends.unpack-call-ends (OneOf ns) file (one-of 12 ns refl) (one-of 8 ns refl) (λ j l. one-of 13 ns refl) (λ j l. one-of 14 ns refl) (length taps) (length claim))
+    (ends.unpack-call-ends (OneOf ns) file (one-of 12 ns refl) (one-of 8 ns refl) (λ j l. one-of 13 ns refl)
+    (λ j l. one-of 14 ns refl) (length taps) (length claim))
     (λ e. record {
       none = refl;
       taps-are = h .list ∙ ap (λ x. leaves x (tapsIn file) taps) e;
@@ -315,6 +369,11 @@ unpack-call file taps taps′ claim claim′ code h =
     (λ r. (h .list ∙ ap (λ x. leaves x (tapsIn file) taps) (r .1), output-old t d code claim claim′ (h .four) r))
 
 -- ---- the demand
+
+-- what a destination holds after a refusal
+kept-old : (a : Answer) (r : Refusal) → a ≡ answer.Refused r → (new old : List ℕ) → leaves a new old ≡ old
+kept-old a r e new old = ap (λ x. leaves x new old) e
+
 pub demand-1 : Demand1
 unfolding buildAnswer buildLeaves readOffAnswer readOffLeaves packLeaves unpackAnswer unpackLeaves
 demand-1 = record {
@@ -324,10 +383,10 @@ demand-1 = record {
   prepare-answers = prepares-some;
   prepare-answers-once = prepares-unique;
   prepare-keeps = refused-kept;
-  build-keeps = λ T w old r e. ap (λ a. leaves a (trace T w (tapWordBatches (length w))) old) (digest-refused (buildTest T w (length old)) _ r e);
-  read-off-keeps = λ T t claim old r e. ap (λ a. leaves a (readTaps T t (traceWordBatches (length t))) old) (tests-refused (readOffTest T t claim (length old)) _ r e);
-  pack-keeps = λ w claim old r e. ap (λ a. leaves a (packed w claim) old) e;
-  unpack-keeps = λ file old r e. ap (λ a. leaves a (tapsIn file) old) (digest-refused (unpackTest file (length old)) _ r e);
+  build-keeps = λ T w old r e. kept-old _ r (digest-refused (buildTest T w (length old)) _ r e) _ old;
+  read-off-keeps = λ T t claim old r e. kept-old _ r (tests-refused (readOffTest T t claim (length old)) _ r e) _ old;
+  pack-keeps = λ w claim old r e. kept-old _ r e _ old;
+  unpack-keeps = λ file old r e. kept-old _ r (digest-refused (unpackTest file (length old)) _ r e) _ old;
   prepare-call = prepare-call;
   hash-call = hash-call;
   chain-call = chain-call;

@@ -1,4 +1,5 @@
--- Demand 2: hash, chain and trace are the definitions', a built trace reads off to its taps, and the board file round-trips.
+-- Demand 2: hash, chain and trace are the definitions', a built trace reads off to its taps, and the board file
+-- round-trips.
 -- Assumes nothing.
 use mathlib.Core.Path.{_≡_, sym, ap, ap₂, _∙_}
 use mathlib.Core.List.{List, _++_}
@@ -20,7 +21,7 @@ use Rattle.table.specs.Table.{tableTest, IsTable}
 use Rattle.table.proofs.Theorems.{test-sound}
 use Rattle.hash.specs.Hash.{hash, chain}
 use Rattle.hash.specs.Answers.{hashAnswer, chainAnswer}
-use Rattle.hash.proofs.Answers.{hash-passes, chain-passes}
+use Rattle.hash.proofs.Answers.{ChainInputs, hash-passes, chain-passes}
 use Rattle.hash.proofs.Inputs.{IsTap, output-tap}
 use Rattle.trace.specs.Trace.{trace}
 use Rattle.trace.specs.Answers.{buildTest, buildAnswer, buildLeaves}
@@ -41,30 +42,34 @@ use Rattle.demands.specs.Demand2.{Demand2}
 use Rattle.demands.proofs.Returned.{four-words}
 
 -- ---- hash and chain
-hashes : (T a b : List ℕ) → tableTest T ≡ answer.Accepted → length a ≡ 4 → AllCanonical a → length b ≡ 4 → AllCanonical b
-    → hashAnswer T (a ++ b) ≡ Accepted (digest (hash T a b))
+hashes : (T a b : List ℕ) → tableTest T ≡ answer.Accepted → length a ≡ 4 → AllCanonical a → length b ≡ 4
+    → AllCanonical b → hashAnswer T (a ++ b) ≡ Accepted (digest (hash T a b))
 unfolding hashAnswer
 hashes T a b table la ha lb hb =
-    let passes = hash-passes T (a ++ b) (record { table = test-sound T table; canonical = append-canonical a b ha hb }) in
-    ap (λ t. digestAfter t (digest (hash T (take 4 (a ++ b)) (drop 4 (a ++ b))))) passes
+    ap (λ t. digestAfter t (digest (hash T (take 4 (a ++ b)) (drop 4 (a ++ b)))))
+    (hash-passes T (a ++ b) (record { table = test-sound T table; canonical = append-canonical a b ha hb }))
     ∙ ap₂ (λ x y. Accepted (digest (hash T x y))) (take-at a b 4 la) (drop-at a b 4 la)
 
-chains : (T w : List ℕ) (k : ℕ) → tableTest T ≡ answer.Accepted → IsPermitted k → length w ≡ 12 * k + 4 → AllCanonical w
-    → chainAnswer T w ≡ Accepted (digest (chain T w k))
+chains : (T w : List ℕ) (k : ℕ) → tableTest T ≡ answer.Accepted → IsPermitted k → length w ≡ 12 * k + 4
+    → AllCanonical w → chainAnswer T w ≡ Accepted (digest (chain T w k))
 unfolding chainAnswer
 chains T w k table permitted size canonical =
-    let passes = chain-passes T w k (record { table = test-sound T table; permitted = permitted; size = size; canonical = canonical }) in
+    let inputs : ChainInputs T w k =
+    record { table = test-sound T table; permitted = permitted; size = size; canonical = canonical } in
     let batches : tapWordBatches (length w) ≡ k = omega arith in
-    ap (λ t. digestAfter t (digest (chain T w (tapWordBatches (length w))))) passes ∙ ap (λ n. Accepted (digest (chain T w n))) batches
+    ap (λ t. digestAfter t (digest (chain T w (tapWordBatches (length w))))) (chain-passes T w k inputs)
+    ∙ ap (λ n. Accepted (digest (chain T w n))) batches
 
 -- ---- reading off what was built
 output-is-tap : (T w : List ℕ) (k : ℕ) → length w ≡ 12 * k + 4 → AllCanonical w → IsTap (chain T w k)
 unfolding chain
 output-is-tap T w k size canonical = output-tap T w canonical (omega (arith, size)) (3 * k)
 
-module _ (T w : List ℕ) (k : ℕ) (table : IsTable T) (permitted : IsPermitted k) (size : length w ≡ 12 * k + 4) (canonical : AllCanonical w) where
+module _ (T w : List ℕ) (k : ℕ) (table : IsTable T) (permitted : IsPermitted k) (size : length w ≡ 12 * k + 4)
+    (canonical : AllCanonical w) where
   reads-off : (room : List ℕ) → length room ≡ 12 * k + 4
-      → (readOffAnswer T (trace T w k) (chain T w k) (length room) ≡ counted.Accepted (372 * k)) × (readOffLeaves T (trace T w k) (chain T w k) room ≡ w)
+      → (readOffAnswer T (trace T w k) (chain T w k) (length room) ≡ counted.Accepted (372 * k))
+      × (readOffLeaves T (trace T w k) (chain T w k) room ≡ w)
   unfolding readOffAnswer readOffLeaves
   reads-off room l =
       let t = trace T w k in
@@ -80,38 +85,48 @@ module _ (T w : List ℕ) (k : ℕ) (table : IsTable T) (permitted : IsPermitted
       ∙ ap counted.Accepted (length-tests k) in
       let passes = tests-accepted (readOffTest T t claim (length room)) _ _ answered .0 in
       let batches : traceWordBatches (length t) ≡ k = omega (arith, long) in
-      (answered, ap (λ a. leaves a (readTaps T t (traceWordBatches (length t))) room) passes ∙ ap (readTaps T t) batches ∙ read .1)
+      let left = ap (λ a. leaves a (readTaps T t (traceWordBatches (length t))) room) passes in
+      (answered, left ∙ ap (readTaps T t) batches ∙ read .1)
 
 reads-back : (T w old room : List ℕ) (d : Digest) → buildAnswer T w (length old) ≡ Accepted d → length room ≡ length w
-    → (readOffAnswer T (buildLeaves T w old) (digestWords d) (length room) ≡ counted.Accepted (372 * tapWordBatches (length w)))
+    → (readOffAnswer T (buildLeaves T w old) (digestWords d) (length room)
+    ≡ counted.Accepted (372 * tapWordBatches (length w)))
     × (readOffLeaves T (buildLeaves T w old) (digestWords d) room ≡ w)
 unfolding buildAnswer
 reads-back T w old room d e l =
     let k = tapWordBatches (length w) in
     let a = digest-accepted (buildTest T w (length old)) _ d e in
     let i = build-inputs T w (length old) (a .0) in
-    let output = sym (ap digestWords (a .1)) ∙ four-words (chain T w k) (output-is-tap T w k (i .taps) (i .canonical) .size) in
+    let four = output-is-tap T w k (i .taps) (i .canonical) .size in
+    let output = sym (ap digestWords (a .1)) ∙ four-words (chain T w k) four in
     rw (build-leaves T w k (i .table) (i .permitted) (i .taps) (i .canonical) old (i .room), output)
     (reads-off T w k (i .table) (i .permitted) (i .taps) (i .canonical) room (l ∙ i .taps))
 
 -- ---- the board file
-unpacks : (w claim old room : List ℕ) → length claim ≡ 4 → packTest w claim (length old) ≡ answer.Accepted → length room ≡ length w
-    → (unpackAnswer (packLeaves w claim old) (length room) ≡ Accepted (digest claim)) × (unpackLeaves (packLeaves w claim old) room ≡ w)
+unpacks : (w claim old room : List ℕ) → length claim ≡ 4 → packTest w claim (length old) ≡ answer.Accepted
+    → length room ≡ length w
+    → (unpackAnswer (packLeaves w claim old) (length room) ≡ Accepted (digest claim))
+    × (unpackLeaves (packLeaves w claim old) room ≡ w)
 unfolding packLeaves unpackAnswer unpackLeaves
 unpacks w claim old room four e l =
     let u = unpack-packed w claim (length old) four e in
-    let answered : unpackAnswer (packed w claim) (length room) ≡ Accepted (digest claim) = ap (unpackAnswer (packed w claim)) l ∙ u .0 in
-    let passes = digest-accepted (unpackTest (packed w claim) (length room)) _ _ answered .0 in
-    rw e (answered, ap (λ a. leaves a (tapsIn (packed w claim)) room) passes ∙ u .1)
+    let file = packed w claim in
+    let answered : unpackAnswer file (length room) ≡ Accepted (digest claim) = ap (unpackAnswer file) l ∙ u .0 in
+    let passes = digest-accepted (unpackTest file (length room)) _ _ answered .0 in
+    rw e (answered, ap (λ a. leaves a (tapsIn file) room) passes ∙ u .1)
 
-packs : (file old room : List ℕ) (d : Digest) → AllBytes file → unpackAnswer file (length old) ≡ Accepted d → length room ≡ length file
-    → (packTest (unpackLeaves file old) (digestWords d) (length room) ≡ answer.Accepted) × (packLeaves (unpackLeaves file old) (digestWords d) room ≡ file)
+packs : (file old room : List ℕ) (d : Digest) → AllBytes file → unpackAnswer file (length old) ≡ Accepted d
+    → length room ≡ length file
+    → (packTest (unpackLeaves file old) (digestWords d) (length room) ≡ answer.Accepted)
+    × (packLeaves (unpackLeaves file old) (digestWords d) room ≡ file)
 unfolding packLeaves unpackAnswer unpackLeaves
 packs file old room d bytes e l =
     let p = pack-unpack file (length old) d bytes e in
     let passes = digest-accepted (unpackTest file (length old)) (digest (claimIn file)) d e .0 in
-    let packed-again : packTest (tapsIn file) (digestWords d) (length room) ≡ answer.Accepted = ap (packTest (tapsIn file) (digestWords d)) l ∙ p .0 in
-    rw passes (packed-again, ap (λ a. leaves a (packed (tapsIn file) (digestWords d)) room) packed-again ∙ p .1)
+    let taps = tapsIn file in
+    let claim = digestWords d in
+    let again : packTest taps claim (length room) ≡ answer.Accepted = ap (packTest taps claim) l ∙ p .0 in
+    rw passes (again, ap (λ a. leaves a (packed taps claim) room) again ∙ p .1)
 
 -- ---- the demand
 pub demand-2 : Demand2

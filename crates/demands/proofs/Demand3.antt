@@ -29,8 +29,8 @@ use Rattle.exact.proofs.Exactness as exact
 use Rattle.demands.specs.Demand3.{Exact, Demand3}
 
 -- what no earlier refusal turns back
-module _ (T t claim : List ℕ) (k : ℕ) (table : IsTable T) (permitted : IsPermitted k) (size : length t ≡ 384 * k) (canonical : AllCanonical t)
-    (claim-size : length claim ≡ 4) (claim-canonical : AllCanonical claim) where
+module _ (T t claim : List ℕ) (k : ℕ) (table : IsTable T) (permitted : IsPermitted k) (size : length t ≡ 384 * k)
+    (canonical : AllCanonical t) (claim-size : length claim ≡ 4) (claim-canonical : AllCanonical claim) where
   checks : checkAnswer T t claim ≡ testsAfter (constraintTest T t claim k) (length (tests k))
   checks = check-verdict T t claim k table permitted size canonical claim-canonical
 
@@ -49,14 +49,16 @@ module _ (T t claim : List ℕ) (k : ℕ) (table : IsTable T) (permitted : IsPer
       let e = exact.accepts-exactly T t claim k table permitted size canonical claim-size in
       (λ a. e .0 (walked (372 * k) a), λ w. reported (e .1 w))
 
-  writes : (n : ℕ) (old : List ℕ) → length old ≡ 12 * k + 4 → readOffAnswer T t claim (length old) ≡ Accepted n → IsListFor T t claim k (readOffLeaves T t claim old)
+  writes : (n : ℕ) (old : List ℕ) → length old ≡ 12 * k + 4 → readOffAnswer T t claim (length old) ≡ Accepted n
+      → IsListFor T t claim k (readOffLeaves T t claim old)
   unfolding readOffAnswer readOffLeaves
   writes n old l e =
       let batches : traceWordBatches (length t) ≡ k = omega (arith, size) in
       let passes = tests-accepted (readOffTest T t claim (length old)) _ n e .0 in
-      let left = ap (λ a. leaves a (readTaps T t (traceWordBatches (length t))) old) passes ∙ ap (readTaps T t) batches in
+      let left = ap (λ a. leaves a (readTaps T t (traceWordBatches (length t))) old) passes in
       let checked = sym (ap (readOffAnswer T t claim) l ∙ agrees) ∙ e in
-      subst (IsListFor T t claim k) (sym left) (exact.reads-that-list T t claim k table permitted size canonical claim-size (walked n checked))
+      let read = exact.reads-that-list T t claim k table permitted size canonical claim-size (walked n checked) in
+      subst (IsListFor T t claim k) (sym (left ∙ ap (readTaps T t) batches)) read
 
   whole : (n : ℕ) → checkAnswer T t claim ≡ Accepted n → (n ≡ 372 * k) × (n ≡ length (tests k))
   whole n e =
@@ -64,16 +66,19 @@ module _ (T t claim : List ℕ) (k : ℕ) (table : IsTable T) (permitted : IsPer
       (o .1, o .0)
 
   decided : (a : Answer) → constraintTest T t claim k ≡ a → (checkAnswer T t claim ≡ Accepted (372 * k))
-      ⊎ ((i : ℕ) × (c : ℕ) × (n : ℕ) × (checkAnswer T t claim ≡ Refused (Constraint (record { 0 = i }) c n)) × IsFirstFailing T t claim (tests k) i c n)
+      ⊎ ((i : ℕ) × (c : ℕ) × (n : ℕ) × (checkAnswer T t claim ≡ Refused (Constraint (record { 0 = i }) c n))
+      × IsFirstFailing T t claim (tests k) i c n)
   decided answer.Accepted e = inl (reported e)
   decided (answer.Refused r) e =
-      let f = exact.first-failing T t claim k table permitted size canonical claim-size (λ a. not-accepted r (sym e ∙ a)) in
+      let failing = exact.first-failing T t claim k table permitted size canonical claim-size in
+      let f = failing (λ a. not-accepted r (sym e ∙ a)) in
       inr (f .0, f .1, f .2, checks ∙ ap (λ a. testsAfter a (length (tests k))) (f .3), f .4)
 
   exactly : Exact T t claim k
   exactly = record {
     accepts-exactly = accepts-exactly;
-    no-other = λ w v l s c e. sym (exact.one-list-a-trace T k table permitted w v (l .size) (l .canonical) s c (l .traced ∙ sym e));
+    no-other = λ w v l s c e.
+        sym (exact.one-list-a-trace T k table permitted w v (l .size) (l .canonical) s c (l .traced ∙ sym e));
     read-off-agrees = agrees;
     read-off-writes = writes;
     whole-order = whole;

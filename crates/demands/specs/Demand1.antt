@@ -6,7 +6,7 @@ use mathlib.Core.Path.{_≡_}
 use mathlib.Core.List.{List, [], _∷_, List·Memᴰ}
 use Prim.Native.Nat.{ℕ, _+_, _*_}
 use lib.ListN.{length}
-use Rattle.numbers.specs.Numbers.{IsPermitted}
+use Rattle.numbers.specs.Numbers.{tapWords, traceWords, IsPermitted}
 use Rattle.refusals.specs.Refusals.{told, indexed}
 use Rattle.refusals.specs.declared.Refusal.{Refusal}
 use Rattle.refusals.specs.declared.Refusal.the-variants.{NoInverse, WrongInverse}
@@ -99,27 +99,27 @@ pub record ChainResult (T w output : List ℕ) (tests : ℕ) : Type 0 where
   pub none : tests ≡ 0
   pub k : ℕ
   pub permitted : IsPermitted k
-  pub taps : length w ≡ 12 * k + 4
+  pub taps : length w ≡ tapWords k
   pub output-is : output ≡ rescue.chain T w k
 
 pub record BuildResult (T w rows output : List ℕ) (tests : ℕ) : Type 0 where
   pub none : tests ≡ 0
   pub k : ℕ
   pub permitted : IsPermitted k
-  pub taps : length w ≡ 12 * k + 4
+  pub taps : length w ≡ tapWords k
   pub output-is : output ≡ rescue.chain T w k
   pub rows-are : rows ≡ trace T w k
 
 pub record CheckResult (t : List ℕ) (tests : ℕ) : Type 0 where
   pub k : ℕ
   pub permitted : IsPermitted k
-  pub rows : length t ≡ 384 * k
+  pub rows : length t ≡ traceWords k
   pub all : tests ≡ 372 * k
 
 pub record ReadOffResult (T t taps : List ℕ) (tests : ℕ) : Type 0 where
   pub k : ℕ
   pub permitted : IsPermitted k
-  pub rows : length t ≡ 384 * k
+  pub rows : length t ≡ traceWords k
   pub all : tests ≡ 372 * k
   pub taps-are : taps ≡ readTaps T t k
 
@@ -161,7 +161,8 @@ pub record Demand1 : Type 0 where
       → HandsOver (hashCall T (w0 ∷ w1 ∷ w2 ∷ w3 ∷ w4 ∷ w5 ∷ w6 ∷ w7 ∷ []) (length output)) code output output′
       → Answered code (callNumbers hash)
       (HashResult T (w0 ∷ w1 ∷ w2 ∷ w3 ∷ []) (w4 ∷ w5 ∷ w6 ∷ w7 ∷ []) output′) (output′ ≡ output)
-  pub chain-call : (T w output output′ : List ℕ) (code : ℕ) → HandsOver (chainCall T w (length output)) code output output′
+  pub chain-call : (T w output output′ : List ℕ) (code : ℕ)
+      → HandsOver (chainCall T w (length output)) code output output′
       → Answered code (callNumbers chain) (ChainResult T w output′) (output′ ≡ output)
   pub build-call : (T w rows rows′ output output′ : List ℕ) (code : ℕ) → BuildCall T w code rows rows′ output output′
       → Answered code (callNumbers build) (BuildResult T w rows′ output′) ((rows′ ≡ rows) × (output′ ≡ output))

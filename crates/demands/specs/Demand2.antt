@@ -7,7 +7,7 @@ use mathlib.Core.List.{List, _++_}
 use Prim.Native.Nat.{ℕ, _+_, _*_}
 use lib.ListN.{length}
 use Rattle.words.specs.Words.{AllCanonical}
-use Rattle.numbers.specs.Numbers.{IsPermitted, tapWordBatches}
+use Rattle.numbers.specs.Numbers.{tapWords, traceWords, IsPermitted, tapWordBatches}
 use Rattle.refusals.specs.Refusals.{digest, digestWords}
 use Rattle.refusals.specs.declared.Answer.the-variants as answer
 use Rattle.refusals.specs.declared.Digest.{Digest}
@@ -27,16 +27,17 @@ pub record Demand2 : Type 0 where
   pub hashes : (T a b : List ℕ) → tableTest T ≡ answer.Accepted → length a ≡ 4 → AllCanonical a → length b ≡ 4
       → AllCanonical b
       → hashAnswer T (a ++ b) ≡ Accepted (digest (hash T a b))
-  pub chains : (T w : List ℕ) (k : ℕ) → tableTest T ≡ answer.Accepted → IsPermitted k → length w ≡ 12 * k + 4
+  pub chains : (T w : List ℕ) (k : ℕ) → tableTest T ≡ answer.Accepted → IsPermitted k → length w ≡ tapWords k
       → AllCanonical w
       → chainAnswer T w ≡ Accepted (digest (chain T w k))
-  pub builds : (T w old : List ℕ) (k : ℕ) → tableTest T ≡ answer.Accepted → IsPermitted k → length w ≡ 12 * k + 4
-      → AllCanonical w → length old ≡ 384 * k
+  pub builds : (T w old : List ℕ) (k : ℕ) → tableTest T ≡ answer.Accepted → IsPermitted k → length w ≡ tapWords k
+      → AllCanonical w → length old ≡ traceWords k
       → (buildAnswer T w (length old) ≡ Accepted (digest (chain T w k))) × (buildLeaves T w old ≡ trace T w k)
   -- a trace that Build wrote into old, read off under the output d that it returned
   pub reads-back : (T w old room : List ℕ) (d : Digest) → buildAnswer T w (length old) ≡ Accepted d
       → length room ≡ length w
-      → (readOffAnswer T (buildLeaves T w old) (digestWords d) (length room) ≡ tests.Accepted (372 * tapWordBatches (length w)))
+      → (readOffAnswer T (buildLeaves T w old) (digestWords d) (length room)
+      ≡ tests.Accepted (372 * tapWordBatches (length w)))
       × (readOffLeaves T (buildLeaves T w old) (digestWords d) room ≡ w)
   -- a file that Pack wrote into old, unpacked
   pub unpacks : (w claim old room : List ℕ) → length claim ≡ 4 → packTest w claim (length old) ≡ answer.Accepted

@@ -7,7 +7,7 @@ use mathlib.Core.Logic.{_⊎_, _↔_}
 use Prim.Native.Nat.{ℕ, _+_, _*_}
 use lib.ListN.{length}
 use Rattle.words.specs.Words.{AllCanonical}
-use Rattle.numbers.specs.Numbers.{IsPermitted}
+use Rattle.numbers.specs.Numbers.{tapWords, traceWords, IsPermitted}
 use Rattle.refusals.specs.declared.Refusal.the-variants.{Constraint}
 use Rattle.refusals.specs.declared.Answer.the-variants as answer
 use Rattle.refusals.specs.declared.TestsAnswer.the-variants.{Accepted, Refused}
@@ -25,12 +25,12 @@ pub record Exact (T t claim : List ℕ) (k : ℕ) : Type 0 where
   -- 3.1 trace equal to t in every cell
   pub accepts-exactly : (checkAnswer T t claim ≡ Accepted (372 * k)) ↔ ((w : List ℕ) × IsListFor T t claim k w)
   -- no other list of such taps then has that trace
-  pub no-other : (w v : List ℕ) → IsListFor T t claim k w → length v ≡ 12 * k + 4 → AllCanonical v
+  pub no-other : (w v : List ℕ) → IsListFor T t claim k w → length v ≡ tapWords k → AllCanonical v
       → trace T v k ≡ t → v ≡ w
   -- reading off into 12k + 4 words accepts exactly when the checker does, and answers the same
-  pub read-off-agrees : readOffAnswer T t claim (12 * k + 4) ≡ checkAnswer T t claim
+  pub read-off-agrees : readOffAnswer T t claim (tapWords k) ≡ checkAnswer T t claim
   -- and then writes that list
-  pub read-off-writes : (n : ℕ) (old : List ℕ) → length old ≡ 12 * k + 4
+  pub read-off-writes : (n : ℕ) (old : List ℕ) → length old ≡ tapWords k
       → readOffAnswer T t claim (length old) ≡ Accepted n
       → IsListFor T t claim k (readOffLeaves T t claim old)
   -- an accepted trace reports 372 × k tests, the whole of the order
@@ -42,6 +42,6 @@ pub record Exact (T t claim : List ℕ) (k : ℕ) : Type 0 where
 
 -- any accepted table, any permitted k, any trace of k batches and any claim, all of words below p
 pub record Demand3 : Type 0 where
-  pub exact : (T t claim : List ℕ) (k : ℕ) → tableTest T ≡ answer.Accepted → IsPermitted k → length t ≡ 384 * k
+  pub exact : (T t claim : List ℕ) (k : ℕ) → tableTest T ≡ answer.Accepted → IsPermitted k → length t ≡ traceWords k
       → AllCanonical t
       → length claim ≡ 4 → AllCanonical claim → Exact T t claim k

@@ -1,1 +1,2 @@
-// The user's three demands (document 00), each as one theorem over the definitions that the contracts cite. It has no code.
+// The user's three demands (document 00), each as one theorem over the definitions that the contracts cite. It has no
+// code.

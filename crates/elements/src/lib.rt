@@ -1,12 +1,13 @@
-// The board file's words and elements (document 01, "The board file"): 32-bit words, low byte first, the top two bits of
-// each its kind; an element is three of them. An index counts words of the file, from word 0.
+// The board file's words and elements (document 01, "The board file"): 32-bit words, low byte first, the top two bits
+// of each its kind; an element is three of them. An index counts words of the file, from word 0.
 ghost use mathlib.Core.Path.{_≡_};
 ghost use Prim.Native.Nat.{ℕ, _+_, _*_, _^_, _≤_, _<_};
 ghost use lib.ListN.{length};
 ghost use lib.Seq.{sets};
 ghost use Rattle.field.specs.Field.{P};
 ghost use Rattle.elements.specs.Words.{joined, kindOf, payloadOf, wordBytes, wordAt, bytesOf};
-ghost use Rattle.elements.specs.Elements.{elementWords, wordsOf, elementOf, elementAt, elementsAt, elementTest, elementsTest};
+ghost use Rattle.elements.specs.Elements.{elementWords, wordsOf, elementOf, elementAt, elementsAt};
+ghost use Rattle.elements.specs.Elements.{elementTest, elementsTest};
 use field::Fp;
 use refusals::Answer;
 use refusals::Refusal;
@@ -70,7 +71,8 @@ const PAYLOAD: u64 = Word::PAYLOAD as u64;
 // The element becomes the three words from `index` on.
 pub fn write(element: u64, index: usize, destination: &mut [u8])
     requires { ⌜ 4 * index + 12 ≤ length (now destination) ⌝ }
-    ensures { λ _. ⌜ now (destination .exit) ≡ sets (now (destination .entry)) (4 * index) (bytesOf (elementWords element)) ⌝ }
+    ensures { λ _. ⌜ now (destination .exit)
+        ≡ sets (now (destination .entry)) (4 * index) (bytesOf (elementWords element)) ⌝ }
 {
     let high = (element >> 60) as u32;
     let middle = ((element >> 30) & PAYLOAD) as u32;
@@ -83,12 +85,11 @@ pub fn write(element: u64, index: usize, destination: &mut [u8])
 // The elements become the words from `index` on.
 pub fn write_all(elements: &[u64], index: usize, destination: &mut [u8])
     requires { ⌜ 4 * index + 12 * length (now elements) ≤ length (now destination) ⌝ }
-    ensures { λ _. ⌜ now (destination .exit) ≡ sets (now (destination .entry)) (4 * index) (bytesOf (wordsOf (now (elements .entry)))) ⌝ }
+    ensures { λ _. ⌜ now (destination .exit)
+        ≡ sets (now (destination .entry)) (4 * index) (bytesOf (wordsOf (now (elements .entry)))) ⌝ }
 {
-    let mut i: usize = 0;
-    while i < elements.len() {
+    for i in 0..elements.len() {
         write(elements[i], index + 3 * i, destination);
-        i += 1;
     }
 }
 
@@ -100,7 +101,8 @@ fn value(high: Word, middle: Word, low: Word) -> u64
     ((high.payload() as u64) << 60) | ((middle.payload() as u64) << 30) | (low.payload() as u64)
 }
 
-// The three kinds of the element whose first word is word `index`, then its value. A payload above 15 makes 2^64 or more, which no shift here may see.
+// The three kinds of the element whose first word is word `index`, then its value. A payload above 15 makes 2^64 or
+// more, which no shift here may see.
 pub fn test(file: &[u8], index: usize) -> Answer
     requires { ⌜ 4 * index + 12 ≤ length (now file) ⌝ }
     ensures { λ r. ⌜ r ≡ elementTest (now (file .entry)) index ⌝ }
@@ -131,13 +133,11 @@ pub fn test_all(file: &[u8], index: usize, count: usize) -> Answer
     requires { ⌜ 4 * index + 12 * count ≤ length (now file) ⌝ }
     ensures { λ r. ⌜ r ≡ elementsTest (now (file .entry)) index count ⌝ }
 {
-    let mut i: usize = 0;
-    while i < count {
-        let tested = test(file, index + 3 * i);
-        let Answer::Accepted = tested else {
-            return tested;
+    for i in 0..count {
+        let of_element = test(file, index + 3 * i);
+        let Answer::Accepted = of_element else {
+            return of_element;
         };
-        i += 1;
     }
     Answer::Accepted
 }
@@ -156,12 +156,12 @@ pub fn read(file: &[u8], index: usize) -> u64
 
 // As many elements as the destination has room for.
 pub fn read_all(file: &[u8], index: usize, destination: &mut [u64])
-    requires { ⌜ (4 * index + 12 * length (now destination) ≤ length (now file)) × ((i : ℕ) → i < length (now destination) → elementAt (now file) (index + 3 * i) < P) ⌝ }
-    ensures { λ _. ⌜ now (destination .exit) ≡ elementsAt (now (file .entry)) index (length (now (destination .entry))) ⌝ }
+    requires { ⌜ (4 * index + 12 * length (now destination) ≤ length (now file))
+        × ((i : ℕ) → i < length (now destination) → elementAt (now file) (index + 3 * i) < P) ⌝ }
+    ensures { λ _. ⌜ now (destination .exit)
+        ≡ elementsAt (now (file .entry)) index (length (now (destination .entry))) ⌝ }
 {
-    let mut i: usize = 0;
-    while i < destination.len() {
+    for i in 0..destination.len() {
         destination[i] = read(file, index + 3 * i);
-        i += 1;
     }
 }

@@ -22,8 +22,11 @@ use Rattle.trace.specs.Trace.{hashInput, traceRow, trace}
 use Rattle.trace.proofs.RowKinds.{row-start, row-middle, row-end}
 use Rattle.trace.proofs.TraceCells.{next-output, last-row-output, hashInput-state}
 use Rattle.trace.proofs.TraceCells.{input-output, input-next-tap, input-zeros}
-use Rattle.constraints.specs.Constraints.{row, within, entering, forward, minus, backStep, back}
-use Rattle.constraints.specs.ReadOff.{firstRow, readInput, readTaps}
+use Rattle.trace.specs.Trace.{row}
+use Rattle.numbers.specs.Numbers.{within}
+use Rattle.constraints.specs.Constraints.{entering, forward, minus, backStep, back}
+use Rattle.numbers.specs.Numbers.{firstRow}
+use Rattle.constraints.specs.ReadOff.{readInput, readTaps}
 use Rattle.constraints.proofs.OneRound.{back-first, minus-plus}
 use Rattle.constraints.proofs.Equations.{Equations}
 use Rattle.constraints.proofs.ForwardBack.{enters-not, entering-hash, round-hash, back-is, forward-is, forward-enters}

@@ -21,7 +21,7 @@ use Rattle.trace.specs.Trace.{hashInput, traceRow, trace}
 use Rattle.trace.proofs.RowKinds.{RowKind, start, middle, end, row-kind, row-start, row-middle, row-end}
 use Rattle.trace.proofs.TraceCells.{length-trace, cell-trace, next-output, output-is-tap, hashInput-state}
 use Rattle.trace.proofs.TraceCells.{input-output, input-next-tap, input-zeros, traceRow-state}
-use Rattle.constraints.specs.Constraints.{row}
+use Rattle.trace.specs.Trace.{row}
 use Rattle.constraints.specs.ReadOff.{readInput, readWord, readTaps}
 use Rattle.constraints.proofs.RowCells.{cell-row, length-row, same-rows}
 use Rattle.constraints.proofs.Equations.{Equations}

@@ -18,8 +18,11 @@ use Rattle.table.specs.Table.{IsTable, initialConstant}
 use Rattle.hash.specs.Hash.{plus, firstStep, secondStep, stateAt, middleState, finalState}
 use Rattle.hash.proofs.States.{IsState, state-cell, same-state, cell-plus, plus-state, secondStep-state}
 use Rattle.hash.proofs.States.{stateAt-zero, stateAt-suc, finalState-state, initial-state}
-use Rattle.constraints.specs.Constraints.{row, within, entering, forward, minus, back}
-use Rattle.constraints.specs.ReadOff.{firstRow, readInput}
+use Rattle.trace.specs.Trace.{row}
+use Rattle.numbers.specs.Numbers.{within}
+use Rattle.constraints.specs.Constraints.{entering, forward, minus, back}
+use Rattle.numbers.specs.Numbers.{firstRow}
+use Rattle.constraints.specs.ReadOff.{readInput}
 use Rattle.constraints.proofs.OneRound.{minus-state, cell-minus, plus-minus}
 use Rattle.constraints.proofs.RowCells.{row-state}
 use Rattle.constraints.proofs.Equations.{Equations}

@@ -27,7 +27,8 @@ use Rattle.trace.specs.Answers.{buildTest, buildAnswer, buildLeaves}
 use Rattle.board.specs.Board.{batchesIn, claimIn, tapsIn, unpackTest, unpackAnswer, unpackLeaves}
 use Rattle.board.proofs.Answers.{unpack-accepted}
 use Rattle.export.specs.Code.{code, refusalCode, answerCode, digestCode, testsCode}
-use Rattle.export.specs.Calls.{HandsOver, hashCallTest, hashNoRoom, hashCall, chainCallTest, chainNoRoom, chainCall, buildCallTest, buildCall, unpackCallTest, unpackCall}
+use Rattle.export.specs.Calls.{HandsOver, hashCallTest, hashNoRoom, hashCall, chainCallTest, chainNoRoom}
+use Rattle.export.specs.Calls.{chainCall, buildCallTest, buildCall, unpackCallTest, unpackCall}
 
 -- ---- the code of an answer that was found to be one or the other
 pub answer-accepted : (a : Answer) → a ≡ answer.Accepted → 0 ≡ answerCode a
@@ -55,7 +56,8 @@ unfolding testsCode
 tests-refused a r e = rw e
 
 -- ---- four words and their destination
-pub four-words : (old : List ℕ) (a b c d : ℕ) → length old ≡ 4 → set (set (set (set old 0 a) 1 b) 2 c) 3 d ≡ a ∷ b ∷ c ∷ d ∷ []
+pub four-words : (old : List ℕ) (a b c d : ℕ) → length old ≡ 4
+    → set (set (set (set old 0 a) 1 b) 2 c) 3 d ≡ a ∷ b ∷ c ∷ d ∷ []
 four-words [] a b c d h = absurd (omega arith)
 four-words (p ∷ []) a b c d h = absurd (omega arith)
 four-words (p ∷ q ∷ []) a b c d h = absurd (omega arith)
@@ -67,15 +69,18 @@ pub handed-accepted : (a : DigestAnswer) (d : Digest) (old : List ℕ) → lengt
     → HandsOver a 0 old (set (set (set (set old 0 (d .0)) 1 (d .1)) 2 (d .2)) 3 (d .3))
 handed-accepted a d old four e = record { coded = digest-accepted a d e; output = rw e (four-words old _ _ _ _ four) }
 
-pub handed-refused : (a : DigestAnswer) (r : Refusal) (code : ℕ) (old : List ℕ) → a ≡ Refused r → code ≡ refusalCode r → HandsOver a code old old
+pub handed-refused : (a : DigestAnswer) (r : Refusal) (code : ℕ) (old : List ℕ) → a ≡ Refused r
+    → code ≡ refusalCode r → HandsOver a code old old
 handed-refused a r code old e f = record { coded = f ∙ digest-refused a r e; output = rw e }
 
-pub handed-as : (a b : DigestAnswer) (code : ℕ) (old new : List ℕ) → b ≡ a → HandsOver b code old new → HandsOver a code old new
+pub handed-as : (a b : DigestAnswer) (code : ℕ) (old new : List ℕ) → b ≡ a → HandsOver b code old new
+    → HandsOver a code old new
 handed-as a b code old new e t = rw e at t
 
 -- tests t that can only refuse, as those of a call have become where its four words find no room
 module _ (t called : Answer) (same : called ≡ t) (refuses : Refuses t) where
-  pub stopped : (d : Digest) (code : ℕ) (old : List ℕ) → code ≡ answerCode t → HandsOver (digestAfter called d) code old old
+  pub stopped : (d : Digest) (code : ℕ) (old : List ℕ) → code ≡ answerCode t
+      → HandsOver (digestAfter called d) code old old
   stopped d code old e =
       handed-refused (digestAfter called d) (refuses .0) code old
       (ap (λ a. digestAfter a d) (same ∙ refuses .1))
@@ -147,37 +152,45 @@ no-list-refuses file = go (unpackTest file 0) refl
 
 -- so that the answer for such a destination is the one that stops at 8
 module _ (file : List ℕ) (taps size : ℕ) (short : size ≡ 4 → ⊥) where
-  pub unpack-stopped : (code : ℕ) (old : List ℕ) → code ≡ digestCode (unpackAnswer file 0) → HandsOver (unpackCall file taps size) code old old
+  pub unpack-stopped : (code : ℕ) (old : List ℕ) → code ≡ digestCode (unpackAnswer file 0)
+      → HandsOver (unpackCall file taps size) code old old
   unfolding unpackAnswer unpackCall
   unpack-stopped code old e =
+      let d = digest (claimIn file) in
       let r = no-list-refuses file in
-      handed-refused (digestAfter (unpackCallTest file taps size) (digest (claimIn file))) (r .0) code old
-      (ap (λ t. digestAfter t (digest (claimIn file))) (unpack-short file taps size short ∙ r .1))
-      (e ∙ sym (digest-refused (unpackAnswer file 0) (r .0) (ap (λ t. digestAfter t (digest (claimIn file))) (r .1))))
+      handed-refused (digestAfter (unpackCallTest file taps size) d) (r .0) code old
+      (ap (λ t. digestAfter t d) (unpack-short file taps size short ∙ r .1))
+      (e ∙ sym (digest-refused (unpackAnswer file 0) (r .0) (ap (λ t. digestAfter t d) (r .1))))
 
 -- where there is room, answer and content are the operation's
 module _ (size : ℕ) (four : size ≡ 4) where
   pub hash-answer : (T words : List ℕ) → hashAnswer T words ≡ hashCall T words size
   unfolding hashAnswer hashCall
-  hash-answer T words = ap (λ t. digestAfter t (digest (hash T (take 4 words) (drop 4 words)))) (hash-room T words size four)
+  hash-answer T words =
+      ap (λ t. digestAfter t (digest (hash T (take 4 words) (drop 4 words)))) (hash-room T words size four)
 
   pub chain-answer : (T w : List ℕ) → chainAnswer T w ≡ chainCall T w size
   unfolding chainAnswer chainCall
-  chain-answer T w = ap (λ t. digestAfter t (digest (chain T w (tapWordBatches (length w))))) (chain-room T w size four)
+  chain-answer T w =
+      ap (λ t. digestAfter t (digest (chain T w (tapWordBatches (length w))))) (chain-room T w size four)
 
   pub build-answer : (T w : List ℕ) (rows : ℕ) → buildAnswer T w rows ≡ buildCall T w rows size
   unfolding buildAnswer buildCall
-  build-answer T w rows = ap (λ t. digestAfter t (digest (chain T w (tapWordBatches (length w))))) (build-room T w size rows four)
+  build-answer T w rows =
+      ap (λ t. digestAfter t (digest (chain T w (tapWordBatches (length w))))) (build-room T w size rows four)
 
-  pub build-left : (T w old : List ℕ) → buildLeaves T w old ≡ leaves (buildCallTest T w (length old) size) (trace T w (tapWordBatches (length w))) old
+  pub build-left : (T w old : List ℕ) → buildLeaves T w old
+      ≡ leaves (buildCallTest T w (length old) size) (trace T w (tapWordBatches (length w))) old
   unfolding buildLeaves
-  build-left T w old = ap (λ t. leaves t (trace T w (tapWordBatches (length w))) old) (build-room T w size (length old) four)
+  build-left T w old =
+      ap (λ t. leaves t (trace T w (tapWordBatches (length w))) old) (build-room T w size (length old) four)
 
   pub unpack-answer : (file : List ℕ) (taps : ℕ) → unpackAnswer file taps ≡ unpackCall file taps size
   unfolding unpackAnswer unpackCall
   unpack-answer file taps = ap (λ t. digestAfter t (digest (claimIn file))) (unpack-room file taps size four)
 
-  pub unpack-left : (file old : List ℕ) → unpackLeaves file old ≡ leaves (unpackCallTest file (length old) size) (tapsIn file) old
+  pub unpack-left : (file old : List ℕ)
+      → unpackLeaves file old ≡ leaves (unpackCallTest file (length old) size) (tapsIn file) old
   unfolding unpackLeaves
   unpack-left file old = ap (λ t. leaves t (tapsIn file) old) (unpack-room file (length old) size four)
 

@@ -1,8 +1,9 @@
--- How the tests of each operation, and of each call from another language, can end: with which refusals, and what is known there of what was lent.
--- Q is any property of refusals; from what each test of an order leaves to be shown, whatever the tests answer has it.
+-- How the tests of each operation, and of each call from another language, can end: with which refusals, and what is
+-- known there of what was lent. Q is any property of refusals; from what each test of an order leaves to be shown,
+-- whatever the tests answer has it.
 -- Assumes nothing.
-use mathlib.Core.Path.{_≡_, refl, subst}
-use mathlib.Core.Bool.{Bool, _&&_}
+use mathlib.Core.Path.{_≡_, subst}
+use mathlib.Core.Bool.{Bool, true, false, _&&_}
 use mathlib.Core.List.{List}
 use Prim.Native.Nat.{ℕ, zero, suc, _+_, _*_, _<_, _≤_}
 use native.Mathlib.Omega.{arith}
@@ -12,10 +13,13 @@ use lib.ListN.{length}
 use Rattle.field.specs.Field.{P}
 use Rattle.words.specs.Words.{firstBad, canonicalWords}
 use Rattle.words.proofs.Laws.{within, bad-test}
-use Rattle.numbers.specs.Numbers.{IsPermitted, mostBatches, permitted, isTapLength, tapWordBatches, isTraceLength, traceWordBatches}
+use Rattle.numbers.specs.Numbers.{IsPermitted, mostBatches, permitted}
+use Rattle.numbers.specs.Numbers.{isTapLength, tapWordBatches, isTraceLength, traceWordBatches}
 use Rattle.numbers.proofs.Laws.{tap-length-sound, trace-length-sound}
 use Rattle.refusals.specs.declared.Refusal.{Refusal}
-use Rattle.refusals.specs.declared.Refusal.the-variants.{TableLength, TableWord, NoInverse, WrongInverse, TapLength, TapWord, TraceLength, DestinationLength, ClaimWord, TraceWord, Constraint, FileLength, WrongKind, WrongValue}
+use Rattle.refusals.specs.declared.Refusal.the-variants.{TableLength, TableWord, NoInverse, WrongInverse, TapLength}
+use Rattle.refusals.specs.declared.Refusal.the-variants.{TapWord, TraceLength, DestinationLength, ClaimWord, TraceWord}
+use Rattle.refusals.specs.declared.Refusal.the-variants.{Constraint, FileLength, WrongKind, WrongValue}
 use Rattle.refusals.specs.declared.Answer.{Answer}
 use Rattle.refusals.specs.declared.Answer.the-variants.{Accepted}
 use Rattle.refusals.specs.Answers.{unless, after}
@@ -35,20 +39,22 @@ use Rattle.board.specs.Board.{mostFileBatches, fileSize, packTest, countIn, spa
 use Rattle.export.specs.Calls.{hashCallTest, chainCallTest, buildCallTest, unpackCallTest}
 
 -- ---- Prepare: 1, 8, 2, 3
-pub prepare-ends : (Q : Refusal → Type 0) → Q TableLength → Q DestinationLength → ((i : ℕ) → i < 396 → Q (TableWord i)) → Q NoInverse
+pub prepare-ends : (Q : Refusal → Type 0) → Q TableLength → Q DestinationLength
+    → ((i : ℕ) → i < 396 → Q (TableWord i)) → Q NoInverse
     → (raw old new : List ℕ) (a : Answer) → Prepares raw old a new → AnswerEnds Q a
 unfolding rawTest
 prepare-ends Q q1 q8 q2 q3 raw old new a (accepts n e h) = tt
 prepare-ends Q q1 q8 q2 q3 raw old new a (no-inverse e k) = q3
 prepare-ends Q q1 q8 q2 q3 raw old new a (refuses r e) = subst (AnswerEnds Q) e raw-ends
   where
+    bad : eqb (length raw) 396 ≡ true → eqb (firstBad raw) 396 ≡ false → firstBad raw < 396
+    bad e g = omega (arith, within raw, eqb-true (length raw) 396 e, eqb-false (firstBad raw) 396 g)
+
     raw-ends : AnswerEnds Q (rawTest raw (length old))
     raw-ends =
-        unless-ends Q (eqb (length raw) 396) TableLength _ (λ e. q1)
-        (λ e. unless-ends Q (eqb (length old) 540) DestinationLength _ (λ f. q8)
-        (λ f. unless-ends Q (eqb (firstBad raw) 396) (TableWord (firstBad raw)) Accepted
-        (λ g. q2 (firstBad raw) (omega (arith, within raw, eqb-true (length raw) 396 e, eqb-false (firstBad raw) 396 g)))
-        (λ g. tt)))
+        unless-ends Q (eqb (length raw) 396) TableLength _ (λ e. q1) λ e.
+        unless-ends Q (eqb (length old) 540) DestinationLength _ (λ f. q8) λ f.
+        unless-ends Q (eqb (firstBad raw) 396) (TableWord (firstBad raw)) _ (λ g. q2 (firstBad raw) (bad e g)) λ g. tt
 
 -- ---- the table test: 1, 2, 4
 pub record TableCauses (Q : Refusal → Type 0) : Type 0 where
@@ -69,7 +75,9 @@ module _ (Q : Refusal → Type 0) (causes : TableCauses Q) where
   -- ---- Hash: 1, 2, 4, 6; from another language 1, 2, 4, 8, 6
   module _ (T words : List ℕ) (q6 : (i : ℕ) → i < length words → Q (TapWord i)) where
     words-end : AnswerEnds Q (unless (canonicalWords words) (TapWord (firstBad words)) Accepted)
-    words-end = unless-ends Q (canonicalWords words) (TapWord (firstBad words)) Accepted (λ e. q6 (firstBad words) (bad-test words e)) (λ e. tt)
+    words-end =
+        unless-ends Q (canonicalWords words) (TapWord (firstBad words)) _
+        (λ e. q6 (firstBad words) (bad-test words e)) λ e. tt
 
     pub hash-ends : AnswerEnds Q (hashTest T words)
     unfolding hashTest
@@ -78,23 +86,27 @@ module _ (Q : Refusal → Type 0) (causes : TableCauses Q) where
     pub hash-call-ends : (size : ℕ) → Q DestinationLength → AnswerEnds Q (hashCallTest T words size)
     unfolding hashCallTest
     hash-call-ends size q8 =
-        after-ends Q (tableTest T) _ (table-ends T)
-        (λ e. unless-ends Q (eqb size 4) DestinationLength _ (λ f. q8) (λ f. words-end))
+        after-ends Q (tableTest T) _ (table-ends T) λ e.
+        unless-ends Q (eqb size 4) DestinationLength _ (λ f. q8) λ f. words-end
 
   -- ---- Chain: 1, 2, 4, 5, 6, from another language 1, 2, 4, 5, 8, 6; and Build: 1, 2, 4, 5, 8, 6
-  module _ (T w : List ℕ) (q5 : Q TapLength) (q6 : (k : ℕ) → length w ≡ 12 * k + 4 → IsPermitted k → (i : ℕ) → i < length w → Q (TapWord i)) where
+  module _ (T w : List ℕ) (q5 : Q TapLength)
+      (q6 : (k : ℕ) → length w ≡ 12 * k + 4 → IsPermitted k → (i : ℕ) → i < length w → Q (TapWord i)) where
     taps-end : (rest : Answer) → (((i : ℕ) → i < length w → Q (TapWord i)) → AnswerEnds Q rest)
         → AnswerEnds Q (unless (isTapLength mostBatches (length w)) TapLength rest)
     taps-end rest n =
-        unless-ends Q (isTapLength mostBatches (length w)) TapLength rest (λ e. q5)
-        (λ e. (let s = tap-length-sound mostBatches (length w) e in n (q6 (tapWordBatches (length w)) (s .0) (s .1))))
+        unless-ends Q (isTapLength mostBatches (length w)) TapLength rest (λ e. q5) λ e.
+        let s = tap-length-sound mostBatches (length w) e in
+        n (q6 (tapWordBatches (length w)) (s .0) (s .1))
 
     pub chain-ends : AnswerEnds Q (chainTest T w)
     unfolding chainTest
     chain-ends = after-ends Q (tableTest T) _ (table-ends T) (λ e. taps-end _ (λ q. words-end T w q))
 
     room-ends : Q DestinationLength → (room : Bool)
-        → AnswerEnds Q (unless (isTapLength mostBatches (length w)) TapLength (unless room DestinationLength (unless (canonicalWords w) (TapWord (firstBad w)) Accepted)))
+        → AnswerEnds Q (unless (isTapLength mostBatches (length w)) TapLength
+        (unless room DestinationLength
+        (unless (canonicalWords w) (TapWord (firstBad w)) Accepted)))
     room-ends q8 room = taps-end _ (λ q. unless-ends Q room DestinationLength _ (λ f. q8) (λ f. words-end T w q))
 
     pub chain-call-ends : (size : ℕ) → Q DestinationLength → AnswerEnds Q (chainCallTest T w size)
@@ -103,17 +115,21 @@ module _ (Q : Refusal → Type 0) (causes : TableCauses Q) where
 
     pub build-ends : (rows : ℕ) → Q DestinationLength → AnswerEnds Q (buildTest T w rows)
     unfolding buildTest
-    build-ends rows q8 = after-ends Q (tableTest T) _ (table-ends T) (λ e. room-ends q8 (eqb rows (384 * tapWordBatches (length w))))
+    build-ends rows q8 =
+        after-ends Q (tableTest T) _ (table-ends T) λ e.
+        room-ends q8 (eqb rows (384 * tapWordBatches (length w)))
 
     pub build-call-ends : (rows size : ℕ) → Q DestinationLength → AnswerEnds Q (buildCallTest T w rows size)
     unfolding buildCallTest
     build-call-ends rows size q8 =
-        after-ends Q (tableTest T) _ (table-ends T) (λ e. room-ends q8 (eqb size 4 && eqb rows (384 * tapWordBatches (length w))))
+        after-ends Q (tableTest T) _ (table-ends T) λ e.
+        room-ends q8 (eqb size 4 && eqb rows (384 * tapWordBatches (length w)))
 
   -- ---- Check: 1, 2, 4, 7, 9, 10, 11; and Read-off: 1, 2, 4, 7, 8, 9, 10, 11
   module _ (T t claim : List ℕ) (q7 : Q TraceLength) (q9 : (i : ℕ) → i < length claim → Q (ClaimWord i))
       (q10 : (k : ℕ) → length t ≡ 384 * k → IsPermitted k → (i : ℕ) → i < length t → Q (TraceWord i))
-      (q11 : (k : ℕ) → IsPermitted k → (i c n : ℕ) → IsFirstFailing T t claim (tests k) i c n → Q (Constraint (record { 0 = i }) c n)) where
+      (q11 : (k : ℕ) → IsPermitted k → (i c n : ℕ) → IsFirstFailing T t claim (tests k) i c n
+      → Q (Constraint (record { 0 = i }) c n)) where
     constraints-end : (k : ℕ) → IsPermitted k → AnswerEnds Q (constraintTest T t claim k)
     unfolding constraintTest
     constraints-end k p = go (walk T t claim (tests k) 0) (walk-ends T t claim (tests k) 0)
@@ -124,73 +140,80 @@ module _ (Q : Refusal → Type 0) (causes : TableCauses Q) where
             let n : place ≡ m = omega arith in
             subst (λ x. Q (Constraint (record { 0 = i }) c x)) n (q11 k p i c place f)
 
+    -- the tests from the claim's words on
     judged-end : (k : ℕ) → length t ≡ 384 * k → IsPermitted k
-        → AnswerEnds Q (unless (canonicalWords claim) (ClaimWord (firstBad claim)) (unless (canonicalWords t) (TraceWord (firstBad t)) (constraintTest T t claim k)))
+        → AnswerEnds Q (unless (canonicalWords claim) (ClaimWord (firstBad claim))
+        (unless (canonicalWords t) (TraceWord (firstBad t))
+        (constraintTest T t claim k)))
     judged-end k s p =
-        unless-ends Q (canonicalWords claim) (ClaimWord (firstBad claim)) _ (λ e. q9 (firstBad claim) (bad-test claim e))
-        (λ e. unless-ends Q (canonicalWords t) (TraceWord (firstBad t)) _ (λ f. q10 k s p (firstBad t) (bad-test t f)) (λ f. constraints-end k p))
+        unless-ends Q (canonicalWords claim) (ClaimWord (firstBad claim)) _
+        (λ e. q9 (firstBad claim) (bad-test claim e)) λ e.
+        unless-ends Q (canonicalWords t) (TraceWord (firstBad t)) _
+        (λ f. q10 k s p (firstBad t) (bad-test t f)) λ f.
+        constraints-end k p
 
-    trace-ends : (rest : Answer) → ((k : ℕ) → k ≡ traceWordBatches (length t) → length t ≡ 384 * k → IsPermitted k → AnswerEnds Q rest)
-        → AnswerEnds Q (unless (isTraceLength mostBatches (length t)) TraceLength rest)
+    -- the batches of a trace whose length passes
+    abbrev k : ℕ
+    k = traceWordBatches (length t)
+
+    trace-ends : (rest : Answer) → (length t ≡ 384 * k → IsPermitted k → AnswerEnds Q rest)
+        → AnswerEnds Q (after (tableTest T) (unless (isTraceLength mostBatches (length t)) TraceLength rest))
     trace-ends rest n =
-        unless-ends Q (isTraceLength mostBatches (length t)) TraceLength rest (λ e. q7)
-        (λ e. (let s = trace-length-sound mostBatches (length t) e in n (traceWordBatches (length t)) refl (s .0) (s .1)))
+        after-ends Q (tableTest T) _ (table-ends T) λ e.
+        unless-ends Q (isTraceLength mostBatches (length t)) TraceLength rest (λ f. q7) λ f.
+        let s = trace-length-sound mostBatches (length t) f in
+        n (s .0) (s .1)
 
     pub check-ends : AnswerEnds Q (checkTest T t claim)
     unfolding checkTest
-    check-ends = after-ends Q (tableTest T) _ (table-ends T) (λ e. trace-ends _ (λ k f s p. subst (λ n. AnswerEnds Q (judging n)) f (judged-end k s p)))
-      where
-        judging : ℕ → Answer
-        judging n = unless (canonicalWords claim) (ClaimWord (firstBad claim)) (unless (canonicalWords t) (TraceWord (firstBad t)) (constraintTest T t claim n))
+    check-ends = trace-ends _ λ s p. judged-end k s p
 
     pub read-off-ends : (size : ℕ) → Q DestinationLength → AnswerEnds Q (readOffTest T t claim size)
     unfolding readOffTest
     read-off-ends size q8 =
-        after-ends Q (tableTest T) _ (table-ends T)
-        (λ e. trace-ends _ (λ k f s p. subst (λ n. AnswerEnds Q (judging n)) f
-        (unless-ends Q (eqb size (12 * k + 4)) DestinationLength _ (λ g. q8) (λ g. judged-end k s p))))
-      where
-        judging : ℕ → Answer
-        judging n =
-            unless (eqb size (12 * n + 4)) DestinationLength
-            (unless (canonicalWords claim) (ClaimWord (firstBad claim)) (unless (canonicalWords t) (TraceWord (firstBad t)) (constraintTest T t claim n)))
+        trace-ends _ λ s p.
+        unless-ends Q (eqb size (12 * k + 4)) DestinationLength _ (λ g. q8) λ g. judged-end k s p
 
 -- ---- Pack: 5, 8, 9, 6
 pub pack-ends : (Q : Refusal → Type 0) (taps claim : List ℕ) (size : ℕ) → Q TapLength → Q DestinationLength
-    → ((i : ℕ) → i < length claim → Q (ClaimWord i)) → ((k : ℕ) → length taps ≡ 12 * k + 4 → IsPermitted k → (i : ℕ) → i < length taps → Q (TapWord i))
+    → ((i : ℕ) → i < length claim → Q (ClaimWord i))
+    → ((k : ℕ) → length taps ≡ 12 * k + 4 → IsPermitted k → (i : ℕ) → i < length taps → Q (TapWord i))
     → AnswerEnds Q (packTest taps claim size)
 unfolding packTest
 pack-ends Q taps claim size q5 q8 q9 q6 =
-    unless-ends Q (isTapLength mostFileBatches (length taps)) TapLength _ (λ e. q5)
-    (λ e. unless-ends Q (eqb size (fileSize (tapWordBatches (length taps)))) DestinationLength _ (λ f. q8)
-    (λ f. unless-ends Q (canonicalWords claim) (ClaimWord (firstBad claim)) _ (λ g. q9 (firstBad claim) (bad-test claim g))
-    (λ g. unless-ends Q (canonicalWords taps) (TapWord (firstBad taps)) Accepted
-    (λ h. (let s = tap-length-sound mostFileBatches (length taps) e in q6 (tapWordBatches (length taps)) (s .0) (s .1) (firstBad taps) (bad-test taps h)))
-    (λ h. tt))))
+    let k : ℕ = tapWordBatches (length taps) in
+    unless-ends Q (isTapLength mostFileBatches (length taps)) TapLength _ (λ e. q5) λ e.
+    let s = tap-length-sound mostFileBatches (length taps) e in
+    unless-ends Q (eqb size (fileSize k)) DestinationLength _ (λ f. q8) λ f.
+    unless-ends Q (canonicalWords claim) (ClaimWord (firstBad claim)) _
+    (λ g. q9 (firstBad claim) (bad-test claim g)) λ g.
+    unless-ends Q (canonicalWords taps) (TapWord (firstBad taps)) _
+    (λ h. q6 k (s .0) (s .1) (firstBad taps) (bad-test taps h)) λ h. tt
 
 -- ---- Unpack: 12 (below 4), word 0's 13 then 14, 12, 8, then each element's three kinds and its value
 module _ (Q : Refusal → Type 0) (file : List ℕ) (q12 : Q FileLength) (q8 : Q DestinationLength)
-    (q13 : (j : ℕ) → j < 36 * batchesIn file + 25 → Q (WrongKind j)) (q14 : (j : ℕ) → j < 36 * batchesIn file + 25 → Q (WrongValue j)) where
+    (q13 : (j : ℕ) → j < 36 * batchesIn file + 25 → Q (WrongKind j))
+    (q14 : (j : ℕ) → j < 36 * batchesIn file + 25 → Q (WrongValue j)) where
   element-ends : (j : ℕ) → j + 3 ≤ 36 * batchesIn file + 25 → AnswerEnds Q (elementTest file j)
   unfolding elementTest
   element-ends j h =
-      unless-ends Q (eqb (kindOf (wordAt file j)) 1) (WrongKind j) _ (λ e. q13 j (omega arith))
-      (λ e. unless-ends Q (eqb (kindOf (wordAt file (j + 1))) 2) (WrongKind (j + 1)) _ (λ f. q13 (j + 1) (omega arith))
-      (λ f. unless-ends Q (eqb (kindOf (wordAt file (j + 2))) 3) (WrongKind (j + 2)) _ (λ g. q13 (j + 2) (omega arith))
-      (λ g. unless-ends Q (ltb (elementAt file j) P) (WrongValue j) Accepted (λ k. q14 j (omega arith)) (λ k. tt))))
+      unless-ends Q (eqb (kindOf (wordAt file j)) 1) (WrongKind j) _ (λ e. q13 j (omega arith)) λ e.
+      unless-ends Q (eqb (kindOf (wordAt file (j + 1))) 2) (WrongKind (j + 1)) _ (λ f. q13 (j + 1) (omega arith)) λ f.
+      unless-ends Q (eqb (kindOf (wordAt file (j + 2))) 3) (WrongKind (j + 2)) _ (λ g. q13 (j + 2) (omega arith)) λ g.
+      unless-ends Q (ltb (elementAt file j) P) (WrongValue j) _ (λ k. q14 j (omega arith)) λ k. tt
 
   elements-end : (j n : ℕ) → j + 3 * n ≤ 36 * batchesIn file + 25 → AnswerEnds Q (elementsTest file j n)
   unfolding elementsTest
   elements-end j zero h = tt
   elements-end j (suc n) h =
-      after-ends Q (elementTest file j) (elementsTest file (j + 3) n) (element-ends j (omega arith)) (λ e. elements-end (j + 3) n (omega arith))
+      after-ends Q (elementTest file j) _ (element-ends j (omega arith)) λ e. elements-end (j + 3) n (omega arith)
 
   count-ends : (w : ℕ) → AnswerEnds Q (countTest w)
   unfolding countTest
   count-ends w =
-      unless-ends Q (eqb (kindOf w) 0) (WrongKind 0) _ (λ e. q13 0 (omega arith))
-      (λ e. unless-ends Q (eqb (spareIn w) 0) (WrongValue 0) _ (λ f. q14 0 (omega arith))
-      (λ f. unless-ends Q (permitted mostFileBatches (countIn w)) (WrongValue 0) Accepted (λ g. q14 0 (omega arith)) (λ g. tt)))
+      unless-ends Q (eqb (kindOf w) 0) (WrongKind 0) _ (λ e. q13 0 (omega arith)) λ e.
+      unless-ends Q (eqb (spareIn w) 0) (WrongValue 0) _ (λ f. q14 0 (omega arith)) λ f.
+      unless-ends Q (permitted mostFileBatches (countIn w)) (WrongValue 0) _ (λ g. q14 0 (omega arith)) λ g. tt
 
   -- room is what is tested at 8
   read-ends : (room : Bool)
@@ -200,10 +223,11 @@ module _ (Q : Refusal → Type 0) (file : List ℕ) (q12 : Q FileLength) (q8 : Q
       (unless room DestinationLength
       (elementsTest file 1 (12 * batchesIn file + 8))))))
   read-ends room =
-      unless-ends Q (leb 4 (length file)) FileLength _ (λ e. q12)
-      (λ e. after-ends Q (countTest (wordAt file 0)) _ (count-ends (wordAt file 0))
-      (λ f. unless-ends Q (eqb (length file) (fileSize (batchesIn file))) FileLength _ (λ g. q12)
-      (λ g. unless-ends Q room DestinationLength _ (λ h. q8) (λ h. elements-end 1 (12 * batchesIn file + 8) (omega arith)))))
+      unless-ends Q (leb 4 (length file)) FileLength _ (λ e. q12) λ e.
+      after-ends Q (countTest (wordAt file 0)) _ (count-ends (wordAt file 0)) λ f.
+      unless-ends Q (eqb (length file) (fileSize (batchesIn file))) FileLength _ (λ g. q12) λ g.
+      unless-ends Q room DestinationLength _ (λ h. q8) λ h.
+      elements-end 1 (12 * batchesIn file + 8) (omega arith)
 
   pub unpack-ends : (size : ℕ) → AnswerEnds Q (unpackTest file size)
   unfolding unpackTest

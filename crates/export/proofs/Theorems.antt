@@ -28,20 +28,34 @@ use Rattle.export.proofs.Endings.{TableCauses}
 alone-bits : (n : ℕ) → n < 2 ^ 6 → InBits (alone n)
 alone-bits n h = record { number = h; constraint = lit< tt; row = lit< tt; value = lit< tt }
 
+one : InBits (alone 1)
+one = alone-bits 1 (lit< tt)
+
+five : InBits (alone 5)
+five = alone-bits 5 (lit< tt)
+
+seven : InBits (alone 7)
+seven = alone-bits 7 (lit< tt)
+
+eight : InBits (alone 8)
+eight = alone-bits 8 (lit< tt)
+
 indexed-bits : (n i : ℕ) → n < 2 ^ 6 → i < 2 ^ 28 → InBits (indexed n i)
 indexed-bits n i h l = record { number = h; constraint = lit< tt; row = lit< tt; value = l }
 
 table-bits : TableCauses RefusalInBits
 table-bits = record {
-  by-length = alone-bits 1 (lit< tt);
+  by-length = one;
   by-word = λ i h. indexed-bits 2 i (lit< tt) (omega arith);
   by-cell = λ c h. indexed-bits 4 c (lit< tt) (omega arith);
 }
 
-taps-bits : (w : List ℕ) (k : ℕ) → length w ≡ 12 * k + 4 → IsPermitted k → (i : ℕ) → i < length w → InBits (indexed 6 i)
+taps-bits : (w : List ℕ) (k : ℕ) → length w ≡ 12 * k + 4 → IsPermitted k → (i : ℕ) → i < length w
+    → InBits (indexed 6 i)
 taps-bits w k s p i h = indexed-bits 6 i (lit< tt) (omega (arith, p .high))
 
-trace-bits : (t : List ℕ) (k : ℕ) → length t ≡ 384 * k → IsPermitted k → (i : ℕ) → i < length t → InBits (indexed 10 i)
+trace-bits : (t : List ℕ) (k : ℕ) → length t ≡ 384 * k → IsPermitted k → (i : ℕ) → i < length t
+    → InBits (indexed 10 i)
 trace-bits t k s p i h = indexed-bits 10 i (lit< tt) (omega (arith, p .high))
 
 claim-bits : (claim : List ℕ) → length claim ≡ 4 → (i : ℕ) → i < length claim → InBits (indexed 9 i)
@@ -55,7 +69,8 @@ file-bits file n j l h = indexed-bits n j l (omega arith)
 failing-bits : (T t claim : List ℕ) (k : ℕ) → IsPermitted k → (i c n : ℕ) → IsFirstFailing T t claim (tests k) i c n
     → InBits (record { number = 11; values = 3; row = i; constraint = c; value = n })
 failing-bits T t claim k p i c n f =
-    let in-list = test-list k x .0 (subst (λ l. List·Memᴰ x l) (sym (f .order)) (Memᴰ·append-right (f .before) (List·Memᴰ.List·Memᴰ·head refl))) in
+    let among = Memᴰ·append-right (f .before) (List·Memᴰ.List·Memᴰ·head refl) in
+    let in-list = test-list k x .0 (subst (List·Memᴰ x) (sym (f .order)) among) in
     let count = ap length (f .order) ∙ length-append (f .before) (x ∷ f .after) in
     record {
       number = lit< tt;
@@ -70,37 +85,41 @@ failing-bits T t claim k p i c n f =
 -- ---- so nothing of an answer is lost
 pub prepare-bits : (raw old new : List ℕ) (a : Answer) → Prepares raw old a new → AnswerEnds RefusalInBits a
 prepare-bits raw old new a h =
-    ends.prepare-ends RefusalInBits (alone-bits 1 (lit< tt)) (alone-bits 8 (lit< tt)) (λ i l. indexed-bits 2 i (lit< tt) (omega arith)) (alone-bits 3 (lit< tt))
+    ends.prepare-ends RefusalInBits one eight (λ i l. indexed-bits 2 i (lit< tt) (omega arith)) (alone-bits 3 (lit< tt))
     raw old new a h
 
-pub hash-bits : (T words : List ℕ) (size : ℕ) → length words ≡ 8 → AnswerEnds RefusalInBits (hashCallTest T words size)
+pub hash-bits : (T words : List ℕ) (size : ℕ) → length words ≡ 8
+    → AnswerEnds RefusalInBits (hashCallTest T words size)
 hash-bits T words size h =
-    ends.hash-call-ends RefusalInBits table-bits T words (λ i l. indexed-bits 6 i (lit< tt) (omega arith)) size (alone-bits 8 (lit< tt))
+    ends.hash-call-ends RefusalInBits table-bits T words (λ i l. indexed-bits 6 i (lit< tt) (omega arith)) size eight
 
 pub chain-bits : (T w : List ℕ) (size : ℕ) → AnswerEnds RefusalInBits (chainCallTest T w size)
-chain-bits T w size = ends.chain-call-ends RefusalInBits table-bits T w (alone-bits 5 (lit< tt)) (taps-bits w) size (alone-bits 8 (lit< tt))
+chain-bits T w size = ends.chain-call-ends RefusalInBits table-bits T w five (taps-bits w) size eight
 
 pub build-bits : (T w : List ℕ) (rows size : ℕ) → AnswerEnds RefusalInBits (buildCallTest T w rows size)
-build-bits T w rows size = ends.build-call-ends RefusalInBits table-bits T w (alone-bits 5 (lit< tt)) (taps-bits w) rows size (alone-bits 8 (lit< tt))
+build-bits T w rows size = ends.build-call-ends RefusalInBits table-bits T w five (taps-bits w) rows size eight
 
 module _ (T t claim : List ℕ) (four : length claim ≡ 4) where
   pub check-bits : AnswerEnds RefusalInBits (checkTest T t claim)
-  check-bits = ends.check-ends RefusalInBits table-bits T t claim (alone-bits 7 (lit< tt)) (claim-bits claim four) (trace-bits t) (failing-bits T t claim)
+  check-bits =
+      ends.check-ends RefusalInBits table-bits T t claim seven (claim-bits claim four) (trace-bits t)
+      (failing-bits T t claim)
 
   pub read-off-bits : (size : ℕ) → AnswerEnds RefusalInBits (readOffTest T t claim size)
   read-off-bits size =
-      ends.read-off-ends RefusalInBits table-bits T t claim (alone-bits 7 (lit< tt)) (claim-bits claim four) (trace-bits t) (failing-bits T t claim)
-      size (alone-bits 8 (lit< tt))
+      ends.read-off-ends RefusalInBits table-bits T t claim seven (claim-bits claim four) (trace-bits t)
+      (failing-bits T t claim) size eight
 
 -- 372 × k tests, of an acceptance
 pub tests-bits : (k : ℕ) → IsPermitted k → length (tests k) < 2 ^ 28
 tests-bits k p = omega (arith, length-tests k, p .high)
 
-pub pack-bits : (taps claim : List ℕ) (size : ℕ) → length claim ≡ 4 → AnswerEnds RefusalInBits (packTest taps claim size)
+pub pack-bits : (taps claim : List ℕ) (size : ℕ) → length claim ≡ 4
+    → AnswerEnds RefusalInBits (packTest taps claim size)
 pack-bits taps claim size four =
-    ends.pack-ends RefusalInBits taps claim size (alone-bits 5 (lit< tt)) (alone-bits 8 (lit< tt)) (claim-bits claim four) (taps-bits taps)
+    ends.pack-ends RefusalInBits taps claim size five eight (claim-bits claim four) (taps-bits taps)
 
 pub unpack-bits : (file : List ℕ) (taps size : ℕ) → AnswerEnds RefusalInBits (unpackCallTest file taps size)
 unpack-bits file taps size =
-    ends.unpack-call-ends RefusalInBits file (alone-bits 12 (lit< tt)) (alone-bits 8 (lit< tt))
+    ends.unpack-call-ends RefusalInBits file (alone-bits 12 (lit< tt)) eight
     (λ j h. file-bits file 13 j (lit< tt) h) (λ j h. file-bits file 14 j (lit< tt) h) taps size

@@ -10,7 +10,7 @@ use Prim.Native.Nat.{ℕ, _+_, _*_}
 use lib.Dec.{eqb, leb}
 use lib.ListN.{length, take, drop}
 use Rattle.words.specs.Words.{firstBad, canonicalWords}
-use Rattle.numbers.specs.Numbers.{mostBatches, isTapLength, tapWordBatches}
+use Rattle.numbers.specs.Numbers.{tapWords, traceWords, mostBatches, isTapLength, tapWordBatches}
 use Rattle.refusals.specs.Refusals.{digest, digestWords}
 use Rattle.refusals.specs.Answers.{unless, after, digestAfter, leaves}
 use Rattle.refusals.specs.declared.Refusal.the-variants.{TapLength, TapWord, DestinationLength, FileLength}
@@ -24,7 +24,7 @@ use Rattle.trace.specs.Trace.{trace}
 use Rattle.readoff.specs.Answers.{readOffAnswer, readOffLeaves}
 use Rattle.elements.specs.Words.{wordAt}
 use Rattle.elements.specs.Elements.{elementsTest}
-use Rattle.board.specs.Board.{fileSize, packTest, packLeaves, batchesIn, claimIn, tapsIn, countTest}
+use Rattle.board.specs.Board.{fileSize, elementCount, packTest, packLeaves, batchesIn, claimIn, tapsIn, countTest}
 use Rattle.export.specs.Code.{answerCode, digestCode, testsCode}
 
 -- ---- the number of these calls: raised where a call that there was takes other parameters or lengths
@@ -91,7 +91,7 @@ unfoldable pub buildCallTest : List ℕ → List ℕ → ℕ → ℕ → Answer
 buildCallTest T w rows size =
     after (tableTest T)
     (unless (isTapLength mostBatches (length w)) TapLength
-    (unless (eqb size 4 && eqb rows (384 * tapWordBatches (length w))) DestinationLength
+    (unless (eqb size 4 && eqb rows (traceWords (tapWordBatches (length w)))) DestinationLength
     (unless (canonicalWords w) (TapWord (firstBad w))
     answer.Accepted)))
 
@@ -119,8 +119,8 @@ unpackCallTest file taps size =
     unless (leb 4 (length file)) FileLength
     (after (countTest (wordAt file 0))
     (unless (eqb (length file) (fileSize (batchesIn file))) FileLength
-    (unless (eqb size 4 && eqb taps (12 * batchesIn file + 4)) DestinationLength
-    (elementsTest file 1 (12 * batchesIn file + 8)))))
+    (unless (eqb size 4 && eqb taps (tapWords (batchesIn file))) DestinationLength
+    (elementsTest file 1 (elementCount (batchesIn file))))))
 
 unfoldable pub unpackCall : List ℕ → ℕ → ℕ → DigestAnswer
 unpackCall file taps size = digestAfter (unpackCallTest file taps size) (digest (claimIn file))

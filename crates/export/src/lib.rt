@@ -1,11 +1,12 @@
-// The library for other languages: each operation over numbers and slices, its answer in one returned number (specs/Code.antt).
-// A slice is passed as a pointer and a length. A refusal alters no lent buffer here either.
+// The library for other languages: each operation over numbers and slices, its answer in one returned number
+// (specs/Code.antt). A slice is passed as a pointer and a length. A refusal alters no lent buffer here either.
 ghost use mathlib.Core.Path.{_≡_};
 ghost use mathlib.Core.List.{[], _∷_};
 ghost use lib.ListN.{length};
 ghost use Rattle.checker.specs.Answers.{checkAnswer};
 ghost use Rattle.export.specs.Code.{code, refusalCode, answerCode, digestCode, testsCode};
-ghost use Rattle.export.specs.Calls.{interface, HandsOver, PrepareCall, hashNoRoom, hashCall, chainNoRoom, chainCall, BuildCall, ReadOffCall, PackCall, UnpackCall};
+ghost use Rattle.export.specs.Calls.{interface, HandsOver, PrepareCall, hashNoRoom, hashCall, chainNoRoom};
+ghost use Rattle.export.specs.Calls.{chainCall, BuildCall, ReadOffCall, PackCall, UnpackCall};
 use numbers::BatchCount;
 use numbers::MOST_BATCHES;
 use refusals::Answer;
@@ -112,9 +113,9 @@ pub extern "C" fn lemoncolumn_prepare(raw: &[u64], destination: &mut [u64]) -> u
 fn hash_no_room(table: &[u64]) -> Answer
     ensures { λ r. ⌜ r ≡ hashNoRoom (now (table .entry)) ⌝ }
 {
-    let tested = table::test(table);
-    let Answer::Accepted = tested else {
-        return tested;
+    let of_table = table::test(table);
+    let Answer::Accepted = of_table else {
+        return of_table;
     };
     Answer::Refused(Refusal::DestinationLength)
 }
@@ -133,7 +134,9 @@ pub extern "C" fn lemoncolumn_hash(
     w7: u64,
     output: &mut [u64],
 ) -> u64
-    ensures { λ r. ⌜ HandsOver (hashCall (now (table .entry)) (w0 ∷ w1 ∷ w2 ∷ w3 ∷ w4 ∷ w5 ∷ w6 ∷ w7 ∷ []) (length (now (output .entry)))) r (now (output .entry)) (now (output .exit)) ⌝ }
+    ensures { λ r. ⌜ HandsOver
+        (hashCall (now (table .entry)) (w0 ∷ w1 ∷ w2 ∷ w3 ∷ w4 ∷ w5 ∷ w6 ∷ w7 ∷ []) (length (now (output .entry)))) r
+        (now (output .entry)) (now (output .exit)) ⌝ }
 {
     if output.len() != 4 {
         return answer_code(hash_no_room(table));
@@ -145,9 +148,9 @@ pub extern "C" fn lemoncolumn_hash(
 fn chain_no_room(table: &[u64], taps: &[u64]) -> Answer
     ensures { λ r. ⌜ r ≡ chainNoRoom (now (table .entry)) (now (taps .entry)) ⌝ }
 {
-    let tested = table::test(table);
-    let Answer::Accepted = tested else {
-        return tested;
+    let of_table = table::test(table);
+    let Answer::Accepted = of_table else {
+        return of_table;
     };
     let BatchCount::Permitted(_) = numbers::tap_batches(MOST_BATCHES, taps.len()) else {
         return Answer::Refused(Refusal::TapLength);
@@ -158,7 +161,8 @@ fn chain_no_room(table: &[u64], taps: &[u64]) -> Answer
 // Chain: 1, 2, 4, 5, 8, 6.
 #[no_mangle]
 pub extern "C" fn lemoncolumn_chain(table: &[u64], taps: &[u64], output: &mut [u64]) -> u64
-    ensures { λ r. ⌜ HandsOver (chainCall (now (table .entry)) (now (taps .entry)) (length (now (output .entry)))) r (now (output .entry)) (now (output .exit)) ⌝ }
+    ensures { λ r. ⌜ HandsOver (chainCall (now (table .entry)) (now (taps .entry)) (length (now (output .entry)))) r
+        (now (output .entry)) (now (output .exit)) ⌝ }
 {
     if output.len() != 4 {
         return answer_code(chain_no_room(table, taps));
@@ -174,7 +178,8 @@ pub extern "C" fn lemoncolumn_build(
     trace: &mut [u64],
     output: &mut [u64],
 ) -> u64
-    ensures { λ r. ⌜ BuildCall (now (table .entry)) (now (taps .entry)) r (now (trace .entry)) (now (trace .exit)) (now (output .entry)) (now (output .exit)) ⌝ }
+    ensures { λ r. ⌜ BuildCall (now (table .entry)) (now (taps .entry)) r (now (trace .entry)) (now (trace .exit))
+        (now (output .entry)) (now (output .exit)) ⌝ }
 {
     if output.len() != 4 {
         return answer_code(chain_no_room(table, taps));
@@ -208,7 +213,8 @@ pub extern "C" fn lemoncolumn_read_off(
     c3: u64,
     taps: &mut [u64],
 ) -> u64
-    ensures { λ r. ⌜ ReadOffCall (now (table .entry)) (now (trace .entry)) (c0 ∷ c1 ∷ c2 ∷ c3 ∷ []) r (now (taps .entry)) (now (taps .exit)) ⌝ }
+    ensures { λ r. ⌜ ReadOffCall (now (table .entry)) (now (trace .entry)) (c0 ∷ c1 ∷ c2 ∷ c3 ∷ []) r
+        (now (taps .entry)) (now (taps .exit)) ⌝ }
 {
     tests_code(readoff::read_off(table, trace, [c0, c1, c2, c3], taps))
 }
@@ -231,7 +237,8 @@ pub extern "C" fn lemoncolumn_pack(
 // Unpack: 12 (below 4), word 0's 13 then 14, 12, 8, then each element's three kinds and its value.
 #[no_mangle]
 pub extern "C" fn lemoncolumn_unpack(file: &[u8], taps: &mut [u64], claim: &mut [u64]) -> u64
-    ensures { λ r. ⌜ UnpackCall (now (file .entry)) r (now (taps .entry)) (now (taps .exit)) (now (claim .entry)) (now (claim .exit)) ⌝ }
+    ensures { λ r. ⌜ UnpackCall (now (file .entry)) r (now (taps .entry)) (now (taps .exit))
+        (now (claim .entry)) (now (claim .exit)) ⌝ }
 {
     if claim.len() != 4 {
         return digest_code(board::unpack(file, &mut taps[..0]));

@@ -8,8 +8,8 @@ use native.Mathlib.Omega.{arith}
 use lib.Dec.{lit<}
 use lib.Pow.{shr-lt}
 use Rattle.field.specs.Field.{P, mul}
-use Rattle.field.specs.Montgomery.{Short, element, reduceWord, timesWord, enterWord}
-use Rattle.field.specs.Montgomery.{unitInverse, wordInverse, unitSquare}
+use Rattle.field.specs.MontgomeryHelpers.{Short, divided, reduceWord, timesWord, enterWord}
+use Rattle.field.specs.MontgomeryHelpers.{unitInverse, wordInverse, unitSquare}
 use Rattle.field.proofs.Modular.{mul-mod-l, mul-mod-r}
 
 -- numbers that differ by multiples of m
@@ -25,14 +25,14 @@ module _ (p k j : ℕ) (inv : (k * j) % p ≡ 1) where
       ∙ ap (λ z. (a * z) % p) inv
       ∙ ap (λ z. z % p) (mul-one a)
 
-  divided : (r t : ℕ) → (r * k) % p ≡ t % p → r % p ≡ (t * j) % p
-  divided r t e = sym (undo r) ∙ sym (mul-mod-l p (r * k) j) ∙ ap (λ z. (z * j) % p) e ∙ mul-mod-l p t j
+  quotient : (r t : ℕ) → (r * k) % p ≡ t % p → r % p ≡ (t * j) % p
+  quotient r t e = sym (undo r) ∙ sym (mul-mod-l p (r * k) j) ∙ ap (λ z. (z * j) % p) e ∙ mul-mod-l p t j
 
   -- r is a b / k: then r / k is a / k times b / k
   product-form : (a b r : ℕ) → (r * k) % p ≡ (a * b) % p → (r * j) % p ≡ ((a * j) % p * ((b * j) % p)) % p
   product-form a b r e =
       sym (mul-mod-l p r j)
-      ∙ ap (λ z. (z * j) % p) (divided r (a * b) e)
+      ∙ ap (λ z. (z * j) % p) (quotient r (a * b) e)
       ∙ mul-mod-l p (a * b * j) j
       ∙ ap (λ z. z % p) s
       ∙ sym (mul-mod-l p (a * j) (b * j))
@@ -87,13 +87,13 @@ split l f u h ef eu =
     turned x y = omega arith
 
 pub reduce-law : (h l f u r : ℕ) → l < 2 ^ 64 → f ≡ l * wordInverse % 2 ^ 64 → u ≡ f * P / 2 ^ 64 → r + u ≡ h + P
-    → r % P ≡ element (h * 2 ^ 64 + l)
+    → r % P ≡ divided (h * 2 ^ 64 + l)
 reduce-law h l f u r hl ef eu er =
-    divided P (2 ^ 64) unitInverse inverse-of-unit r (h * 2 ^ 64 + l)
+    quotient P (2 ^ 64) unitInverse inverse-of-unit r (h * 2 ^ 64 + l)
     (reduced (h * 2 ^ 64 + l) h l f u r refl (split l f u hl ef eu) er)
 
 times-law : (a b l f u r : ℕ) → l ≡ a * b % 2 ^ 64 → f ≡ l * wordInverse % 2 ^ 64 → u ≡ f * P / 2 ^ 64
-    → r + u ≡ a * b / 2 ^ 64 + P → element r ≡ mul (element a) (element b)
+    → r + u ≡ a * b / 2 ^ 64 + P → divided r ≡ mul (divided a) (divided b)
 times-law a b l f u r el ef eu er =
     product-form P (2 ^ 64) unitInverse inverse-of-unit a b r
     (reduced (a * b) (a * b / 2 ^ 64) l f u r split-t (split l f u l-low ef eu) er)
@@ -111,7 +111,7 @@ times-law a b l f u r el ef eu er =
         turned x y = omega arith
 
 -- ---- into the form and out of it
-pub enter-law : (x r : ℕ) → x < P → element r ≡ mul (element x) (element unitSquare) → element r ≡ x
+pub enter-law : (x r : ℕ) → x < P → divided r ≡ mul (divided x) (divided unitSquare) → divided r ≡ x
 enter-law x r h e =
     e
     ∙ mul-mod-l P (x * unitInverse) 2305842407918272505
@@ -120,17 +120,17 @@ enter-law x r h e =
     ∙ ap (λ z. z % P) (mul-one x)
     ∙ mod-eq-of-lt h
 
-pub leave-law : (v x : ℕ) → element x ≡ mul (element v) (element 1) → x % P ≡ element v
+pub leave-law : (v x : ℕ) → divided x ≡ mul (divided v) (divided 1) → x % P ≡ divided v
 leave-law v x e =
     sym (undo P unitInverse (2 ^ 64) refl x)
     ∙ sym (mul-mod-l P (x * unitInverse) (2 ^ 64))
     ∙ ap (λ z. (z * 2 ^ 64) % P) e
-    ∙ mul-mod-l P (element v * unitInverse) (2 ^ 64)
-    ∙ undo P unitInverse (2 ^ 64) refl (element v)
+    ∙ mul-mod-l P (divided v * unitInverse) (2 ^ 64)
+    ∙ undo P unitInverse (2 ^ 64) refl (divided v)
     ∙ mod-mod (v * unitInverse) P
 
-pub element-lt : (v : ℕ) → element v < P
-element-lt v = mod-lt (v * unitInverse) (omega arith)
+pub divided-lt : (v : ℕ) → divided v < P
+divided-lt v = mod-lt (v * unitInverse) (omega arith)
 
 -- ---- the laws of `timesWord`
 module _ (a b : ℕ) (ha : Short a) (hb : Short b) where
@@ -141,9 +141,9 @@ module _ (a b : ℕ) (ha : Short a) (hb : Short b) where
   unfolding factor
   off-small = factor-small factor (mod-lt (a * b % 2 ^ 64 * wordInverse) (lit< tt))
 
-  pub times-element : element (timesWord a b) ≡ mul (element a) (element b)
+  pub divided-times : divided (timesWord a b) ≡ mul (divided a) (divided b)
   unfolding factor timesWord reduceWord
-  times-element =
+  divided-times =
       times-law a b (a * b % 2 ^ 64) factor (factor * P / 2 ^ 64) (timesWord a b) refl refl refl
       (restored (a * b / 2 ^ 64) (factor * P / 2 ^ 64) off-small)
     where
@@ -151,12 +151,12 @@ module _ (a b : ℕ) (ha : Short a) (hb : Short b) where
       restored h u l = omega arith
 
   -- the product divided by 2^64
-  pub times-divided : timesWord a b % P ≡ element (a * b)
+  pub times-divided : timesWord a b % P ≡ divided (a * b)
   unfolding factor timesWord reduceWord
   times-divided =
       reduce-law (a * b / 2 ^ 64) (a * b % 2 ^ 64) factor (factor * P / 2 ^ 64) (timesWord a b)
       (mod-lt (a * b) (lit< tt)) refl refl (restored (a * b / 2 ^ 64) (factor * P / 2 ^ 64) off-small)
-      ∙ ap element (joined (a * b % 2 ^ 64) (a * b / 2 ^ 64) ∙ mod-add-div (a * b) (2 ^ 64))
+      ∙ ap divided (joined (a * b % 2 ^ 64) (a * b / 2 ^ 64) ∙ mod-add-div (a * b) (2 ^ 64))
     where
       restored : (h u : ℕ) → u < P → ((h + P) - u) + u ≡ h + P
       restored h u l = omega arith
@@ -171,8 +171,8 @@ module _ (a b : ℕ) (ha : Short a) (hb : Short b) where
       low : (h u : ℕ) → h < P → (h + P) - u < 2 * P
       low h u l = omega arith
 
-pub enter-element : (x : ℕ) → x < P → element (enterWord x) ≡ x
-enter-element x h = enter-law x (enterWord x) h (times-element x unitSquare (omega arith) (omega arith))
+pub divided-enter : (x : ℕ) → x < P → divided (enterWord x) ≡ x
+divided-enter x h = enter-law x (enterWord x) h (divided-times x unitSquare (omega arith) (omega arith))
 
 pub enter-short : (x : ℕ) → x < P → Short (enterWord x)
 enter-short x h = times-short x unitSquare (omega arith) (omega arith)

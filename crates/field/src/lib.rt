@@ -3,7 +3,7 @@ ghost use mathlib.Core.Path.{_≡_};
 ghost use Prim.Native.Nat.{_<_};
 ghost use lib.Dec.{ltb};
 ghost use Rattle.field.specs.Field.{P, Canonical, add, sub, neg, mul, square, cube, power, root, inverse};
-ghost use Rattle.field.specs.Montgomery.{Short, element};
+ghost use Rattle.field.specs.MontgomeryHelpers.{Short, divided};
 
 pub mod montgomery;
 
@@ -108,7 +108,8 @@ impl Fp {
     }
 }
 
-// a * b, by Barrett's method: the quotient by p is estimated from the upper bits of the product, and is at most one too small.
+// a * b, by Barrett's method: the quotient by p is estimated from the upper bits of the product, and is at most one too
+// small.
 fn product(a: u64, b: u64) -> u64
     requires { ⌜ Canonical a × Canonical b ⌝ }
     ensures { λ r. ⌜ (r ≡ mul a b) × Canonical r ⌝ }
@@ -122,10 +123,11 @@ fn product(a: u64, b: u64) -> u64
 // 2^124 / p, rounded down
 const RECIPROCAL: u64 = 9223371693257404923;
 
-// acc * x^e in Montgomery's form. The exponent is halved at each call; the accumulator lets the compiler make a loop of it.
+// acc * x^e in Montgomery's form. The exponent is halved at each call; the accumulator lets the compiler make a loop of
+// it.
 fn power_times(acc: u64, x: u64, e: u64) -> u64
     requires { ⌜ Short acc × Short x ⌝ }
-    ensures { λ r. ⌜ (element r ≡ mul (element acc) (power (element x) e)) × Short r ⌝ }
+    ensures { λ r. ⌜ (divided r ≡ mul (divided acc) (power (divided x) e)) × Short r ⌝ }
 {
     if e == 0 {
         return acc;

@@ -6,18 +6,19 @@ use Prim.Native.Nat.{ℕ, zero, suc, _+_, _*_}
 use lib.ListN.{take, drop, replicate}
 use Rattle.lists.specs.Lists.{cell, tab}
 use Rattle.field.specs.Field.{add, cube, root}
+use Rattle.numbers.specs.Numbers.{width}
 use Rattle.matrix.specs.Matrix.{times}
 use Rattle.table.specs.Table.{matrixOf, initialConstant, firstStepConstant, secondStepConstant}
 
 -- every cell rooted, every cell cubed, and two states added cell by cell
 unfoldable pub roots : List ℕ → List ℕ
-roots s = tab 12 (λ j. root (cell s j))
+roots s = tab width (λ j. root (cell s j))
 
 unfoldable pub cubes : List ℕ → List ℕ
-cubes s = tab 12 (λ j. cube (cell s j))
+cubes s = tab width (λ j. cube (cell s j))
 
 unfoldable pub plus : List ℕ → List ℕ → List ℕ
-plus s k = tab 12 (λ j. add (cell s j) (cell k j))
+plus s u = tab width (λ j. add (cell s j) (cell u j))
 
 -- multiplied by M
 unfoldable pub mix : List ℕ → List ℕ → List ℕ
@@ -54,9 +55,9 @@ hash T a b = take 4 (finalState T (input a b))
 
 -- ---- the chain. w is a list of taps, four words each
 
--- w_i
+-- w_n
 unfoldable pub tap : List ℕ → ℕ → List ℕ
-tap w i = take 4 (drop (4 * i) w)
+tap w n = take 4 (drop (4 * n) w)
 
 -- the last output before hash h: w_0, then Hash(.. Hash(w_0, w_1) .., w_h)
 unfoldable pub outputAt : List ℕ → List ℕ → ℕ → List ℕ

@@ -16,7 +16,7 @@ use Rattle.field.proofs.Power.{big}
 use Rattle.matrix.specs.Matrix.{timesColumn, product, identity, Inverse, Kernel}
 use Rattle.matrix.proofs.Modulo.{add-eq, mul-eq, sum-eq, minus, unminus}
 use Rattle.matrix.proofs.Linear.{row, rows, identity-same, identity-other, identity-lt, identity-row, row-pick}
-use Rattle.inverse.specs.Elimination.{beside}
+use Rattle.inverse.specs.EliminationHelpers.{beside}
 
 -- all n rows of a, of k columns, take z to 0 modulo m
 abbrev pub Zero : ℕ → ℕ → ℕ → (ℕ → ℕ → ℕ) → (ℕ → ℕ) → Type 0

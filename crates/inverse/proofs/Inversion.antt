@@ -17,7 +17,8 @@ use Rattle.matrix.specs.Matrix.{timesColumn, identity, Inverse, Kernel, entry}
 use Rattle.matrix.proofs.Linear.{identity-same, identity-other, identity-lt, times-ext, product-ext}
 use Rattle.matrix.proofs.Dichotomy.{Invertible, inverse-unique, not-both}
 use Rattle.inverse.specs.Inversion.{IsInverse, Inverts}
-use Rattle.inverse.specs.Elimination.{at, beside, started, rightHalf, Working, Zeros, Reduces, Stuck, Eliminated}
+use Rattle.inverse.specs.EliminationHelpers.{at, beside, started, rightHalf, Working, Zeros, Reduces, Stuck}
+use Rattle.inverse.specs.EliminationHelpers.{Eliminated}
 use Rattle.inverse.proofs.Elimination.{beside-left, beside-right, finished, stuck}
 
 -- ---- the rows at the start

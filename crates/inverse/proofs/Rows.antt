@@ -11,7 +11,7 @@ use lib.Seq.{getD-set-same, getD-set-other}
 use Rattle.field.specs.Field.{P, Canonical, mul}
 use Rattle.field.proofs.Power.{big}
 use Rattle.matrix.specs.Matrix.{timesColumn}
-use Rattle.inverse.specs.Elimination.{at, Working, RowSet, scaledRow, addedRow, Zeros}
+use Rattle.inverse.specs.EliminationHelpers.{at, Working, RowSet, scaledRow, addedRow, Zeros}
 use Rattle.inverse.proofs.Elimination.{added, scaled}
 
 -- ---- a loop that writes row r from the left

@@ -11,7 +11,7 @@ use Rattle.field.proofs.Power.{big}
 use Rattle.field.proofs.Fermat.{inverse-law}
 use Rattle.matrix.specs.Matrix.{identity}
 use Rattle.matrix.proofs.Linear.{identity-same, identity-other, identity-lt}
-use Rattle.inverse.specs.Elimination.{at, RowSet, scaledRow, addedRow, Reduced, Reduces, Pivot}
+use Rattle.inverse.specs.EliminationHelpers.{at, RowSet, scaledRow, addedRow, Reduced, Reduces, Pivot}
 use Rattle.inverse.proofs.Rows.{row-other, row-working, added-lt, scaled-lt, added-keeps, scaled-keeps}
 
 pub reduces-none : (w : List ℕ) (j : ℕ) → Reduced w j → Reduces w w j

@@ -1,2 +1,2 @@
 pub mod Inversion
-pub mod Elimination
+pub mod EliminationHelpers

@@ -24,13 +24,17 @@ use Rattle.refusals.specs.declared.DigestAnswer.the-variants.{Accepted}
 use Rattle.refusals.specs.declared.TestsAnswer.{TestsAnswer}
 use Rattle.refusals.specs.declared.TestsAnswer.the-variants as counted
 use Rattle.refusals.proofs.Laws.{tests-accepted}
-use Rattle.table.specs.Table.{matrixOf, inverseOf, constant, initialConstant, firstStepConstant, secondStepConstant, tableTest}
+use Rattle.table.specs.Table.{matrixOf, inverseOf, constant, initialConstant, firstStepConstant, secondStepConstant}
+use Rattle.table.specs.Table.{tableTest}
 use Rattle.table.proofs.Theorems.{test-sound}
-use Rattle.hash.specs.Hash.{roots, cubes, plus, mix, firstStep, secondStep, stateAt, finalState, input, hash, tap, outputAt, chain}
+use Rattle.hash.specs.Hash.{roots, cubes, plus, mix, firstStep, secondStep, stateAt, finalState, input, hash, tap}
+use Rattle.hash.specs.Hash.{outputAt, chain}
 use Rattle.hash.specs.Answers.{hashTest, hashAnswer, chainTest, chainAnswer}
 use Rattle.hash.proofs.Answers.{hash-passes}
 use Rattle.hash.proofs.Inputs.{IsTap}
-use Rattle.constraints.specs.Constraints.{row, plusFirst, forward, minus, backStep, back, applies, holds, rowTests, testsFrom, tests, walk, constraintTest}
+use Rattle.trace.specs.Trace.{row}
+use Rattle.constraints.specs.Constraints.{plusFirst, forward, minus, backStep, back, families, ofFamily, applies, holds}
+use Rattle.constraints.specs.Constraints.{rowTests, testsFrom, tests, walk, constraintTest}
 use Rattle.constraints.specs.ReadOff.{readInput, readWord, readTaps}
 use Rattle.checker.specs.Answers.{checkTest, checkAnswer}
 use Rattle.readoff.specs.Answers.{readOffTest, readOffAnswer, readOffLeaves}
@@ -45,12 +49,15 @@ module _ (T : List ℕ) (table : tableTest T ≡ answer.Accepted) where
   accepted rest = ap (λ a. after a rest) table
 
   hashed : (words : List ℕ) {a : DigestAnswer} → let d = digest (hash T (take 4 words) (drop 4 words)) in
-      digestAfter (unless (canonicalWords words) (TapWord (firstBad words)) answer.Accepted) d ≡ a → hashAnswer T words ≡ a
+      digestAfter (unless (canonicalWords words) (TapWord (firstBad words)) answer.Accepted) d ≡ a
+      → hashAnswer T words ≡ a
   unfolding hashTest hashAnswer
   hashed words e = ap (λ t. digestAfter t (digest (hash T (take 4 words) (drop 4 words)))) (accepted _) ∙ e
 
   chained : (w : List ℕ) {a : DigestAnswer} → let d = digest (chain T w (tapWordBatches (length w))) in
-      digestAfter (unless (isTapLength mostBatches (length w)) TapLength (unless (canonicalWords w) (TapWord (firstBad w)) answer.Accepted)) d ≡ a
+      digestAfter
+      (unless (isTapLength mostBatches (length w)) TapLength
+      (unless (canonicalWords w) (TapWord (firstBad w)) answer.Accepted)) d ≡ a
       → chainAnswer T w ≡ a
   unfolding chainTest chainAnswer
   chained w e = ap (λ t. digestAfter t (digest (chain T w (tapWordBatches (length w))))) (accepted _) ∙ e
@@ -95,7 +102,9 @@ hash-S a size h =
 
 -- ---- the tapped trace
 tapped-accepted : checkAnswer Z tapped zeros ≡ counted.Accepted 372
-unfolding ones tab sum first firstBad timesColumn times matrixOf inverseOf constant initialConstant firstStepConstant secondStepConstant cubes plus mix secondStep row plusFirst forward minus backStep back applies holds rowTests testsFrom tests walk constraintTest shifted Z tapped zeros
+unfolding ones tab sum first firstBad timesColumn times matrixOf inverseOf constant initialConstant firstStepConstant
+    secondStepConstant cubes plus mix secondStep row plusFirst forward minus backStep back families ofFamily applies
+    holds rowTests testsFrom tests walk constraintTest shifted Z tapped zeros
 tapped-accepted = judges Z accepted-Z tapped zeros refl
 
 tapped-read-off : readOffAnswer Z tapped zeros 16 ≡ counted.Accepted 372
@@ -103,18 +112,25 @@ unfolding tab tapped
 tapped-read-off = same-for Z tapped zeros 1 refl ∙ tapped-accepted
 
 tapped-tap : tap (readTaps Z tapped 1) 2 ≡ 0 ∷ 1 ∷ 0 ∷ 0 ∷ []
-unfolding tab sum timesColumn times inverseOf constant initialConstant firstStepConstant cubes tap row minus backStep back readInput readWord readTaps shifted Z tapped
+unfolding tab sum timesColumn times inverseOf constant initialConstant firstStepConstant cubes tap row minus backStep
+    back readInput readWord readTaps shifted Z tapped
 tapped-tap = refl
 
 tapped-read : (old : List ℕ) → length old ≡ 16 → tap (readOffLeaves Z tapped zeros old) 2 ≡ 0 ∷ 1 ∷ 0 ∷ 0 ∷ []
 unfolding tab tapped readOffAnswer readOffLeaves
-tapped-read old e = ap (λ x. tap (leaves x (readTaps Z tapped 1) old) 2) (tests-accepted (readOffTest Z tapped zeros (length old)) _ 372 answered .0) ∙ tapped-tap
+tapped-read old e =
+    ap (λ x. tap (leaves x (readTaps Z tapped 1) old) 2)
+    (tests-accepted (readOffTest Z tapped zeros (length old)) _ 372 answered .0)
+    ∙ tapped-tap
   where
     answered : readOffAnswer Z tapped zeros (length old) ≡ counted.Accepted 372
     answered = ap (readOffAnswer Z tapped zeros) e ∙ tapped-read-off
 
 pub known-days : KnownDays
-unfolding ones tab sum first firstBad halving power root timesColumn times matrixOf inverseOf constant initialConstant firstStepConstant secondStepConstant roots cubes plus mix firstStep secondStep stateAt finalState input hash tap outputAt chain row plusFirst forward minus backStep back applies holds rowTests testsFrom tests walk constraintTest shifted Z A zeroTrace altered zeros
+unfolding ones tab sum first firstBad halving power root timesColumn times matrixOf inverseOf constant initialConstant
+    firstStepConstant secondStepConstant roots cubes plus mix firstStep secondStep stateAt finalState input hash tap
+    outputAt chain row plusFirst forward minus backStep back families ofFamily applies holds rowTests testsFrom tests
+    walk constraintTest shifted Z A zeroTrace altered zeros
 known-days = record {
   product-of-negatives = refl;
   product-of-powers = refl;

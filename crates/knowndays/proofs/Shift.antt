@@ -16,9 +16,12 @@ use Rattle.field.specs.Field.{P, add, cube, root}
 use Rattle.field.proofs.Fermat.{cube-root}
 use Rattle.matrix.specs.Matrix.{entry, timesColumn}
 use Rattle.matrix.proofs.States.{cell-times}
-use Rattle.table.specs.Table.{matrixWords, matrixOf, constant, initialConstant, firstStepConstant, secondStepConstant}
-use Rattle.hash.specs.Hash.{roots, cubes, plus, mix, firstStep, secondStep, stateAt, middleState, finalState, input, hash}
-use Rattle.hash.proofs.States.{IsState, state-cell, same-cells, cell-roots, cell-cubes, cell-plus, roots-state, cubes-state, stateAt-state, stateAt-zero, stateAt-suc}
+use Rattle.matrix.specs.Matrix.{matrixWords}
+use Rattle.table.specs.Table.{matrixOf, constant, initialConstant, firstStepConstant, secondStepConstant}
+use Rattle.hash.specs.Hash.{roots, cubes, plus, mix, firstStep, secondStep, stateAt, middleState, finalState, input}
+use Rattle.hash.specs.Hash.{hash}
+use Rattle.hash.proofs.States.{IsState, state-cell, same-cells, cell-roots, cell-cubes, cell-plus, roots-state}
+use Rattle.hash.proofs.States.{cubes-state, stateAt-state, stateAt-zero, stateAt-suc}
 use Rattle.hash.proofs.Inputs.{IsTap, cell-take, cell-input-right, input-state, hash-tap}
 use Rattle.knowndays.specs.Days.{shifted, S}
 
@@ -30,7 +33,8 @@ length-shifted shift = length-tab 144 (λ n. choose (eqb (n % 12) ((n / 12 + shi
 S-matrix : (n : ℕ) → n < 144 → cell S n ≡ choose (eqb (n % 12) ((n / 12 + 11) % 12)) 1 0
 unfolding S shifted
 S-matrix n h =
-    List·getD-append (shifted 11 ++ shifted 1) (replicate 252 0) 0 n (omega (arith, length-append (shifted 11) (shifted 1), length-shifted 11))
+    List·getD-append (shifted 11 ++ shifted 1) (replicate 252 0) 0 n
+    (omega (arith, length-append (shifted 11) (shifted 1), length-shifted 11))
     ∙ List·getD-append (shifted 11) (shifted 1) 0 n (omega (arith, length-shifted 11))
     ∙ cell-tab 144 (λ m. choose (eqb (m % 12) ((m / 12 + 11) % 12)) 1 0) n h
 
@@ -42,7 +46,10 @@ zeros-cell (suc m) (suc i) = zeros-cell m i
 
 S-constants : (n : ℕ) → cell S (2 * matrixWords + n) ≡ 0
 unfolding S
-S-constants n = ap (λ k. cell (shifted 11 ++ shifted 1 ++ replicate 252 0) k) e ∙ getD-append-add (shifted 11 ++ shifted 1) (replicate 252 0) n 0 ∙ zeros-cell 252 n
+S-constants n =
+    ap (λ k. cell (shifted 11 ++ shifted 1 ++ replicate 252 0) k) e
+    ∙ getD-append-add (shifted 11 ++ shifted 1) (replicate 252 0) n 0
+    ∙ zeros-cell 252 n
   where
     e : 2 * matrixWords + n ≡ length (shifted 11 ++ shifted 1) + n
     e = omega (arith, length-append (shifted 11) (shifted 1), length-shifted 11, length-shifted 1)
@@ -87,7 +94,12 @@ S-entry i j hi hj =
 -- ---- M moves each cell one place on
 mix-cell : (s : List ℕ) (i : ℕ) → i < 12 → cell (mix S s) i ≡ cell s ((i + 11) % 12) % P
 unfolding mix timesColumn
-mix-cell s i h = cell-times (matrixOf S) s i h ∙ ap (λ x. x % P) (sum-one 12 from (λ j. entry (matrixOf S) i j * cell s j) within others ∙ ap (λ x. x * cell s from) here ∙ one-mul (cell s from))
+mix-cell s i h =
+    cell-times (matrixOf S) s i h
+    ∙ ap (λ x. x % P)
+    (sum-one 12 from (λ j. entry (matrixOf S) i j * cell s j) within others
+    ∙ ap (λ x. x * cell s from) here
+    ∙ one-mul (cell s from))
   where
     from : ℕ
     from = (i + 11) % 12
@@ -99,7 +111,8 @@ mix-cell s i h = cell-times (matrixOf S) s i h ∙ ap (λ x. x % P) (sum-one 12 
     here = S-entry i from h within ∙ ap (λ b. choose b 1 0) (eq-eqb from from refl)
 
     others : (j : ℕ) → j < 12 → (j ≡ from → ⊥) → entry (matrixOf S) i j * cell s j ≡ 0
-    others j hj ne = ap (λ x. x * cell s j) (S-entry i j h hj ∙ ap (λ b. choose b 1 0) (ne-eqb j from ne)) ∙ zero-mul (cell s j)
+    others j hj ne =
+        ap (λ x. x * cell s j) (S-entry i j h hj ∙ ap (λ b. choose b 1 0) (ne-eqb j from ne)) ∙ zero-mul (cell s j)
 
 add-zero-constant : (x k : ℕ) → x < P → k ≡ 0 → add x k ≡ x
 add-zero-constant x k h e = ap (λ y. (x + y) % P) e ∙ ap (λ y. y % P) z ∙ mod-eq-of-lt h
@@ -116,12 +129,16 @@ step-cell s k i st h z =
     ∙ add-zero-constant (cell s ((i + 11) % 12)) (cell k i) (state-cell st ((i + 11) % 12)) z
 
 -- ---- a round moves each cell two places on
-round-cell : (s : List ℕ) (r i : ℕ) → IsState s → i < 12 → cell (secondStep S r (firstStep S r s)) i ≡ cell s ((i + 10) % 12)
+round-cell : (s : List ℕ) (r i : ℕ) → IsState s → i < 12
+    → cell (secondStep S r (firstStep S r s)) i ≡ cell s ((i + 10) % 12)
 unfolding firstStep secondStep
 round-cell s r i st h =
     step-cell (cubes (firstStep S r s)) (secondStepConstant S r) i (cubes-state (firstStep S r s)) h (second-zero r i h)
     ∙ cell-cubes (firstStep S r s) j hj
-    ∙ ap cube (step-cell (roots s) (firstStepConstant S r) j (roots-state s) hj (first-zero r j hj) ∙ cell-roots s ((j + 11) % 12) (mod-lt (j + 11) (omega arith)) ∙ ap (λ k. root (cell s k)) e)
+    ∙ ap cube
+    (step-cell (roots s) (firstStepConstant S r) j (roots-state s) hj (first-zero r j hj)
+    ∙ cell-roots s ((j + 11) % 12) (mod-lt (j + 11) (omega arith))
+    ∙ ap (λ k. root (cell s k)) e)
     ∙ cube-root (cell s ((i + 10) % 12)) (state-cell st ((i + 10) % 12))
   where
     j : ℕ
@@ -145,8 +162,13 @@ state-moved s st zero i h =
     e = omega arith
 state-moved s st (suc r) i h = rec (state-moved s st r ((i + 10) % 12) (mod-lt (i + 10) (omega arith)))
   where
-    rec : cell (stateAt S s r) ((i + 10) % 12) ≡ cell s (((i + 10) % 12 + 10 * r) % 12) → cell (stateAt S s (suc r)) i ≡ cell s ((i + 10 * suc r) % 12)
-    rec ih = ap (λ t. cell t i) (stateAt-suc S s r) ∙ round-cell (stateAt S s r) r i (stateAt-state S s r) h ∙ ih ∙ ap (cell s) e
+    rec : cell (stateAt S s r) ((i + 10) % 12) ≡ cell s (((i + 10) % 12 + 10 * r) % 12)
+        → cell (stateAt S s (suc r)) i ≡ cell s ((i + 10 * suc r) % 12)
+    rec ih =
+        ap (λ t. cell t i) (stateAt-suc S s r)
+        ∙ round-cell (stateAt S s r) r i (stateAt-state S s r) h
+        ∙ ih
+        ∙ ap (cell s) e
       where
         e : ((i + 10) % 12 + 10 * r) % 12 ≡ (i + 10 * suc r) % 12
         e = omega arith

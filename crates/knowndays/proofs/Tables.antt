@@ -11,7 +11,8 @@ use Rattle.field.specs.Field.{P}
 use Rattle.words.specs.Words.{firstBad}
 use Rattle.matrix.specs.Matrix.{entry, timesColumn, product, Inverse, Kernel}
 use Rattle.refusals.specs.declared.Answer.the-variants.{Accepted}
-use Rattle.table.specs.Table.{tableWords, matrixOf, inverseOf, unlike, firstUnlike, tableTest, IsTable, rawMatrix, RawInverse, prepared, rawTest, Prepares, accepts, no-inverse}
+use Rattle.table.specs.Table.{tableWords, matrixOf, inverseOf, unlike, firstUnlike, tableTest, IsTable, rawMatrix}
+use Rattle.table.specs.Table.{RawInverse, prepared, rawTest, Prepares, accepts, no-inverse}
 use Rattle.table.proofs.Theorems.{test-sound, inverse-length, inverse-canonical}
 use Rattle.knowndays.specs.Days.{shifted, rawZ, rawA, rawS, rawZeros, Z, A, S, KnownTables}
 

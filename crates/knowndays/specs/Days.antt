@@ -8,6 +8,7 @@ use lib.ListN.{length, replicate, set}
 use Rattle.lists.specs.Lists.{choose, tab}
 use Rattle.words.specs.Words.{AllCanonical}
 use Rattle.field.specs.Field.{P, mul, root}
+use Rattle.numbers.specs.Numbers.{width}
 use Rattle.refusals.specs.Refusals.{digest}
 use Rattle.refusals.specs.declared.Refusal.the-variants.{NoInverse, Constraint}
 use Rattle.refusals.specs.declared.Answer.the-variants as answer
@@ -23,7 +24,7 @@ use Rattle.readoff.specs.Answers.{readOffAnswer, readOffLeaves}
 
 -- M[i,j] = 1 when j = (i + shift) mod 12, else 0
 unfoldable pub shifted : ℕ → List ℕ
-shifted shift = tab 144 (λ n. choose (eqb (n % 12) ((n / 12 + shift) % 12)) 1 0)
+shifted shift = tab 144 (λ n. choose (eqb (n % width) ((n / width + shift) % 12)) 1 0)
 
 -- M identity, K zero
 unfoldable pub rawZ : List ℕ
@@ -71,11 +72,11 @@ zeroTrace = replicate 384 0
 
 -- the zero trace with the cell at row and column set to 1
 unfoldable pub altered : ℕ → ℕ → List ℕ
-altered row column = set zeroTrace (12 * row + column) 1
+altered row column = set zeroTrace (width * row + column) 1
 
 -- column 5 of rows 11 to 20 all 1
 unfoldable pub tapped : List ℕ
-tapped = tab 384 (λ n. choose (eqb (n % 12) 5) (choose (eqb ((n / 12 - 1) / 10) 1) 1 0) 0)
+tapped = tab 384 (λ n. choose (eqb (n % width) 5) (choose (eqb ((n / width - 1) / 10) 1) 1 0) 0)
 
 unfoldable pub zeros : List ℕ
 zeros = replicate 4 0

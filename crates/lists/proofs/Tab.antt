@@ -7,7 +7,7 @@ use native.Mathlib.Nat.{zero-add, suc-add, add-zero, le-of-suc-le-suc}
 use native.Mathlib.Numerals.{add-one}
 use native.Mathlib.Omega.{arith}
 use lib.ListN.{length, getD, take, drop, set, take-append-drop, length-append}
-use lib.ListN.{length-drop, drop-of-length-le, List·getD-append}
+use lib.ListN.{length-drop, length-set, drop-of-length-le, List·getD-append}
 use lib.Seq.{drop-cons, append-snoc, set-append-seam, getD-append-add, ext-getD, getD-drop, getD-take, length-take-le}
 use Rattle.lists.specs.Lists.{tab, cell}
 
@@ -78,9 +78,13 @@ filled-more f i v s l h e q =
     ∙ ap (λ x. x ++ drop (suc i) s) (sym (tab-suc i f))
     ∙ ap (λ k. tab k f ++ drop k s) (sym (add-one i))
 
-pub filled-all : (n : ℕ) (f : ℕ → ℕ) (s : List ℕ) → length s ≡ n → filled n f s ≡ tab n f
+-- where s has no cell beyond them, they are the whole list
+filled-whole : (n : ℕ) (f : ℕ → ℕ) (s : List ℕ) → length s ≤ n → filled n f s ≡ tab n f
 unfolding filled
-filled-all n f s h = ap (λ x. tab n f ++ x) (drop-of-length-le s {i = n} (omega arith)) ∙ append-nil (tab n f)
+filled-whole n f s h = ap (λ x. tab n f ++ x) (drop-of-length-le s {i = n} h) ∙ append-nil (tab n f)
+
+pub filled-all : (n : ℕ) (f : ℕ → ℕ) (s : List ℕ) → length s ≡ n → filled n f s ≡ tab n f
+filled-all n f s h = filled-whole n f s (omega arith)
 
 -- a cell that is not yet filled is as it was
 pub filled-after : (n : ℕ) (f : ℕ → ℕ) (s : List ℕ) (i : ℕ) → n ≤ i → cell (filled n f s) i ≡ cell s i
@@ -100,6 +104,42 @@ filled-after n f s i h =
 pub filled-before : (n : ℕ) (f : ℕ → ℕ) (s : List ℕ) (i : ℕ) → i < n → cell (filled n f s) i ≡ f i
 unfolding filled
 filled-before n f s i h = List·getD-append (tab n f) (drop n s) 0 i (omega (arith, length-tab n f)) ∙ cell-tab n f i h
+
+-- what such a loop keeps, over a list of n cells: the first j are f's, and the others as they were in s
+pub record Fills (n : ℕ) (f : ℕ → ℕ) (s : List ℕ) (j : ℕ) (l : List ℕ) : Type 0 where
+  pub within : j ≤ n
+  pub size : length l ≡ n
+  pub so-far : l ≡ filled j f s
+
+pub fills-none : {n : ℕ} {f : ℕ → ℕ} {s : List ℕ} → length s ≡ n → Fills n f s 0 s
+fills-none e = record { within = omega arith; size = e; so-far = filled-none _ _ }
+
+module _ {n : ℕ} {f : ℕ → ℕ} {s : List ℕ} {j : ℕ} {l : List ℕ} (h : Fills n f s j l) where
+  -- the cells that are left
+  left : n ≡ j + (length s - j)
+  unfolding filled
+  left =
+      sym (h .size)
+      ∙ ap length (h .so-far)
+      ∙ length-append (tab j f) (drop j s)
+      ∙ omega (arith, length-tab j f, length-drop j s)
+
+  pub fills-more : {v : ℕ} → j < n → v ≡ f j → Fills n f s (j + 1) (set l j v)
+  fills-more b e =
+      record {
+        within = omega arith;
+        size = length-set l j _ ∙ h .size;
+        so-far = filled-more f j _ s l (omega (arith, left)) e (h .so-far);
+      }
+
+  -- the next cell is as it was
+  pub fills-next : cell l j ≡ cell s j
+  fills-next = ap (λ x. cell x j) (h .so-far) ∙ filled-after j f s j (omega arith)
+
+  pub fills-all : n ≤ j → l ≡ tab n f
+  fills-all b =
+      let e : j ≡ n = omega (arith, h .within) in
+      h .so-far ∙ ap (λ k. filled k f s) e ∙ filled-whole n f s (omega (arith, left, h .within))
 
 -- a list whose first cells are right already
 pub filled-same : (n : ℕ) (f : ℕ → ℕ) (s : List ℕ) → n ≤ length s → ((i : ℕ) → i < n → cell s i ≡ f i)

@@ -6,6 +6,7 @@ use Prim.Native.Nat.{ℕ, _+_, _*_, _%_, _<_}
 use lib.Dec.{eqb}
 use Rattle.lists.specs.Lists.{choose, cell, tab, sum}
 use Rattle.field.specs.Field.{P, Canonical}
+use Rattle.numbers.specs.Numbers.{width}
 
 -- cell i of a matrix of n columns times a column
 unfoldable pub timesColumn : ℕ → (ℕ → ℕ → ℕ) → (ℕ → ℕ) → ℕ → ℕ
@@ -32,9 +33,12 @@ pub record Kernel (n : ℕ) (a : ℕ → ℕ → ℕ) : Type 0 where
   pub nonzero : 0 < column place
   pub zeros : (i : ℕ) → i < n → timesColumn n a column i ≡ 0
 
--- ---- 12 × 12, row by row, and states of twelve cells
+-- ---- as wide as a state, row by row
+abbrev pub matrixWords : ℕ
+matrixWords = 144
+
 abbrev pub entry : List ℕ → ℕ → ℕ → ℕ
-entry m i j = cell m (12 * i + j)
+entry m i j = cell m (width * i + j)
 
 unfoldable pub times : List ℕ → List ℕ → List ℕ
-times m s = tab 12 (timesColumn 12 (entry m) (cell s))
+times m s = tab width (timesColumn width (entry m) (cell s))

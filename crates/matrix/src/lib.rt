@@ -5,34 +5,35 @@ ghost use lib.ListN.{length};
 ghost use Rattle.lists.specs.Lists.{cell};
 ghost use Rattle.field.specs.Field.{Canonical};
 ghost use Rattle.words.specs.Words.{AllCanonical, CanonicalTo};
-ghost use Rattle.matrix.specs.Matrix.{entry, timesColumn, times};
+ghost use Rattle.numbers.specs.Numbers.{width};
+ghost use Rattle.matrix.specs.Matrix.{matrixWords, entry, timesColumn, times};
+use numbers::WIDTH;
 use sums::Wide;
 
+// A matrix as wide as a state, row by row.
+pub const MATRIX_WORDS: usize = WIDTH * WIDTH;
+
 // Cell `row` of m times s. The products are added up before the sum is reduced, once.
-fn dot(m: &[u64], row: usize, s: [u64; 12]) -> u64
-    requires { ⌜ (row < 12) × (length (now m) ≡ 144) × AllCanonical (now m) × CanonicalTo 12 s ⌝ }
-    ensures { λ r. ⌜ (r ≡ timesColumn 12 (entry (now (m .entry))) (cell s) row) × Canonical r ⌝ }
+fn dot(m: &[u64], row: usize, s: [u64; WIDTH]) -> u64
+    requires { ⌜ (row < width) × (length (now m) ≡ matrixWords) × AllCanonical (now m) × CanonicalTo width s ⌝ }
+    ensures { λ r. ⌜ (r ≡ timesColumn width (entry (now (m .entry))) (cell s) row) × Canonical r ⌝ }
 {
     let mut sum = Wide::ZERO;
-    let mut j: usize = 0;
-    while j < 12 {
-        let next = sum.plus(m[12 * row + j], s[j]);
+    for j in 0..WIDTH {
+        let next = sum.plus(m[WIDTH * row + j], s[j]);
         sum = next;
-        j += 1;
     }
-    sum.rest()
+    sum.remainder()
 }
 
 // m times s.
-pub fn times(m: &[u64], s: [u64; 12]) -> [u64; 12]
-    requires { ⌜ (length (now m) ≡ 144) × AllCanonical (now m) × CanonicalTo 12 s ⌝ }
-    ensures { λ r. ⌜ (r ≡ times (now (m .entry)) s) × CanonicalTo 12 r ⌝ }
+pub fn times(m: &[u64], s: [u64; WIDTH]) -> [u64; WIDTH]
+    requires { ⌜ (length (now m) ≡ matrixWords) × AllCanonical (now m) × CanonicalTo width s ⌝ }
+    ensures { λ r. ⌜ (r ≡ times (now (m .entry)) s) × CanonicalTo width r ⌝ }
 {
-    let mut out = [0u64; 12];
-    let mut i: usize = 0;
-    while i < 12 {
+    let mut out = [0u64; WIDTH];
+    for i in 0..WIDTH {
         out[i] = dot(m, i, s);
-        i += 1;
     }
     out
 }

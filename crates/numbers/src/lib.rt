@@ -1,7 +1,25 @@
-// Batch, row, hash and tap numbers (document 01, "The trace": counts of their own), and the permitted batch counts ("Hash and chain").
+// Sizes; batch, row, hash and tap numbers (document 01, "The trace": counts of their own); the permitted batch counts
+// ("Hash and chain").
 ghost use mathlib.Core.Path.{_≡_};
-ghost use Prim.Native.Nat.{_+_, _*_, _/_, _%_, _<_, _^_};
-ghost use Rattle.numbers.specs.Numbers.{batchesIf, isTapLength, isTraceLength, permitted, tapWordBatches, traceWordBatches};
+ghost use Prim.Native.Nat.{_+_, _*_, _-_, _/_, _%_, _≤_, _<_, _^_};
+ghost use Rattle.numbers.specs.Numbers.{width, batchRows, within, firstRow};
+ghost use Rattle.numbers.specs.Numbers.{batchesIf, isTapLength, isTraceLength, permitted};
+ghost use Rattle.numbers.specs.Numbers.{tapWordBatches, traceWordBatches};
+
+// The cells of a state and of a row of the trace, and the side of M.
+pub const WIDTH: usize = 12;
+
+// The rows of a batch.
+pub const BATCH_ROWS: usize = 32;
+
+// The words of a batch in a trace.
+pub const BATCH_WORDS: usize = BATCH_ROWS * WIDTH;
+
+// The words of a tap.
+pub const TAP_WORDS: usize = 4;
+
+// The words of a batch in a list of taps, which has one tap more.
+pub const BATCH_TAP_WORDS: usize = 3 * TAP_WORDS;
 
 // A batch of three hashes, counted from 0.
 pub struct BatchNumber(pub usize);
@@ -24,10 +42,10 @@ pub enum BatchCount {
 impl BatchNumber {
     // The row of the trace that is row `within` of the batch.
     pub fn row(self, within: usize) -> RowNumber
-        requires { ⌜ (self .0 < 2 ^ 32) × (within < 32) ⌝ }
-        ensures { λ r. ⌜ r .0 ≡ 32 * self .0 + within ⌝ }
+        requires { ⌜ (self .0 < 2 ^ 32) × (within < batchRows) ⌝ }
+        ensures { λ r. ⌜ r .0 ≡ batchRows * self .0 + within ⌝ }
     {
-        RowNumber(32 * self.0 + within)
+        RowNumber(BATCH_ROWS * self.0 + within)
     }
 
     // The hash of the chain that is hash `within` of the batch.
@@ -41,28 +59,56 @@ impl BatchNumber {
 
 impl RowNumber {
     pub fn batch(self) -> BatchNumber
-        ensures { λ r. ⌜ r .0 ≡ self .0 / 32 ⌝ }
+        ensures { λ r. ⌜ r .0 ≡ self .0 / batchRows ⌝ }
     {
-        BatchNumber(self.0 / 32)
+        BatchNumber(self.0 / BATCH_ROWS)
     }
 
     // The row's number within its batch.
     pub fn within(self) -> usize
-        ensures { λ r. ⌜ r ≡ self .0 % 32 ⌝ }
+        ensures { λ r. ⌜ r ≡ within (self .0) ⌝ }
     {
-        self.0 % 32
+        self.0 % BATCH_ROWS
+    }
+
+    pub fn next(self) -> RowNumber
+        requires { ⌜ self .0 < 2 ^ 40 ⌝ }
+        ensures { λ r. ⌜ r .0 ≡ self .0 + 1 ⌝ }
+    {
+        RowNumber(self.0 + 1)
     }
 
     // The index of the row's first cell in the trace.
     pub fn start(self) -> usize
         requires { ⌜ self .0 < 2 ^ 40 ⌝ }
-        ensures { λ r. ⌜ r ≡ 12 * self .0 ⌝ }
+        ensures { λ r. ⌜ r ≡ width * self .0 ⌝ }
     {
-        12 * self.0
+        WIDTH * self.0
     }
 }
 
 impl HashNumber {
+    pub fn batch(self) -> BatchNumber
+        ensures { λ r. ⌜ r .0 ≡ self .0 / 3 ⌝ }
+    {
+        BatchNumber(self.0 / 3)
+    }
+
+    // The hash's number within its batch.
+    pub fn within(self) -> usize
+        ensures { λ r. ⌜ r ≡ self .0 % 3 ⌝ }
+    {
+        self.0 % 3
+    }
+
+    // The row with the hash's first middle state: row 1, 11 or 21 of its batch.
+    pub fn first_row(self) -> RowNumber
+        requires { ⌜ self .0 / 3 < 2 ^ 32 ⌝ }
+        ensures { λ r. ⌜ r .0 ≡ firstRow (self .0) ⌝ }
+    {
+        self.batch().row(10 * self.within() + 1)
+    }
+
     // The tap that the hash takes in; the first hash takes tap 0 as its left input too.
     pub fn tap(self) -> TapNumber
         requires { ⌜ self .0 < 2 ^ 40 ⌝ }
@@ -73,12 +119,20 @@ impl HashNumber {
 }
 
 impl TapNumber {
+    // The hash that takes the tap in, for a tap after tap 0.
+    pub fn hash(self) -> HashNumber
+        requires { ⌜ 1 ≤ self .0 ⌝ }
+        ensures { λ r. ⌜ r .0 ≡ self .0 - 1 ⌝ }
+    {
+        HashNumber(self.0 - 1)
+    }
+
     // The index of the tap's first word in the list.
     pub fn start(self) -> usize
         requires { ⌜ self .0 < 2 ^ 40 ⌝ }
         ensures { λ r. ⌜ r ≡ 4 * self .0 ⌝ }
     {
-        4 * self.0
+        TAP_WORDS * self.0
     }
 }
 
@@ -102,20 +156,20 @@ pub fn is_permitted(most: usize, k: usize) -> bool
 pub fn tap_batches(most: usize, words: usize) -> BatchCount
     ensures { λ r. ⌜ r ≡ batchesIf (isTapLength most words) (tapWordBatches words) ⌝ }
 {
-    if words % 12 != 4 {
+    if words % BATCH_TAP_WORDS != TAP_WORDS {
         return BatchCount::Refused;
     }
-    batch_count(most, words / 12)
+    batch_count(most, words / BATCH_TAP_WORDS)
 }
 
 // The batches of a trace of so many words.
 pub fn trace_batches(most: usize, words: usize) -> BatchCount
     ensures { λ r. ⌜ r ≡ batchesIf (isTraceLength most words) (traceWordBatches words) ⌝ }
 {
-    if words % 384 != 0 {
+    if words % BATCH_WORDS != 0 {
         return BatchCount::Refused;
     }
-    batch_count(most, words / 384)
+    batch_count(most, words / BATCH_WORDS)
 }
 
 fn batch_count(most: usize, k: usize) -> BatchCount

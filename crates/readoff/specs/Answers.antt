@@ -6,7 +6,7 @@ use Prim.Native.Nat.{ℕ, _+_, _*_}
 use lib.Dec.{eqb}
 use lib.ListN.{length}
 use Rattle.words.specs.Words.{firstBad, canonicalWords}
-use Rattle.numbers.specs.Numbers.{mostBatches, isTraceLength, traceWordBatches}
+use Rattle.numbers.specs.Numbers.{tapWords, mostBatches, isTraceLength, traceWordBatches}
 use Rattle.refusals.specs.declared.Refusal.the-variants.{TraceLength, DestinationLength, ClaimWord, TraceWord}
 use Rattle.refusals.specs.declared.Answer.{Answer}
 use Rattle.refusals.specs.declared.TestsAnswer.{TestsAnswer}
@@ -20,7 +20,7 @@ unfoldable pub readOffTest : List ℕ → List ℕ → List ℕ → ℕ → Answ
 readOffTest T t claim size =
     after (tableTest T)
     (unless (isTraceLength mostBatches (length t)) TraceLength
-    (unless (eqb size (12 * traceWordBatches (length t) + 4)) DestinationLength
+    (unless (eqb size (tapWords (traceWordBatches (length t)))) DestinationLength
     (unless (canonicalWords claim) (ClaimWord (firstBad claim))
     (unless (canonicalWords t) (TraceWord (firstBad t))
     (constraintTest T t claim (traceWordBatches (length t)))))))
@@ -31,4 +31,5 @@ readOffAnswer T t claim size = testsAfter (readOffTest T t claim size) (length (
 
 -- the 12k + 4 words of the taps that the trace holds, or what was there
 unfoldable pub readOffLeaves : List ℕ → List ℕ → List ℕ → List ℕ → List ℕ
-readOffLeaves T t claim old = leaves (readOffTest T t claim (length old)) (readTaps T t (traceWordBatches (length t))) old
+readOffLeaves T t claim old =
+    leaves (readOffTest T t claim (length old)) (readTaps T t (traceWordBatches (length t))) old

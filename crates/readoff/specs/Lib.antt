@@ -1,2 +1,2 @@
 pub mod Answers
-pub mod Lent
+pub mod TapHelpers

@@ -4,36 +4,40 @@ ghost use Prim.Native.Nat.{_+_, _*_, _^_, _≤_, _<_};
 ghost use lib.ListN.{length};
 ghost use Rattle.lists.specs.Lists.{tab};
 ghost use Rattle.words.specs.Words.{AllCanonical};
+ghost use Rattle.numbers.specs.Numbers.{tapWords, traceWords};
 ghost use Rattle.table.specs.Table.{IsTable};
 ghost use Rattle.constraints.specs.ReadOff.{readInput, readWord, readTaps};
-ghost use Rattle.steps.specs.Steps.{backReady};
+ghost use Rattle.steps.specs.StepHelpers.{backReady};
 ghost use Rattle.readoff.specs.Answers.{readOffAnswer, readOffLeaves};
-ghost use Rattle.readoff.specs.Lent.{HasTap};
+ghost use Rattle.readoff.specs.TapHelpers.{HasTap};
+use numbers::BATCH_TAP_WORDS;
+use numbers::BATCH_WORDS;
 use numbers::BatchCount;
-use numbers::BatchNumber;
 use numbers::HashNumber;
 use numbers::MOST_BATCHES;
 use numbers::RowNumber;
+use numbers::TAP_WORDS;
 use numbers::TapNumber;
+use numbers::WIDTH;
 use refusals::Answer;
 use refusals::Refusal;
 use refusals::TestsAnswer;
 
-// The input of a hash of the chain: row 0 of the batch for the first of its three hashes, for the others back less K_0 at rows 10 and 20.
-fn read_input(inverse: &[u64], table: &[u64], trace: &[u64], hash: HashNumber) -> [u64; 12]
+// The input of a hash of the chain: row 0 of the batch for the first of its three hashes, for the others back less K_0
+// at rows 10 and 20.
+fn read_input(inverse: &[u64], table: &[u64], trace: &[u64], hash: HashNumber) -> [u64; WIDTH]
     requires { ⌜ (now inverse ≡ backReady (now table)) × IsTable (now table) × HasTap (now trace) (hash .0 + 1) ⌝ }
     ensures { λ r. ⌜ r ≡ readInput (now (table .entry)) (now (trace .entry)) (hash .0) ⌝ }
 {
-    let batch = BatchNumber(hash.0 / 3);
-    let within = hash.0 % 3;
-    if within == 0 {
-        return rows::cells(trace, batch.row(0));
+    if hash.within() == 0 {
+        return rows::cells(trace, hash.batch().row(0));
     }
-    let back = rows::back(inverse, table, trace, batch.row(10 * within + 1));
+    let back = rows::back(inverse, table, trace, hash.first_row());
     steps::less_initial(table, back)
 }
 
-// w_i: columns 0 to 3 of the first row 0 for w_0, columns 4 to 7 of the input of the hash that takes it in for the others.
+// A tap: columns 0 to 3 of the first row 0 for w_0, columns 4 to 7 of the input of the hash that takes it in for the
+// others.
 fn read_tap(inverse: &[u64], table: &[u64], trace: &[u64], tap: TapNumber) -> [u64; 4]
     requires { ⌜ (now inverse ≡ backReady (now table)) × IsTable (now table) × HasTap (now trace) (tap .0) ⌝ }
     ensures { λ r. ⌜ r ≡ tab 4 (λ j. readWord (now (table .entry)) (now (trace .entry)) (4 * tap .0 + j)) ⌝ }
@@ -42,25 +46,25 @@ fn read_tap(inverse: &[u64], table: &[u64], trace: &[u64], tap: TapNumber) -> [u
         let first = rows::cells(trace, RowNumber(0));
         return [first[0], first[1], first[2], first[3]];
     }
-    let input = read_input(inverse, table, trace, HashNumber(tap.0 - 1));
+    let input = read_input(inverse, table, trace, tap.hash());
     [input[4], input[5], input[6], input[7]]
 }
 
 // The taps of a trace of k batches.
 fn write_taps(inverse: &[u64], table: &[u64], trace: &[u64], k: usize, destination: &mut [u64])
-    requires { ⌜ (now inverse ≡ backReady (now table)) × IsTable (now table) × AllCanonical (now trace) × (length (now trace) ≡ 384 * k) × (1 ≤ k) × (k < 2 ^ 32) × (length (now destination) ≡ 12 * k + 4) ⌝ }
+    requires { ⌜ (now inverse ≡ backReady (now table)) × IsTable (now table) × AllCanonical (now trace)
+        × (length (now trace) ≡ traceWords k) × (1 ≤ k) × (k < 2 ^ 32) × (length (now destination) ≡ tapWords k) ⌝ }
     ensures { λ r. ⌜ now (destination .exit) ≡ readTaps (now (table .entry)) (now (trace .entry)) k ⌝ }
 {
-    let mut i: usize = 0;
-    while i < 3 * k + 1 {
-        let tap = TapNumber(i);
+    let taps = 3 * k + 1;
+    for n in 0..taps {
+        let tap = TapNumber(n);
         let words = read_tap(inverse, table, trace, tap);
         let start = tap.start();
         destination[start] = words[0];
         destination[start + 1] = words[1];
         destination[start + 2] = words[2];
         destination[start + 3] = words[3];
-        i += 1;
     }
 }
 
@@ -68,14 +72,14 @@ fn write_taps(inverse: &[u64], table: &[u64], trace: &[u64], k: usize, destinati
 fn test_read_off(table: &[u64], trace: &[u64], claim: &[u64; 4], size: usize) -> TestsAnswer
     ensures { λ r. ⌜ r ≡ readOffAnswer (now (table .entry)) (now (trace .entry)) (now (claim .entry)) size ⌝ }
 {
-    let tested = table::test(table);
-    let Answer::Accepted = tested else {
-        return TestsAnswer::Refused(tested.refusal());
+    let of_table = table::test(table);
+    let Answer::Accepted = of_table else {
+        return TestsAnswer::Refused(of_table.refusal());
     };
     let BatchCount::Permitted(k) = numbers::trace_batches(MOST_BATCHES, trace.len()) else {
         return TestsAnswer::Refused(Refusal::TraceLength);
     };
-    if size != 12 * k + 4 {
+    if size != BATCH_TAP_WORDS * k + TAP_WORDS {
         return TestsAnswer::Refused(Refusal::DestinationLength);
     }
     let of_claim = checker::test_claim(claim);
@@ -105,7 +109,7 @@ pub fn read_off(
     let TestsAnswer::Accepted(_) = answer else {
         return answer;
     };
-    let k = trace.len() / 384;
+    let k = trace.len() / BATCH_WORDS;
     let inverse = steps::back_ready(table);
     write_taps(&inverse, table, trace, k, destination);
     answer

@@ -1,4 +1,5 @@
--- The laws of answers, once for every operation: what an acceptance says of the tests before it, what a refusal leaves, and how answers end.
+-- The laws of answers, once for every operation: what an acceptance says of the tests before it, what a refusal leaves,
+-- and how answers end.
 -- Assumes nothing.
 use mathlib.Core.Path.{_≡_, refl, sym, ap, _∙_}
 use mathlib.Core.Bool.{Bool, true, false}
@@ -114,10 +115,12 @@ module _ (Q : Refusal → Type 0) where
   after-ends Accepted rest p n = n refl
   after-ends (Refused r) rest p n = p
 
-  pub digest-ends : (R : Digest → Type 0) (a : Answer) (d : Digest) → AnswerEnds Q a → (a ≡ Accepted → R d) → DigestEnds R Q (digestAfter a d)
+  pub digest-ends : (R : Digest → Type 0) (a : Answer) (d : Digest) → AnswerEnds Q a → (a ≡ Accepted → R d)
+      → DigestEnds R Q (digestAfter a d)
   digest-ends R Accepted d p n = n refl
   digest-ends R (Refused r) d p n = p
 
-  pub tests-ends : (R : ℕ → Type 0) (a : Answer) (n : ℕ) → AnswerEnds Q a → (a ≡ Accepted → R n) → TestsEnds R Q (testsAfter a n)
+  pub tests-ends : (R : ℕ → Type 0) (a : Answer) (n : ℕ) → AnswerEnds Q a → (a ≡ Accepted → R n)
+      → TestsEnds R Q (testsAfter a n)
   tests-ends R Accepted n p f = f refl
   tests-ends R (Refused r) n p f = p

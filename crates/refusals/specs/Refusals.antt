@@ -30,7 +30,8 @@ told TraceLength = alone 7
 told DestinationLength = alone 8
 told (ClaimWord i) = indexed 9 i
 told (TraceWord i) = indexed 10 i
-told (Constraint row constraint tests) = record { number = 11; values = 3; row = row .0; constraint = constraint; value = tests }
+told (Constraint row constraint tests) =
+    record { number = 11; values = 3; row = row .0; constraint = constraint; value = tests }
 told FileLength = alone 12
 told (WrongKind i) = indexed 13 i
 told (WrongValue i) = indexed 14 i

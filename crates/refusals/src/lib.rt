@@ -26,8 +26,8 @@ pub enum Refusal {
     WrongValue(usize),
 }
 
-// What is told of a refusal: its number, and how many values come with it: none, an index (`value`), or row, constraint and
-// tests (`value`).
+// What is told of a refusal: its number, and how many values come with it: none, an index (`value`), or row, constraint
+// and tests (`value`).
 pub struct Particulars {
     pub number: usize,
     pub values: usize,

@@ -9,11 +9,11 @@ use lib.ListN.{length, replicate, getD-replicate}
 use Rattle.lists.specs.Lists.{cell, tab}
 use Rattle.lists.proofs.Tab.{length-tab, cell-tab, tab-ext}
 use Rattle.field.specs.Field.{mul, power, third, root}
-use Rattle.field.specs.Montgomery.{Short, element, timesWord, enterWord}
-use Rattle.field.proofs.Forms.{element-lt, times-element, times-short, enter-element, enter-short}
+use Rattle.field.specs.MontgomeryHelpers.{Short, divided, timesWord, enterWord}
+use Rattle.field.proofs.Forms.{divided-lt, divided-times, times-short, divided-enter, enter-short}
 use Rattle.field.proofs.Power.{times-one, times-even, times-odd, one-times}
 use Rattle.words.specs.Words.{CanonicalTo}
-use Rattle.roots.specs.Cells.{ShortTo, elements, words, wordProducts, products, powers}
+use Rattle.roots.specs.CellHelpers.{ShortTo, elements, words, wordProducts, products, powers}
 
 cell-products : (a b : List ℕ) (j : ℕ) → j < 12 → cell (products a b) j ≡ mul (cell a j) (cell b j)
 unfolding products
@@ -23,9 +23,9 @@ cell-powers : (x : List ℕ) (e j : ℕ) → j < 12 → cell (powers x e) j ≡ 
 unfolding powers
 cell-powers x e j h = cell-tab 12 (λ i. power (cell x i) e) j h
 
-cell-elements : (v : List ℕ) (j : ℕ) → j < 12 → cell (elements v) j ≡ element (cell v j)
+cell-elements : (v : List ℕ) (j : ℕ) → j < 12 → cell (elements v) j ≡ divided (cell v j)
 unfolding elements
-cell-elements v j h = cell-tab 12 (λ i. element (cell v i)) j h
+cell-elements v j h = cell-tab 12 (λ i. divided (cell v i)) j h
 
 -- ---- products of words
 pub length-word-products : (a b : List ℕ) → length (wordProducts a b) ≡ 12
@@ -45,9 +45,9 @@ pub elements-of-products : (a b : List ℕ) → ShortTo 12 a → ShortTo 12 b
     → elements (wordProducts a b) ≡ products (elements a) (elements b)
 unfolding elements products
 elements-of-products a b ha hb =
-    tab-ext 12 (λ j. element (cell (wordProducts a b) j)) (λ j. mul (cell (elements a) j) (cell (elements b) j))
-    (λ j h. ap element (cell-word-products a b j h)
-    ∙ times-element (cell a j) (cell b j) (ha j h) (hb j h)
+    tab-ext 12 (λ j. divided (cell (wordProducts a b) j)) (λ j. mul (cell (elements a) j) (cell (elements b) j))
+    (λ j h. ap divided (cell-word-products a b j h)
+    ∙ divided-times (cell a j) (cell b j) (ha j h) (hb j h)
     ∙ sym (ap₂ mul (cell-elements a j h) (cell-elements b j h)))
 
 -- ---- words that stand for cells
@@ -58,17 +58,17 @@ words-short s c j h = subst Short (sym (cell-tab 12 (λ i. enterWord (cell s i))
 pub elements-of-words : (s : List ℕ) → CanonicalTo 12 s → elements (words s) ≡ tab 12 (cell s)
 unfolding elements words
 elements-of-words s c =
-    tab-ext 12 (λ j. element (cell (words s) j)) (cell s)
-    (λ j h. ap element (cell-tab 12 (λ i. enterWord (cell s i)) j h) ∙ enter-element (cell s j) (c j h))
+    tab-ext 12 (λ j. divided (cell (words s) j)) (cell s)
+    (λ j h. ap divided (cell-tab 12 (λ i. enterWord (cell s i)) j h) ∙ divided-enter (cell s j) (c j h))
 
 -- ---- the recursion
 pub powers-done : (v x : List ℕ) → elements v ≡ products (elements v) (powers x 0)
 unfolding products elements
 powers-done v x =
-    tab-ext 12 (λ j. element (cell v j)) (λ j. mul (cell (elements v) j) (cell (powers x 0) j))
+    tab-ext 12 (λ j. divided (cell v j)) (λ j. mul (cell (elements v) j) (cell (powers x 0) j))
     (λ j h. sym
     (ap₂ mul (cell-elements v j h) (cell-powers x 0 j h)
-    ∙ times-one (element (cell v j)) (cell x j) (element-lt (cell v j))))
+    ∙ times-one (divided (cell v j)) (cell x j) (divided-lt (cell v j))))
 
 pub powers-even : (a x : List ℕ) (e : ℕ) → e < 2 ^ 64 → e % 2 ≡ 0
     → products a (powers (products x x) (e / 2)) ≡ products a (powers x e)
@@ -104,6 +104,6 @@ roots-of-powers s =
     (λ j. mul (cell (elements (replicate 12 2305842407918272505)) j) (cell (powers (tab 12 (cell s)) third) j))
     (λ j. root (cell s j))
     (λ j h. ap₂ mul
-    (cell-elements (replicate 12 2305842407918272505) j h ∙ ap element (getD-replicate 12 j 2305842407918272505 0 h))
+    (cell-elements (replicate 12 2305842407918272505) j h ∙ ap divided (getD-replicate 12 j 2305842407918272505 0 h))
     (cell-powers (tab 12 (cell s)) third j h ∙ ap (λ x. power x third) (cell-tab 12 (cell s) j h))
     ∙ one-times (cell s j) third (omega arith))

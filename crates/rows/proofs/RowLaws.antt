@@ -16,12 +16,13 @@ use Rattle.words.specs.Words.{CanonicalTo}
 use Rattle.table.specs.Table.{initialConstant}
 use Rattle.hash.specs.Hash.{secondStep}
 use Rattle.hash.proofs.States.{state-cell, same-cells, secondStep-state}
-use Rattle.constraints.specs.Constraints.{row, round, entering, plusFirst, forward, backStep, back}
+use Rattle.trace.specs.Trace.{row}
+use Rattle.constraints.specs.Constraints.{round, entering, plusFirst, forward, backStep, back}
 use Rattle.constraints.proofs.RowCells.{cell-row, length-row}
 use Rattle.constraints.proofs.ForwardBack.{length-first, cell-plus-first, cell-plus-kept}
-use Rattle.steps.specs.Steps.{columns, tested}
+use Rattle.steps.specs.StepHelpers.{columns}
 use Rattle.steps.proofs.Made.{length-columns, cell-columns, cell-before, cell-beyond}
-use Rattle.rows.specs.Lent.{HasRow}
+use Rattle.rows.specs.RowHelpers.{HasRow, testedColumns}
 
 -- s is the row that is read
 module _ (t : List ℕ) (i : ℕ) (h : HasRow t i) {s : List ℕ} (e : s ≡ row t i) where
@@ -71,15 +72,17 @@ plus-columns s k =
 
 -- ---- forward and back from their parts
 module _ (T t : List ℕ) (i : ℕ) {r : ℕ} (q : r ≡ round i) {s : List ℕ} (at-row : s ≡ row t i) where
-  second-made : (k : ℕ) {n : List ℕ} → n ≡ columns k (secondStep T r s) → n ≡ columns k (secondStep T (round i) (row t i))
+  second-made : (k : ℕ) {n : List ℕ} → n ≡ columns k (secondStep T r s)
+      → n ≡ columns k (secondStep T (round i) (row t i))
   second-made k e = e ∙ ap (columns k) (ap₂ (secondStep T) q at-row)
 
-  pub forward-plain : entering i ≡ false → {n : List ℕ} → n ≡ columns 12 (secondStep T r s) → n ≡ columns (tested i) (forward T t i)
+  pub forward-plain : entering i ≡ false → {n : List ℕ} → n ≡ columns 12 (secondStep T r s)
+      → n ≡ columns (testedColumns i) (forward T t i)
   unfolding forward
   forward-plain b e = rw b (second-made 12 e)
 
   pub forward-entering : entering i ≡ true → {n : List ℕ} → n ≡ columns 4 (secondStep T r s)
-      → {out : List ℕ} → out ≡ plusFirst 4 n (initialConstant T) → out ≡ columns (tested i) (forward T t i)
+      → {out : List ℕ} → out ≡ plusFirst 4 n (initialConstant T) → out ≡ columns (testedColumns i) (forward T t i)
   unfolding forward
   forward-entering b e f =
       rw b
@@ -91,8 +94,10 @@ module _ (T t : List ℕ) (i : ℕ) {r : ℕ} (q : r ≡ round i) {s : List ℕ}
   unfolding back
   back-made e = e ∙ ap₂ (backStep T) q at-row
 
-pub second-canonical : (k : ℕ) (T : List ℕ) (r : ℕ) (s : List ℕ) {n : List ℕ} → n ≡ columns k (secondStep T r s) → CanonicalTo 12 n
-second-canonical k T r s e j l = subst (λ x. Canonical (cell x j)) (sym e) (subst Canonical (sym (cell-columns k (secondStep T r s) j l)) (go (ltb j k)))
+pub second-canonical : (k : ℕ) (T : List ℕ) (r : ℕ) (s : List ℕ) {n : List ℕ} → n ≡ columns k (secondStep T r s) →
+    CanonicalTo 12 n
+second-canonical k T r s e j l = subst (λ x. Canonical (cell x j)) (sym e)
+    (subst Canonical (sym (cell-columns k (secondStep T r s) j l)) (go (ltb j k)))
   where
     go : (b : Bool) → Canonical (choose b (cell (secondStep T r s) j) 0)
     go true = state-cell (secondStep-state T r s) j

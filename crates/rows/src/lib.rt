@@ -6,32 +6,33 @@ ghost use Rattle.lists.specs.Lists.{cell};
 ghost use Rattle.field.specs.Field.{Canonical};
 ghost use Rattle.words.specs.Words.{CanonicalTo};
 ghost use Rattle.table.specs.Table.{IsTable, initialConstant};
-ghost use Rattle.constraints.specs.Constraints.{row as cells-of, within, round, entering, plusFirst, forward, back};
-ghost use Rattle.steps.specs.Steps.{forwardReady, backReady, columns, tested};
-ghost use Rattle.rows.specs.Lent.{HasRow};
+ghost use Rattle.trace.specs.Trace.{row as cells-of};
+ghost use Rattle.numbers.specs.Numbers.{width, within};
+ghost use Rattle.constraints.specs.Constraints.{round, entering, plusFirst, forward, back};
+ghost use Rattle.steps.specs.StepHelpers.{forwardReady, backReady, columns};
+ghost use Rattle.rows.specs.RowHelpers.{HasRow, testedColumns};
 use field::Fp;
 use numbers::RowNumber;
+use numbers::WIDTH;
 
 pub mod view;
 
 // The cells of the row, by value.
-pub fn cells(trace: &[u64], row: RowNumber) -> [u64; 12]
+pub fn cells(trace: &[u64], row: RowNumber) -> [u64; WIDTH]
     requires { ⌜ HasRow (now trace) (row .0) ⌝ }
-    ensures { λ r. ⌜ (r ≡ cells-of (now (trace .entry)) (row .0)) × CanonicalTo 12 r ⌝ }
+    ensures { λ r. ⌜ (r ≡ cells-of (now (trace .entry)) (row .0)) × CanonicalTo width r ⌝ }
 {
     let lent = view::trace_row(trace, row);
-    let mut out = [0u64; 12];
-    let mut j: usize = 0;
-    while j < 12 {
+    let mut out = [0u64; WIDTH];
+    for j in 0..WIDTH {
         out[j] = lent[j];
-        j += 1;
     }
     out
 }
 
 // One cell of the row.
 pub fn cell(trace: &[u64], row: RowNumber, column: usize) -> u64
-    requires { ⌜ HasRow (now trace) (row .0) × (column < 12) ⌝ }
+    requires { ⌜ HasRow (now trace) (row .0) × (column < width) ⌝ }
     ensures { λ r. ⌜ (r ≡ cell (cells-of (now (trace .entry)) (row .0)) column) × Canonical r ⌝ }
 {
     let lent = view::trace_row(trace, row);
@@ -55,35 +56,37 @@ pub fn is_entering(row: RowNumber) -> bool
 }
 
 // The state plus K_0 in columns 0 to 3 only, as at rows 10 and 20.
-fn plus_entering(table: &[u64], s: [u64; 12]) -> [u64; 12]
-    requires { ⌜ IsTable (now table) × CanonicalTo 12 s ⌝ }
+fn plus_entering(table: &[u64], s: [u64; WIDTH]) -> [u64; WIDTH]
+    requires { ⌜ IsTable (now table) × CanonicalTo width s ⌝ }
     ensures { λ r. ⌜ r ≡ plusFirst 4 s (initialConstant (now (table .entry))) ⌝ }
 {
     let mut out = s;
-    let mut j: usize = 0;
-    while j < 4 {
+    for j in 0..4 {
         let constant = table::initial_constant(table, j);
         out[j] = Fp(s[j]).add(Fp(constant)).0;
-        j += 1;
     }
     out
 }
 
-// The columns of forward of the row that are tested: its cells cubed, times M, plus its round's second-step constant; at rows 10 and 20 K_0 is added too.
-pub fn forward(ready: &[u64], table: &[u64], trace: &[u64], row: RowNumber) -> [u64; 12]
-    requires { ⌜ IsTable (now table) × (now ready ≡ forwardReady (now table)) × HasRow (now trace) (row .0) × (1 ≤ within (row .0)) ⌝ }
-    ensures { λ r. ⌜ r ≡ columns (tested (row .0)) (forward (now (table .entry)) (now (trace .entry)) (row .0)) ⌝ }
+// The columns of forward of the row that are tested: its cells cubed, times M, plus its round's second-step constant;
+// at rows 10 and 20 K_0 is added too.
+pub fn forward(ready: &[u64], table: &[u64], trace: &[u64], row: RowNumber) -> [u64; WIDTH]
+    requires { ⌜ IsTable (now table) × (now ready ≡ forwardReady (now table)) × HasRow (now trace) (row .0)
+        × (1 ≤ within (row .0)) ⌝ }
+    ensures { λ r. ⌜ r ≡ columns (testedColumns (row .0))
+        (forward (now (table .entry)) (now (trace .entry)) (row .0)) ⌝ }
 {
     if is_entering(row) {
-        let next = steps::second_step(ready, table, round_of(row), cells(trace, row), 4);
+        let next = steps::forward_step(ready, table, round_of(row), cells(trace, row), 4);
         return plus_entering(table, next);
     }
-    steps::second_step(ready, table, round_of(row), cells(trace, row), 12)
+    steps::forward_step(ready, table, round_of(row), cells(trace, row), WIDTH)
 }
 
 // Back of the row: its cells less its round's first-step constant, times the inverse of M, then cubed.
-pub fn back(ready: &[u64], table: &[u64], trace: &[u64], row: RowNumber) -> [u64; 12]
-    requires { ⌜ IsTable (now table) × (now ready ≡ backReady (now table)) × HasRow (now trace) (row .0) × (1 ≤ within (row .0)) ⌝ }
+pub fn back(ready: &[u64], table: &[u64], trace: &[u64], row: RowNumber) -> [u64; WIDTH]
+    requires { ⌜ IsTable (now table) × (now ready ≡ backReady (now table)) × HasRow (now trace) (row .0)
+        × (1 ≤ within (row .0)) ⌝ }
     ensures { λ r. ⌜ r ≡ back (now (table .entry)) (now (trace .entry)) (row .0) ⌝ }
 {
     steps::back_step(ready, table, round_of(row), cells(trace, row))

@@ -3,10 +3,12 @@
 ghost use mathlib.Core.Path.{_≡_};
 ghost use Prim.Native.Nat.{_+_, _*_, _<_, _≤_, _^_};
 ghost use lib.ListN.{length};
-ghost use Rattle.constraints.specs.Constraints.{row};
-ghost use Rattle.rows.specs.Lent.{LentRow};
+ghost use Rattle.numbers.specs.Numbers.{batchRows, width};
+ghost use Rattle.trace.specs.Trace.{row};
+ghost use Rattle.rows.specs.RowHelpers.{LentRow};
 use numbers::BatchNumber;
 use numbers::RowNumber;
+use numbers::WIDTH;
 
 // The lent trace, at one of its batches.
 pub struct Batch<'a> {
@@ -17,11 +19,11 @@ pub struct Batch<'a> {
 // Row `within` of the batch, from the trace itself: what the readers of a view call.
 pub fn row_at(trace: &[u64], batch: BatchNumber, within: usize) -> &[u64]
     requires { ⌜ LentRow (now trace) (batch .0) within ⌝ }
-    ensures { λ r. ⌜ now r ≡ row (now (trace .entry)) (32 * batch .0 + within) ⌝ }
+    ensures { λ r. ⌜ now r ≡ row (now (trace .entry)) (batchRows * batch .0 + within) ⌝ }
 {
     let row = batch.row(within);
     let start = row.start();
-    let end = start + 12;
+    let end = start + WIDTH;
     &trace[start..end]
 }
 
@@ -35,7 +37,7 @@ pub fn view<'a>(trace: &'a [u64], batch: BatchNumber) -> Batch<'a>
 // Row `within` of the batch that is viewed.
 pub fn row<'a>(b: Batch<'a>, within: usize) -> &'a [u64]
     requires { ⌜ LentRow (now (b .trace)) (b .batch .0) within ⌝ }
-    ensures { λ r. ⌜ now r ≡ row (now (b .entry .trace)) (32 * b .entry .batch .0 + within) ⌝ }
+    ensures { λ r. ⌜ now r ≡ row (now (b .entry .trace)) (batchRows * b .entry .batch .0 + within) ⌝ }
 {
     row_at(b.trace, b.batch, within)
 }
@@ -43,14 +45,14 @@ pub fn row<'a>(b: Batch<'a>, within: usize) -> &'a [u64]
 // The same with plain parameters: whoever calls this one needs no walk.
 pub fn row_of(trace: &[u64], batch: BatchNumber, within: usize) -> &[u64]
     requires { ⌜ LentRow (now trace) (batch .0) within ⌝ }
-    ensures { λ r. ⌜ now r ≡ row (now (trace .entry)) (32 * batch .0 + within) ⌝ }
+    ensures { λ r. ⌜ now r ≡ row (now (trace .entry)) (batchRows * batch .0 + within) ⌝ }
 {
     row(view(trace, batch), within)
 }
 
 // Row `number` of the whole trace, through the view of its batch.
 pub fn trace_row(trace: &[u64], number: RowNumber) -> &[u64]
-    requires { ⌜ (number .0 < 2 ^ 37) × (12 * number .0 + 12 ≤ length (now trace)) ⌝ }
+    requires { ⌜ (number .0 < 2 ^ 37) × (width * number .0 + width ≤ length (now trace)) ⌝ }
     ensures { λ r. ⌜ now r ≡ row (now (trace .entry)) (number .0) ⌝ }
 {
     row_of(trace, number.batch(), number.within())

@@ -1,1 +1,1 @@
-pub mod RowTests
+pub mod TestHelpers

@@ -13,17 +13,17 @@ use Rattle.lists.specs.Lists.{choose, cell, tab, sum}
 use Rattle.lists.proofs.Tab.{length-tab, cell-tab, tab-ext, tab-unique, filled}
 use Rattle.lists.proofs.Tab.{filled-before, filled-after, length-filled}
 use Rattle.field.specs.Field.{P, add, cube}
-use Rattle.field.specs.Montgomery.{element}
-use Rattle.field.proofs.Forms.{element-lt}
+use Rattle.field.specs.MontgomeryHelpers.{divided}
+use Rattle.field.proofs.Forms.{divided-lt}
 use Rattle.matrix.specs.Matrix.{entry, timesColumn, times}
 use Rattle.matrix.proofs.Linear.{times-ext}
 use Rattle.matrix.proofs.States.{cell-times}
-use Rattle.winograd.specs.Winograd.{IsReady}
+use Rattle.winograd.specs.WinogradHelpers.{IsReady}
 use Rattle.winograd.proofs.ReadyWords.{cell-ready, ready-is}
 use Rattle.table.specs.Table.{matrixOf, inverseOf, firstStepConstant, secondStepConstant}
 use Rattle.hash.specs.Hash.{cubes, plus, mix, secondStep}
 use Rattle.constraints.specs.Constraints.{minus, backStep}
-use Rattle.steps.specs.Steps.{thinCube, forwardReady, backReady, columns, forwardScale, backScale}
+use Rattle.steps.specs.StepHelpers.{montgomeryCube, forwardReady, backReady, columns, forwardScale, backScale}
 use Rattle.steps.proofs.Scales.{forward-cell, back-cell}
 
 pub forward-is : (T ready : List ℕ) → ready ≡ forwardReady T → IsReady ready
@@ -36,7 +36,7 @@ back-is T ready e = subst IsReady (sym e) (ready-is (inverseOf T) backScale)
 
 -- row i of a ready matrix times a column, divided by 2^64
 abbrev pub inner : List ℕ → List ℕ → ℕ → ℕ
-inner ready x i = element (sum 12 (λ j. cell ready (12 * i + j) * cell x j))
+inner ready x i = divided (sum 12 (λ j. cell ready (12 * i + j) * cell x j))
 
 -- ---- the first columns of a state
 pub length-columns : (n : ℕ) (s : List ℕ) → length (columns n s) ≡ 12
@@ -74,7 +74,7 @@ pub plus-word : (w a : ℕ) {k m : ℕ} → w % P ≡ add a k → k ≡ m → w 
 plus-word w a e h = e ∙ ap (add a) h
 
 pub second-made : (T ready s cubed out : List ℕ) (round count : ℕ) → count ≤ 12
-    → ready ≡ forwardReady T → cubed ≡ tab 12 (λ j. thinCube (cell s j))
+    → ready ≡ forwardReady T → cubed ≡ tab 12 (λ j. montgomeryCube (cell s j))
     → out ≡ filled count (λ i. add (inner ready cubed i) (cell (secondStepConstant T round) i)) (replicate 12 0)
     → out ≡ columns count (secondStep T round s)
 unfolding secondStep plus mix cubes forwardReady
@@ -91,7 +91,7 @@ second-made T ready s cubed out round count hc er ec e =
     mixed i h =
         forward-cell (matrixOf T) i (λ j. cell ready (12 * i + j)) (cell cubed)
         (λ j l. ap (λ x. cell x (12 * i + j)) er ∙ cell-ready (matrixOf T) forwardScale (12 * i + j) (omega arith))
-        (cell s) (λ j l. ap (λ x. cell x j) ec ∙ cell-tab 12 (λ n. thinCube (cell s n)) j l)
+        (cell s) (λ j l. ap (λ x. cell x j) ec ∙ cell-tab 12 (λ n. montgomeryCube (cell s n)) j l)
         ∙ times-ext 12 (entry (matrixOf T)) (entry (matrixOf T)) (λ j. cube (cell s j)) (cell (cubes s)) i (λ j l. refl)
         (λ j l. sym (cell-tab 12 (λ n. cube (cell s n)) j l))
         ∙ sym (cell-times (matrixOf T) (cubes s) i h)
@@ -100,12 +100,13 @@ second-made T ready s cubed out round count hc er ec e =
 
 -- the cell that is stored, from a word that is the inner product
 pub back-word : (T ready less : List ℕ) (i y : ℕ) → i < 12 → ready ≡ backReady T
-    → y % P ≡ (inner ready less i + 0) % P → thinCube y ≡ cube (timesColumn 12 (entry (inverseOf T)) (cell less) i)
+    → y % P ≡ (inner ready less i + 0) % P
+    → montgomeryCube y ≡ cube (timesColumn 12 (entry (inverseOf T)) (cell less) i)
 unfolding backReady
 back-word T ready less i y h er e =
     back-cell (inverseOf T) i (λ j. cell ready (12 * i + j)) (cell less)
     (λ j l. ap (λ x. cell x (12 * i + j)) er ∙ cell-ready (inverseOf T) backScale (12 * i + j) (omega arith)) y
-    (e ∙ ap (λ x. x % P) (add-zero (inner ready less i)) ∙ mod-eq-of-lt (element-lt _))
+    (e ∙ ap (λ x. x % P) (add-zero (inner ready less i)) ∙ mod-eq-of-lt (divided-lt _))
 
 pub undone-made : (T s less out : List ℕ) (round : ℕ) → less ≡ minus s (firstStepConstant T round)
     → out ≡ tab 12 (λ i. cube (timesColumn 12 (entry (inverseOf T)) (cell less) i)) → out ≡ backStep T round s

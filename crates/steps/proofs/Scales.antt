@@ -8,18 +8,18 @@ use native.Mathlib.Omega.{arith}
 use Rattle.lists.specs.Lists.{sum}
 use Rattle.lists.proofs.Sum.{sum-mul-r}
 use Rattle.field.specs.Field.{P, cube}
-use Rattle.field.specs.Montgomery.{element, unitInverse}
+use Rattle.field.specs.MontgomeryHelpers.{divided, unitInverse}
 use Rattle.field.proofs.Modular.{mul-mod-l, mul-mod-r}
 use Rattle.matrix.specs.Matrix.{entry, timesColumn}
 use Rattle.matrix.proofs.Modulo.{mul-eq, sum-eq}
-use Rattle.winograd.specs.Winograd.{scaled}
-use Rattle.steps.specs.Steps.{thinCube, forwardScale, backScale}
+use Rattle.winograd.specs.WinogradHelpers.{scaled}
+use Rattle.steps.specs.StepHelpers.{montgomeryCube, forwardScale, backScale}
 
 -- ---- modulo p, where j is the inverse of 2^64
 module _ (p j : ℕ) where
   -- x^3 / 2^128, in one piece
-  thin-flat : (x : ℕ) → ((x * x * j) % p * x * j) % p ≡ (x * x * x * (j * j)) % p
-  thin-flat x = ap (λ z. z % p) (turned ((x * x * j) % p)) ∙ mul-mod-l p (x * x * j) (x * j) ∙ ap (λ z. z % p) spread
+  form-flat : (x : ℕ) → ((x * x * j) % p * x * j) % p ≡ (x * x * x * (j * j)) % p
+  form-flat x = ap (λ z. z % p) (turned ((x * x * j) % p)) ∙ mul-mod-l p (x * x * j) (x * j) ∙ ap (λ z. z % p) spread
     where
       turned : (a : ℕ) → a * x * j ≡ a * (x * j)
       turned a = omega arith
@@ -30,7 +30,7 @@ module _ (p j : ℕ) where
   cube-flat : (x : ℕ) → ((x * x) % p * x) % p ≡ (x * x * x) % p
   cube-flat x = mul-mod-l p (x * x) x
 
-  -- a scale c with c j^4 = 1: a scaled cell times a thin cube, divided by 2^64, is the cell times the cube
+  -- a scale c with c j^4 = 1: a scaled cell times such a cube, divided by 2^64, is the cell times the plain cube
   module _ (c : ℕ) (inv : (c * (j * j * j * j)) % p ≡ 1) where
     pub forward-term : (m x : ℕ)
         → ((m * c * j) % p * (((x * x * j) % p * x * j) % p) * j) % p ≡ (m * (((x * x) % p * x) % p)) % p
@@ -38,7 +38,7 @@ module _ (p j : ℕ) where
         ap (λ z. z % p) (turned ((m * c * j) % p) (((x * x * j) % p * x * j) % p))
         ∙ mul-eq p ((m * c * j) % p) (m * c * j) ((((x * x * j) % p * x * j) % p) * j) (x * x * x * (j * j) * j)
         (mod-mod (m * c * j) p)
-        (mul-eq p (((x * x * j) % p * x * j) % p) (x * x * x * (j * j)) j j (mod-mod _ p ∙ thin-flat x) refl)
+        (mul-eq p (((x * x * j) % p * x * j) % p) (x * x * x * (j * j)) j j (mod-mod _ p ∙ form-flat x) refl)
         ∙ ap (λ z. z % p) gathered
         ∙ sym (mul-mod-r p (m * (x * x * x)) (c * (j * j * j * j)))
         ∙ ap (λ z. (m * (x * x * x) * z) % p) inv
@@ -51,12 +51,12 @@ module _ (p j : ℕ) where
         gathered : m * c * j * (x * x * x * (j * j) * j) ≡ m * (x * x * x) * (c * (j * j * j * j))
         gathered = omega arith
 
-  -- a scale c with (c j^2)^3 j^2 = 1: the thin cube of what is c j^2 times n is the cube of n
+  -- a scale c with (c j^2)^3 j^2 = 1: such a cube of what is c j^2 times n is the cube of n
   module _ (c : ℕ) (inv : (c * j * j * (c * j * j) * (c * j * j) * (j * j)) % p ≡ 1) where
     pub back-cube : (y n : ℕ) → y % p ≡ (n * (c * j * j)) % p
         → ((y * y * j) % p * y * j) % p ≡ ((n % p * (n % p)) % p * (n % p)) % p
     back-cube y n e =
-        thin-flat y
+        form-flat y
         ∙ mul-eq p (y * y * y) (d * d * d) (j * j) (j * j) (mul-eq p (y * y) (d * d) y d (mul-eq p y d y d e e) e) refl
         ∙ ap (λ z. z % p) gathered
         ∙ sym (mul-mod-r p (n * n * n) (c * j * j * (c * j * j) * (c * j * j) * (j * j)))
@@ -89,8 +89,8 @@ module _ (p j : ℕ) where
 -- ---- rows of a matrix made ready
 pub forward-cell : (m : List ℕ) (i : ℕ) (r x : ℕ → ℕ)
     → ((n : ℕ) → n < 12 → r n ≡ scaled m forwardScale (12 * i + n)) → (s : ℕ → ℕ)
-    → ((n : ℕ) → n < 12 → x n ≡ thinCube (s n))
-    → element (sum 12 (λ n. r n * x n)) ≡ timesColumn 12 (entry m) (λ n. cube (s n)) i
+    → ((n : ℕ) → n < 12 → x n ≡ montgomeryCube (s n))
+    → divided (sum 12 (λ n. r n * x n)) ≡ timesColumn 12 (entry m) (λ n. cube (s n)) i
 unfolding timesColumn scaled
 forward-cell m i r x hr s hx =
     ap (λ z. z % P) (sym (sum-mul-r 12 unitInverse (λ n. r n * x n)))
@@ -99,7 +99,7 @@ forward-cell m i r x hr s hx =
     ∙ forward-term P unitInverse forwardScale refl (entry m i n) (s n))
 
 pub back-cell : (m : List ℕ) (i : ℕ) (r x : ℕ → ℕ) → ((n : ℕ) → n < 12 → r n ≡ scaled m backScale (12 * i + n))
-    → (y : ℕ) → y % P ≡ element (sum 12 (λ n. r n * x n)) → thinCube y ≡ cube (timesColumn 12 (entry m) x i)
+    → (y : ℕ) → y % P ≡ divided (sum 12 (λ n. r n * x n)) → montgomeryCube y ≡ cube (timesColumn 12 (entry m) x i)
 unfolding timesColumn scaled
 back-cell m i r x hr y e =
     back-cube P unitInverse backScale refl y (sum 12 (λ n. entry m i n * x n))
@@ -110,13 +110,13 @@ back-cell m i r x hr y e =
     ∙ back-term P unitInverse backScale refl (entry m i n) (x n))
     ∙ ap (λ z. z % P) (sum-mul-r 12 (backScale * unitInverse * unitInverse) (λ n. entry m i n * x n)))
 
--- ---- a thin cube from its two products
-pub thin-made : (x square : ℕ) → square % P ≡ element (x * x) → element (square * x) ≡ thinCube x
-thin-made x square e =
+-- ---- a cube in Montgomery's form from its two products
+pub cube-made : (x square : ℕ) → square % P ≡ divided (x * x) → divided (square * x) ≡ montgomeryCube x
+cube-made x square e =
     ap (λ z. z % P) (turned square)
     ∙ sym (mul-mod-l P square (x * unitInverse))
     ∙ ap (λ z. (z * (x * unitInverse)) % P) e
-    ∙ ap (λ z. z % P) (sym (turned (element (x * x))))
+    ∙ ap (λ z. z % P) (sym (turned (divided (x * x))))
   where
     turned : (a : ℕ) → a * x * unitInverse ≡ a * (x * unitInverse)
     turned a = omega arith

@@ -13,7 +13,7 @@ use Rattle.lists.specs.Lists.{choose}
 use Rattle.field.specs.Field.{P}
 use Rattle.field.proofs.Barrett.{not-over, nearly}
 use Rattle.field.proofs.Modular.{mul-mod-l}
-use Rattle.sums.specs.Sums.{lessOnce}
+use Rattle.sums.specs.SumHelpers.{reduceOnce}
 
 units-small : (upper lower : ℕ) → upper < P → lower < 2 ^ 64 → 4 * upper + lower / 4611686018427387904 ≤ 4 * P
 units-small upper lower hu hl = omega arith
@@ -50,14 +50,14 @@ module _ (upper lower : ℕ) (hu : upper < P) (hl : lower < 2 ^ 64) (h : ℕ) (e
       room = le-trans (add-le-add (mul-le-mul-left 2 (mul-le-mul-right P u-low)) (le-refl (2 ^ 64 * 2 ^ 62))) (lit≤ tt)
 
 -- ---- m taken off where it is reached
-pub less-lt : (x m : ℕ) → x < 2 * m → lessOnce x m < m
+pub less-lt : (x m : ℕ) → x < 2 * m → reduceOnce x m < m
 less-lt x m h = go (ltb x m) refl
   where
     go : (b : Bool) → ltb x m ≡ b → choose b x (x - m) < m
     go true e = ltb-true x m e
     go false e = omega (arith, ltb-false x m e)
 
-pub less-same : (x m k : ℕ) → m ≡ P * k → lessOnce x m % P ≡ x % P
+pub less-same : (x m k : ℕ) → m ≡ P * k → reduceOnce x m % P ≡ x % P
 less-same x m k em = go (ltb x m) refl
   where
     go : (b : Bool) → ltb x m ≡ b → choose b x (x - m) % P ≡ x % P
@@ -68,13 +68,13 @@ less-same x m k em = go (ltb x m) refl
         s = omega (arith, ltb-false x m e)
 
 -- the difference, which wraps where m is not reached, is the lesser exactly where it is
-pub taken-off : (x m y : ℕ) → x < 2 ^ 64 → m < 2 ^ 64 → (y + m) % 2 ^ 64 ≡ x → y < x → y ≡ lessOnce x m
+pub taken-off : (x m y : ℕ) → x < 2 ^ 64 → m < 2 ^ 64 → (y + m) % 2 ^ 64 ≡ x → y < x → y ≡ reduceOnce x m
 taken-off x m y hx hm e h = rw (le-ltb x m reached) (omega (arith, reached))
   where
     reached : m ≤ x
     reached = omega arith
 
-pub left-alone : (x m y : ℕ) → x < 2 ^ 64 → m < 2 ^ 64 → y < 2 ^ 64 → (y + m) % 2 ^ 64 ≡ x → x ≤ y → x ≡ lessOnce x m
+pub left-alone : (x m y : ℕ) → x < 2 ^ 64 → m < 2 ^ 64 → y < 2 ^ 64 → (y + m) % 2 ^ 64 ≡ x → x ≤ y → x ≡ reduceOnce x m
 left-alone x m y hx hm hy e h = go (ltb x m) refl
   where
     go : (b : Bool) → ltb x m ≡ b → x ≡ choose b x (x - m)
@@ -82,7 +82,7 @@ left-alone x m y hx hm hy e h = go (ltb x m) refl
     go false q = omega (arith, ltb-false x m q)
 
 -- a number below 2^64, less 4p and 2p where it reaches them
-pub shortened : (n left a r : ℕ) → left < 2 ^ 64 → left % P ≡ n → a ≡ lessOnce left (4 * P) → r ≡ lessOnce a (2 * P) → (r % P ≡ n) × (r < 2 * P)
+pub shortened : (n left a r : ℕ) → left < 2 ^ 64 → left % P ≡ n → a ≡ reduceOnce left (4 * P) → r ≡ reduceOnce a (2 * P) → (r % P ≡ n) × (r < 2 * P)
 shortened n left a r h e ea er = (
   ap (λ x. x % P) er ∙ less-same a (2 * P) 2 refl ∙ ap (λ x. x % P) ea ∙ less-same left (4 * P) 4 refl ∙ e,
   subst (λ x. x < 2 * P) (sym er) (less-lt a (2 * P) (omega (arith, a-low))),
@@ -92,7 +92,7 @@ shortened n left a r h e ea er = (
     a-low = subst (λ x. x < 4 * P) (sym ea) (less-lt left (4 * P) (omega arith))
 
 -- a short word, less p where it reaches it
-pub made-canonical : (n x r : ℕ) → x < 2 * P → x % P ≡ n → r ≡ lessOnce x P → (r ≡ n) × (r < P)
+pub made-canonical : (n x r : ℕ) → x < 2 * P → x % P ≡ n → r ≡ reduceOnce x P → (r ≡ n) × (r < P)
 made-canonical n x r h e er = (sym (mod-eq-of-lt low) ∙ ap (λ y. y % P) er ∙ less-same x P 1 refl ∙ e, low)
   where
     low : r < P
@@ -117,7 +117,7 @@ upper-same hi lo u e =
     ∙ sym (add-mod (hi * 2 ^ 64) lo P)
 
 -- what is left of n after q times p, less 4p, 2p and p where it reaches them
-pub folded : (n q left a b r : ℕ) → left + q * P ≡ n → left < 6 * P → a ≡ lessOnce left (4 * P) → b ≡ lessOnce a (2 * P) → r ≡ lessOnce b P → (r ≡ n % P) × (r < P)
+pub folded : (n q left a b r : ℕ) → left + q * P ≡ n → left < 6 * P → a ≡ reduceOnce left (4 * P) → b ≡ reduceOnce a (2 * P) → r ≡ reduceOnce b P → (r ≡ n % P) × (r < P)
 folded n q left a b r e h ea eb er = (sym (mod-eq-of-lt low) ∙ same, low)
   where
     a-low : a < 4 * P

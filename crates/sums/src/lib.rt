@@ -2,8 +2,8 @@
 ghost use mathlib.Core.Path.{_≡_};
 ghost use Prim.Native.Nat.{_+_, _*_, _/_, _%_, _^_, _<_};
 ghost use Rattle.field.specs.Field.{P, Canonical};
-ghost use Rattle.field.specs.Montgomery.{Short, element};
-ghost use Rattle.sums.specs.Sums.{valueOf, lessOnce};
+ghost use Rattle.field.specs.MontgomeryHelpers.{Short, divided};
+ghost use Rattle.sums.specs.SumHelpers.{valueOf, reduceOnce};
 use field::Fp;
 use field::montgomery;
 
@@ -32,29 +32,29 @@ impl Wide {
     }
 
     // The remainder by p, by Barrett's method: the quotient is estimated from the upper 64 bits, and is less than 6 too small.
-    pub fn rest(self) -> u64
+    pub fn remainder(self) -> u64
         requires { ⌜ self .0 < 2 ^ 62 ⌝ }
         ensures { λ r. ⌜ (r ≡ valueOf self % P) × Canonical r ⌝ }
     {
-        let upper = less_once(self.0, Fp::P);
+        let upper = reduce_once(self.0, Fp::P);
         let quotient = 2 * wide::high(4 * upper + self.1 / 4611686018427387904, RECIPROCAL);
         let left = std::num::wrapping_sub_u64(self.1, wide::low(quotient, Fp::P));
-        less_once(less_once(less_once(left, 4 * Fp::P), 2 * Fp::P), Fp::P)
+        reduce_once(reduce_once(reduce_once(left, 4 * Fp::P), 2 * Fp::P), Fp::P)
     }
 
     // The number divided by 2^64, by Montgomery's method, and short.
     pub fn divided(self) -> u64
         requires { ⌜ self .0 + P < 2 ^ 64 ⌝ }
-        ensures { λ r. ⌜ (r % P ≡ element (valueOf self)) × Short r ⌝ }
+        ensures { λ r. ⌜ (r % P ≡ divided (valueOf self)) × Short r ⌝ }
     {
         let left = montgomery::reduce(self.0, self.1);
-        less_once(less_once(left, 4 * Fp::P), 2 * Fp::P)
+        reduce_once(reduce_once(left, 4 * Fp::P), 2 * Fp::P)
     }
 }
 
 // x, less m where it reaches m: the lesser of x and the difference, which wraps where m is not reached. In this form the compiler takes no branch.
-pub fn less_once(x: u64, m: u64) -> u64
-    ensures { λ r. ⌜ r ≡ lessOnce x m ⌝ }
+pub fn reduce_once(x: u64, m: u64) -> u64
+    ensures { λ r. ⌜ r ≡ reduceOnce x m ⌝ }
 {
     let less = std::num::wrapping_sub_u64(x, m);
     if less < x { less } else { x }

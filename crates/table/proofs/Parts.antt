@@ -8,7 +8,8 @@ use lib.ListN.{length, take, drop}
 use Rattle.lists.specs.Lists.{cell}
 use Rattle.lists.proofs.Tab.{length-part, cell-part}
 use Rattle.words.specs.Words.{AllCanonical}
-use Rattle.table.specs.Table.{tableWords, matrixWords, matrixOf, inverseOf, constant}
+use Rattle.matrix.specs.Matrix.{matrixWords}
+use Rattle.table.specs.Table.{tableWords, matrixOf, inverseOf, constant}
 
 pub part-canonical : (t : List ℕ) (base size : ℕ) → base + size ≤ length t → AllCanonical t
     → AllCanonical (take size (drop base t))

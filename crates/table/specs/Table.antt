@@ -8,7 +8,8 @@ use lib.Dec.{eqb}
 use lib.ListN.{length, take, drop}
 use Rattle.lists.specs.Lists.{first}
 use Rattle.words.specs.Words.{AllCanonical, firstBad}
-use Rattle.matrix.specs.Matrix.{entry, product, identity, Inverse, Kernel}
+use Rattle.numbers.specs.Numbers.{width}
+use Rattle.matrix.specs.Matrix.{matrixWords, entry, product, identity, Inverse, Kernel}
 use Rattle.inverse.specs.Inversion.{IsInverse}
 use Rattle.refusals.specs.declared.Refusal.{Refusal}
 use Rattle.refusals.specs.declared.Refusal.the-variants.{TableLength, TableWord, NoInverse, WrongInverse}
@@ -17,60 +18,59 @@ use Rattle.refusals.specs.declared.Answer.{Answer}
 use Rattle.refusals.specs.declared.Answer.the-variants.{Accepted, Refused}
 use Rattle.refusals.specs.Answers.{unless}
 
--- ---- how many words: M, 12 × 12, and so its inverse; the raw table; the prepared one
-abbrev pub matrixWords : ℕ
-matrixWords = 144
-
+-- ---- how many words: the raw table, the prepared one
 abbrev pub rawWords : ℕ
 rawWords = 396
 
 abbrev pub tableWords : ℕ
 tableWords = 540
 
--- ---- the prepared table: M, its inverse, then K_0 to K_20, twelve words each
+-- ---- the prepared table T: M, its inverse, then K_0 to K_20, twelve words each
 unfoldable pub matrixOf : List ℕ → List ℕ
-matrixOf t = take matrixWords t
+matrixOf T = take matrixWords T
 
 unfoldable pub inverseOf : List ℕ → List ℕ
-inverseOf t = take matrixWords (drop matrixWords t)
+inverseOf T = take matrixWords (drop matrixWords T)
 
 -- K_n
 unfoldable pub constant : List ℕ → ℕ → List ℕ
-constant t n = take 12 (drop (2 * matrixWords + 12 * n) t)
+constant T n = take width (drop (2 * matrixWords + width * n) T)
 
 -- the constants by what adds them: K_0 before round 0, K_(2r+1) in the first step of round r, K_(2r+2) in its second
 unfoldable pub initialConstant : List ℕ → List ℕ
-initialConstant t = constant t 0
+initialConstant T = constant T 0
 
 unfoldable pub firstStepConstant : List ℕ → ℕ → List ℕ
-firstStepConstant t r = constant t (2 * r + 1)
+firstStepConstant T r = constant T (2 * r + 1)
 
 unfoldable pub secondStepConstant : List ℕ → ℕ → List ℕ
-secondStepConstant t r = constant t (2 * r + 2)
+secondStepConstant T r = constant T (2 * r + 2)
 
 -- ---- the table test
 
--- whether cell 12 × row + column of M times the stored inverse is unlike the identity
+-- whether cell n = 12 × row + column of M times the stored inverse is unlike the identity
 unfoldable pub unlike : List ℕ → ℕ → Bool
-unlike t c = not (eqb (product 12 (entry (matrixOf t)) (entry (inverseOf t)) (c / 12) (c % 12)) (identity (c / 12) (c % 12)))
+unlike T n =
+    not (eqb (product width (entry (matrixOf T)) (entry (inverseOf T)) (n / width) (n % width))
+    (identity (n / width) (n % width)))
 
 -- the first such cell, or 144
 unfoldable pub firstUnlike : List ℕ → ℕ
-firstUnlike t = first matrixWords (unlike t)
+firstUnlike T = first matrixWords (unlike T)
 
 -- the table test of every operation but Prepare: 1, 2, 4
 unfoldable pub tableTest : List ℕ → Answer
-tableTest t =
-    unless (eqb (length t) tableWords) TableLength
-    (unless (eqb (firstBad t) tableWords) (TableWord (firstBad t))
-    (unless (eqb (firstUnlike t) matrixWords) (WrongInverse (firstUnlike t))
+tableTest T =
+    unless (eqb (length T) tableWords) TableLength
+    (unless (eqb (firstBad T) tableWords) (TableWord (firstBad T))
+    (unless (eqb (firstUnlike T) matrixWords) (WrongInverse (firstUnlike T))
     Accepted))
 
 -- an accepted table: all words canonical, and M times the stored inverse the identity
-pub record IsTable (t : List ℕ) : Type 0 where
-  pub size : length t ≡ tableWords
-  pub canonical : AllCanonical t
-  pub inverse : Inverse 12 (entry (matrixOf t)) (entry (inverseOf t))
+pub record IsTable (T : List ℕ) : Type 0 where
+  pub size : length T ≡ tableWords
+  pub canonical : AllCanonical T
+  pub inverse : Inverse width (entry (matrixOf T)) (entry (inverseOf T))
 
 -- ---- the raw table: M, then K_0 to K_20. Prepare: 1, 8, 2, 3
 abbrev pub rawMatrix : List ℕ → List ℕ
@@ -97,6 +97,6 @@ rawTest raw size =
 pub data Prepares (raw old : List ℕ) : Answer → List ℕ → Type 0 where
   accepts : (n : List ℕ) → rawTest raw (length old) ≡ Accepted → RawInverse raw n
       → Prepares raw old Accepted (prepared raw n)
-  no-inverse : rawTest raw (length old) ≡ Accepted → Kernel 12 (entry (rawMatrix raw))
+  no-inverse : rawTest raw (length old) ≡ Accepted → Kernel width (entry (rawMatrix raw))
       → Prepares raw old (Refused NoInverse) old
   refuses : (r : Refusal) → rawTest raw (length old) ≡ Refused r → Prepares raw old (Refused r) old

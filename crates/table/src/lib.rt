@@ -5,18 +5,18 @@ ghost use lib.ListN.{length};
 ghost use Rattle.lists.specs.Lists.{cell, tab};
 ghost use Rattle.field.specs.Field.{Canonical};
 ghost use Rattle.words.specs.Words.{AllCanonical};
-ghost use Rattle.matrix.specs.Matrix.{entry, product, identity};
-ghost use Rattle.table.specs.Table.{matrixWords, rawWords, tableWords, matrixOf, inverseOf};
+ghost use Rattle.numbers.specs.Numbers.{width};
+ghost use Rattle.matrix.specs.Matrix.{matrixWords, entry, product, identity};
+ghost use Rattle.table.specs.Table.{rawWords, tableWords, matrixOf, inverseOf};
 ghost use Rattle.table.specs.Table.{constant, initialConstant, firstStepConstant, secondStepConstant};
 ghost use Rattle.table.specs.Table.{firstUnlike, tableTest, IsTable, prepared, Prepares};
+use matrix::MATRIX_WORDS;
+use numbers::WIDTH;
 use refusals::Answer;
 use refusals::Refusal;
 
-// M, 12 × 12, and its inverse.
-pub const MATRIX_WORDS: usize = 144;
-
 // A raw table: M, then K_0 to K_20, twelve words each.
-pub const RAW_WORDS: usize = MATRIX_WORDS + 21 * 12;
+pub const RAW_WORDS: usize = MATRIX_WORDS + 21 * WIDTH;
 
 // A prepared table: M, its inverse, then K_0 to K_20.
 pub const WORDS: usize = RAW_WORDS + MATRIX_WORDS;
@@ -42,15 +42,15 @@ pub fn inverse(table: &[u64]) -> &[u64]
 
 // One cell of K_n.
 fn constant(table: &[u64], n: usize, column: usize) -> u64
-    requires { ⌜ IsTable (now table) × (n < 21) × (column < 12) ⌝ }
+    requires { ⌜ IsTable (now table) × (n < 21) × (column < width) ⌝ }
     ensures { λ r. ⌜ (r ≡ cell (constant (now (table .entry)) n) column) × Canonical r ⌝ }
 {
-    table[CONSTANTS + 12 * n + column]
+    table[CONSTANTS + WIDTH * n + column]
 }
 
 // One cell of K_0, which is added before round 0.
 pub fn initial_constant(table: &[u64], column: usize) -> u64
-    requires { ⌜ IsTable (now table) × (column < 12) ⌝ }
+    requires { ⌜ IsTable (now table) × (column < width) ⌝ }
     ensures { λ r. ⌜ (r ≡ cell (initialConstant (now (table .entry))) column) × Canonical r ⌝ }
 {
     constant(table, 0, column)
@@ -58,7 +58,7 @@ pub fn initial_constant(table: &[u64], column: usize) -> u64
 
 // One cell of the constant that the first step of the round adds.
 pub fn first_step_constant(table: &[u64], round: usize, column: usize) -> u64
-    requires { ⌜ IsTable (now table) × (round < 10) × (column < 12) ⌝ }
+    requires { ⌜ IsTable (now table) × (round < 10) × (column < width) ⌝ }
     ensures { λ r. ⌜ (r ≡ cell (firstStepConstant (now (table .entry)) round) column) × Canonical r ⌝ }
 {
     constant(table, 2 * round + 1, column)
@@ -66,41 +66,39 @@ pub fn first_step_constant(table: &[u64], round: usize, column: usize) -> u64
 
 // One cell of the constant that its second step adds.
 pub fn second_step_constant(table: &[u64], round: usize, column: usize) -> u64
-    requires { ⌜ IsTable (now table) × (round < 10) × (column < 12) ⌝ }
+    requires { ⌜ IsTable (now table) × (round < 10) × (column < width) ⌝ }
     ensures { λ r. ⌜ (r ≡ cell (secondStepConstant (now (table .entry)) round) column) × Canonical r ⌝ }
 {
     constant(table, 2 * round + 2, column)
 }
 
 // Column k of a 12 × 12 matrix.
-fn column(n: &[u64], k: usize) -> [u64; 12]
-    requires { ⌜ (length (now n) ≡ matrixWords) × (k < 12) ⌝ }
-    ensures { λ r. ⌜ r ≡ tab 12 (λ j. entry (now (n .entry)) j k) ⌝ }
+fn column(n: &[u64], k: usize) -> [u64; WIDTH]
+    requires { ⌜ (length (now n) ≡ matrixWords) × (k < width) ⌝ }
+    ensures { λ r. ⌜ r ≡ tab width (λ j. entry (now (n .entry)) j k) ⌝ }
 {
-    let mut out = [0u64; 12];
-    let mut j: usize = 0;
-    while j < 12 {
-        out[j] = n[12 * j + k];
-        j += 1;
+    let mut out = [0u64; WIDTH];
+    for j in 0..WIDTH {
+        out[j] = n[WIDTH * j + k];
     }
     out
 }
 
 // m times n, column by column: cell (i, k) stands at 12 * k + i.
 fn product_columns(m: &[u64], n: &[u64]) -> [u64; MATRIX_WORDS]
-    requires { ⌜ (length (now m) ≡ matrixWords) × AllCanonical (now m) × (length (now n) ≡ matrixWords) × AllCanonical (now n) ⌝ }
-    ensures { λ r. ⌜ r ≡ tab matrixWords (λ t. product 12 (entry (now (m .entry))) (entry (now (n .entry))) (t % 12) (t / 12)) ⌝ }
+    requires { ⌜
+        (length (now m) ≡ matrixWords) × AllCanonical (now m)
+        × (length (now n) ≡ matrixWords) × AllCanonical (now n) ⌝ }
+    ensures { λ r. ⌜
+        r ≡ tab matrixWords
+        (λ t. product width (entry (now (m .entry))) (entry (now (n .entry))) (t % width) (t / width)) ⌝ }
 {
     let mut out = [0u64; MATRIX_WORDS];
-    let mut k: usize = 0;
-    while k < 12 {
+    for k in 0..WIDTH {
         let x = matrix::times(m, column(n, k));
-        let mut i: usize = 0;
-        while i < 12 {
-            out[12 * k + i] = x[i];
-            i += 1;
+        for i in 0..WIDTH {
+            out[WIDTH * k + i] = x[i];
         }
-        k += 1;
     }
     out
 }
@@ -120,16 +118,14 @@ fn first_unlike(table: &[u64]) -> usize
     let m = matrix(table);
     let n = inverse(table);
     let product = product_columns(m, n);
-    let mut c: usize = 0;
-    while c < MATRIX_WORDS {
-        let row = c / 12;
-        let k = c % 12;
-        if product[12 * k + row] != identity(row, k) {
+    for c in 0..MATRIX_WORDS {
+        let row = c / WIDTH;
+        let k = c % WIDTH;
+        if product[WIDTH * k + row] != identity(row, k) {
             return c;
         }
-        c += 1;
     }
-    c
+    MATRIX_WORDS
 }
 
 // The table test, with which every operation but Prepare begins: 1, 2, 4.
@@ -164,13 +160,13 @@ fn prepared_word(raw: &[u64], n: &[u64; MATRIX_WORDS], t: usize) -> u64
 
 // The prepared table into the destination.
 fn write(raw: &[u64], n: &[u64; MATRIX_WORDS], destination: &mut [u64])
-    requires { ⌜ (length (now raw) ≡ rawWords) × (length (now n) ≡ matrixWords) × (length (now destination) ≡ tableWords) ⌝ }
+    requires { ⌜
+        (length (now raw) ≡ rawWords) × (length (now n) ≡ matrixWords)
+        × (length (now destination) ≡ tableWords) ⌝ }
     ensures { λ _. ⌜ now (destination .exit) ≡ prepared (now (raw .entry)) (now (n .entry)) ⌝ }
 {
-    let mut t: usize = 0;
-    while t < WORDS {
+    for t in 0..WORDS {
         destination[t] = prepared_word(raw, n, t);
-        t += 1;
     }
 }
 

@@ -8,7 +8,7 @@ use lib.ListN.{length, take}
 use Rattle.lists.specs.Lists.{cell, tab}
 use Rattle.hash.specs.Hash.{input, tap, outputAt, middleState, finalState}
 use Rattle.trace.specs.Trace.{hashInput, traceRow, trace}
-use Rattle.trace.specs.Rows.{withRows, Writable}
+use Rattle.trace.specs.RowHelpers.{withRows, Writable}
 use Rattle.trace.proofs.RowKinds.{row-start, row-middle, row-end}
 use Rattle.trace.proofs.TraceCells.{next-output}
 use Rattle.trace.proofs.WrittenRows.{rows-ext, rows-join, rows-all}

@@ -8,7 +8,7 @@ use lib.ListN.{length, take, drop, length-append, drop-of-length-le, take-append
 use lib.Seq.{length-take-le, take-at, drop-append-add, drop-drop}
 use Rattle.lists.specs.Lists.{cell, tab}
 use Rattle.lists.proofs.Tab.{length-tab, tab-ext, tab-add, tab-cell}
-use Rattle.trace.specs.Rows.{withRows}
+use Rattle.trace.specs.RowHelpers.{withRows}
 
 -- the cells of m rows from row a on
 abbrev cells : (ℕ → List ℕ) → ℕ → ℕ → List ℕ

@@ -7,7 +7,7 @@ use Prim.Native.Nat.{ℕ, _*_}
 use lib.Dec.{eqb}
 use lib.ListN.{length}
 use Rattle.words.specs.Words.{firstBad, canonicalWords}
-use Rattle.numbers.specs.Numbers.{mostBatches, isTapLength, tapWordBatches}
+use Rattle.numbers.specs.Numbers.{traceWords, mostBatches, isTapLength, tapWordBatches}
 use Rattle.refusals.specs.declared.Refusal.the-variants.{TapLength, TapWord, DestinationLength}
 use Rattle.refusals.specs.declared.Answer.{Answer}
 use Rattle.refusals.specs.declared.Answer.the-variants.{Accepted}
@@ -23,7 +23,7 @@ unfoldable pub buildTest : List ℕ → List ℕ → ℕ → Answer
 buildTest T w size =
     after (tableTest T)
     (unless (isTapLength mostBatches (length w)) TapLength
-    (unless (eqb size (384 * tapWordBatches (length w))) DestinationLength
+    (unless (eqb size (traceWords (tapWordBatches (length w)))) DestinationLength
     (unless (canonicalWords w) (TapWord (firstBad w))
     Accepted)))
 

@@ -1,3 +1,3 @@
 pub mod Trace
-pub mod Rows
+pub mod RowHelpers
 pub mod Answers

@@ -3,61 +3,68 @@ ghost use mathlib.Core.Path.{_≡_};
 ghost use Prim.Native.Nat.{_+_, _*_, _-_, _≤_, _<_, _^_};
 ghost use lib.ListN.{length, take};
 ghost use Rattle.words.specs.Words.{AllCanonical, CanonicalTo};
+ghost use Rattle.numbers.specs.Numbers.{batchRows, tapWords, traceWords, width};
 ghost use Rattle.table.specs.Table.{IsTable};
 ghost use Rattle.hash.specs.Hash.{middleState, finalState, outputAt, chain};
 ghost use Rattle.trace.specs.Trace.{hashInput, traceRow, trace};
-ghost use Rattle.trace.specs.Rows.{withRows, Writable};
+ghost use Rattle.trace.specs.RowHelpers.{withRows, Writable};
 ghost use Rattle.trace.specs.Answers.{buildTest, buildAnswer, buildLeaves};
+use numbers::BATCH_TAP_WORDS;
+use numbers::BATCH_WORDS;
 use numbers::BatchCount;
 use numbers::BatchNumber;
 use numbers::MOST_BATCHES;
 use numbers::RowNumber;
+use numbers::WIDTH;
 use refusals::Answer;
 use refusals::Digest;
 use refusals::DigestAnswer;
 use refusals::Refusal;
 
 // The twelve cells into a part of twelve words.
-fn put(part: &mut [u64], cells: [u64; 12])
-    requires { ⌜ length (now part) ≡ 12 ⌝ }
+fn put(part: &mut [u64], cells: [u64; WIDTH])
+    requires { ⌜ length (now part) ≡ width ⌝ }
     ensures { λ r. ⌜ now (part .exit) ≡ cells ⌝ }
 {
-    let mut j: usize = 0;
-    while j < 12 {
+    for j in 0..WIDTH {
         part[j] = cells[j];
-        j += 1;
     }
 }
 
 // The twelve cells as that row of the destination.
-fn write_row(destination: &mut [u64], row: RowNumber, cells: [u64; 12])
-    requires { ⌜ (row .0 < 2 ^ 32) × (12 * row .0 + 12 ≤ length (now destination)) ⌝ }
-    ensures { λ r. ⌜ now (destination .exit) ≡ withRows (λ i. cells) (row .0) (row .0 + 1) (now (destination .entry)) ⌝ }
+fn write_row(destination: &mut [u64], row: RowNumber, cells: [u64; WIDTH])
+    requires { ⌜ (row .0 < 2 ^ 32) × (width * row .0 + 12 ≤ length (now destination)) ⌝ }
+    ensures { λ r. ⌜
+        now (destination .exit) ≡ withRows (λ i. cells) (row .0) (row .0 + 1) (now (destination .entry)) ⌝ }
 {
     let start = row.start();
-    let end = start + 12;
+    let end = start + WIDTH;
     put(&mut destination[start..end], cells);
 }
 
 // The ten middle states of a hash as the rows from the given one on. Its final state.
 fn write_rounds(
     table: &[u64],
-    input: [u64; 12],
+    input: [u64; WIDTH],
     destination: &mut [u64],
     row: RowNumber,
-) -> [u64; 12]
-    requires { ⌜ IsTable (now table) × CanonicalTo 12 input × (row .0 < 2 ^ 31) × (12 * row .0 + 120 ≤ length (now destination)) ⌝ }
-    ensures { λ r. ⌜ (r ≡ finalState (now (table .entry)) input) × (now (destination .exit) ≡ withRows (λ i. middleState (now (table .entry)) input (i - row .0)) (row .0) (row .0 + 10) (now (destination .entry))) ⌝ }
+) -> [u64; WIDTH]
+    requires { ⌜
+        IsTable (now table) × CanonicalTo width input
+        × (row .0 < 2 ^ 31) × (width * row .0 + 120 ≤ length (now destination)) ⌝ }
+    ensures { λ r. ⌜
+        (r ≡ finalState (now (table .entry)) input)
+        × (now (destination .exit)
+        ≡ withRows (λ i. middleState (now (table .entry)) input (i - row .0)) (row .0) (row .0 + 10)
+        (now (destination .entry))) ⌝ }
 {
     let first = row.0;
-    let mut state = hash::opening(table, input);
-    let mut round: usize = 0;
-    while round < 10 {
+    let mut state = hash::plus_initial(table, input);
+    for round in 0..10 {
         let middle = hash::first_step(table, round, state);
         write_row(destination, RowNumber(first + round), middle);
         let next = hash::second_step(table, round, middle);
         state = next;
-        round += 1;
     }
     state
 }
@@ -68,14 +75,23 @@ fn write_hash(
     taps: &[u64],
     batch: BatchNumber,
     within: usize,
-    last: [u64; 12],
+    last: [u64; WIDTH],
     destination: &mut [u64],
-) -> [u64; 12]
-    requires { ⌜ Writable (now table) (now taps) (batch .0) (now destination) × (within < 3) × (take 4 last ≡ outputAt (now table) (now taps) (3 * batch .0 + within)) ⌝ }
-    ensures { λ r. ⌜ (r ≡ finalState (now (table .entry)) (hashInput (now (table .entry)) (now (taps .entry)) (3 * batch .0 + within))) × (now (destination .exit) ≡ withRows (traceRow (now (table .entry)) (now (taps .entry))) (32 * batch .0 + (10 * within + 1)) (32 * batch .0 + (10 * within + 11)) (now (destination .entry))) ⌝ }
+) -> [u64; WIDTH]
+    requires { ⌜
+        Writable (now table) (now taps) (batch .0) (now destination) × (within < 3)
+        × (take 4 last ≡ outputAt (now table) (now taps) (3 * batch .0 + within)) ⌝ }
+    ensures { λ r. ⌜
+        (r ≡ finalState (now (table .entry))
+        (hashInput (now (table .entry)) (now (taps .entry)) (3 * batch .0 + within)))
+        × (now (destination .exit)
+        ≡ withRows (traceRow (now (table .entry)) (now (taps .entry)))
+        (batchRows * batch .0 + (10 * within + 1)) (batchRows * batch .0 + (10 * within + 11))
+        (now (destination .entry))) ⌝ }
 {
-    let input = hash::input_of(batch.hash(within), last, taps);
-    write_rounds(table, input, destination, batch.row(10 * within + 1))
+    let hash = batch.hash(within);
+    let input = hash::input_of(hash, last, taps);
+    write_rounds(table, input, destination, hash.first_row())
 }
 
 // The 32 rows of the batch, after a state that begins with the last output. The final state of its third hash.
@@ -83,11 +99,17 @@ fn write_batch(
     table: &[u64],
     taps: &[u64],
     batch: BatchNumber,
-    last: [u64; 12],
+    last: [u64; WIDTH],
     destination: &mut [u64],
-) -> [u64; 12]
-    requires { ⌜ Writable (now table) (now taps) (batch .0) (now destination) × (take 4 last ≡ outputAt (now table) (now taps) (3 * batch .0)) ⌝ }
-    ensures { λ r. ⌜ (r ≡ finalState (now (table .entry)) (hashInput (now (table .entry)) (now (taps .entry)) (3 * batch .0 + 2))) × (now (destination .exit) ≡ withRows (traceRow (now (table .entry)) (now (taps .entry))) (32 * batch .0) (32 * batch .0 + 32) (now (destination .entry))) ⌝ }
+) -> [u64; WIDTH]
+    requires { ⌜
+        Writable (now table) (now taps) (batch .0) (now destination)
+        × (take 4 last ≡ outputAt (now table) (now taps) (3 * batch .0)) ⌝ }
+    ensures { λ r. ⌜
+        (r ≡ finalState (now (table .entry)) (hashInput (now (table .entry)) (now (taps .entry)) (3 * batch .0 + 2)))
+        × (now (destination .exit)
+        ≡ withRows (traceRow (now (table .entry)) (now (taps .entry)))
+        (batchRows * batch .0) (batchRows * batch .0 + batchRows) (now (destination .entry))) ⌝ }
 {
     write_row(
         destination,
@@ -102,16 +124,18 @@ fn write_batch(
 }
 
 // The batches one after the other. The state that begins with the chain's output.
-fn write_batches(table: &[u64], taps: &[u64], k: usize, destination: &mut [u64]) -> [u64; 12]
-    requires { ⌜ IsTable (now table) × AllCanonical (now taps) × (k ≤ 2 ^ 20) × (length (now taps) ≡ 12 * k + 4) × (length (now destination) ≡ 384 * k) ⌝ }
-    ensures { λ r. ⌜ (take 4 r ≡ chain (now (table .entry)) (now (taps .entry)) k) × (now (destination .exit) ≡ trace (now (table .entry)) (now (taps .entry)) k) ⌝ }
+fn write_batches(table: &[u64], taps: &[u64], k: usize, destination: &mut [u64]) -> [u64; WIDTH]
+    requires { ⌜
+        IsTable (now table) × AllCanonical (now taps) × (k ≤ 2 ^ 20)
+        × (length (now taps) ≡ tapWords k) × (length (now destination) ≡ traceWords k) ⌝ }
+    ensures { λ r. ⌜
+        (take 4 r ≡ chain (now (table .entry)) (now (taps .entry)) k)
+        × (now (destination .exit) ≡ trace (now (table .entry)) (now (taps .entry)) k) ⌝ }
 {
     let mut state = hash::chain_start(taps);
-    let mut b: usize = 0;
-    while b < k {
+    for b in 0..k {
         let next = write_batch(table, taps, BatchNumber(b), state, destination);
         state = next;
-        b += 1;
     }
     state
 }
@@ -120,14 +144,14 @@ fn write_batches(table: &[u64], taps: &[u64], k: usize, destination: &mut [u64])
 fn test_build(table: &[u64], taps: &[u64], size: usize) -> Answer
     ensures { λ r. ⌜ r ≡ buildTest (now (table .entry)) (now (taps .entry)) size ⌝ }
 {
-    let tested = table::test(table);
-    let Answer::Accepted = tested else {
-        return tested;
+    let of_table = table::test(table);
+    let Answer::Accepted = of_table else {
+        return of_table;
     };
     let BatchCount::Permitted(k) = numbers::tap_batches(MOST_BATCHES, taps.len()) else {
         return Answer::Refused(Refusal::TapLength);
     };
-    if size != 384 * k {
+    if size != BATCH_WORDS * k {
         return Answer::Refused(Refusal::DestinationLength);
     }
     let bad = words::first_bad(taps);
@@ -139,12 +163,15 @@ fn test_build(table: &[u64], taps: &[u64], size: usize) -> Answer
 
 // Build writes when all its tests have passed.
 pub fn build(table: &[u64], taps: &[u64], destination: &mut [u64]) -> DigestAnswer
-    ensures { λ r. ⌜ (r ≡ buildAnswer (now (table .entry)) (now (taps .entry)) (length (now (destination .entry)))) × (now (destination .exit) ≡ buildLeaves (now (table .entry)) (now (taps .entry)) (now (destination .entry))) ⌝ }
+    ensures { λ r. ⌜
+        (r ≡ buildAnswer (now (table .entry)) (now (taps .entry)) (length (now (destination .entry))))
+        × (now (destination .exit)
+        ≡ buildLeaves (now (table .entry)) (now (taps .entry)) (now (destination .entry))) ⌝ }
 {
-    let tested = test_build(table, taps, destination.len());
-    let Answer::Accepted = tested else {
-        return DigestAnswer::Refused(tested.refusal());
+    let answer = test_build(table, taps, destination.len());
+    let Answer::Accepted = answer else {
+        return DigestAnswer::Refused(answer.refusal());
     };
-    let last = write_batches(table, taps, taps.len() / 12, destination);
+    let last = write_batches(table, taps, taps.len() / BATCH_TAP_WORDS, destination);
     DigestAnswer::Accepted(Digest(last[0], last[1], last[2], last[3]))
 }

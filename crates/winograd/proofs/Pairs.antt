@@ -9,11 +9,11 @@ use lib.Dec.{lit<}
 use Rattle.lists.specs.Lists.{sum}
 use Rattle.lists.proofs.Sum.{sum-ext, sum-le}
 use Rattle.field.specs.Field.{P, Canonical}
-use Rattle.field.specs.Montgomery.{element, unitInverse}
-use Rattle.field.proofs.Forms.{element-lt}
+use Rattle.field.specs.MontgomeryHelpers.{divided, unitInverse}
+use Rattle.field.proofs.Forms.{divided-lt}
 use Rattle.field.proofs.Modular.{mul-mod-r}
 use Rattle.matrix.proofs.Modulo.{add-eq}
-use Rattle.winograd.specs.Winograd.{neighbours}
+use Rattle.winograd.specs.WinogradHelpers.{neighbours}
 
 -- the products of neighbours
 abbrev pub near : (ℕ → ℕ) → ℕ → ℕ
@@ -65,7 +65,7 @@ module _ (p k j : ℕ) (inv : (k * j) % p ≡ 1) where
       turned u v w = omega arith
 
 pub inner : (a x : ℕ → ℕ) (start c : ℕ) → start + (neighbours a + neighbours x) ≡ c + P * 2
-    → element (start * 2 ^ 64 + sum 6 (cross a x)) ≡ (element (sum 12 (λ j. a j * x j)) + c) % P
+    → divided (start * 2 ^ 64 + sum 6 (cross a x)) ≡ (divided (sum 12 (λ j. a j * x j)) + c) % P
 unfolding neighbours
 inner a x start c e = taken P (2 ^ 64) unitInverse refl start (sum 6 (cross a x)) (sum 12 (λ j. a j * x j)) (sum 6 (near a)) (sum 6 (near x)) (neighbours a) (neighbours x) c e refl refl (crosswise 6 a x)
 
@@ -93,14 +93,14 @@ near-room n u l x h hx e = room n (2305843095113039872 * 2305843095113039872) u 
 -- neighbours count by their twelve cells
 pub neighbours-ext : (x y : ℕ → ℕ) → ((i : ℕ) → i < 12 → x i ≡ y i) → neighbours x ≡ neighbours y
 unfolding neighbours
-neighbours-ext x y h = ap element (sum-ext 6 (near x) (near y) (λ j l. same-product (h (2 * j) (omega arith)) (h (2 * j + 1) (omega arith))))
+neighbours-ext x y h = ap divided (sum-ext 6 (near x) (near y) (λ j l. same-product (h (2 * j) (omega arith)) (h (2 * j + 1) (omega arith))))
   where
     same-product : {a b c d : ℕ} → a ≡ b → c ≡ d → a * c ≡ b * d
     same-product p q = rw p (rw q refl)
 
 pub neighbours-lt : (x : ℕ → ℕ) → neighbours x < P
 unfolding neighbours
-neighbours-lt x = element-lt (sum 6 (near x))
+neighbours-lt x = divided-lt (sum 6 (near x))
 
 -- ---- where the sum starts: 2p less the row's neighbours and the column's, plus k
 pub starts : (end g w k : ℕ) → end ≡ 2 * P - g → g < P → w < P → (w ≤ end) × ((end - w + k) + (g + w) ≡ k + P * 2)

@@ -9,8 +9,8 @@ use lib.Dec.{ltb}
 use Rattle.lists.specs.Lists.{choose, cell}
 use Rattle.lists.proofs.Tab.{length-tab, cell-tab}
 use Rattle.field.specs.Field.{P}
-use Rattle.field.proofs.Forms.{element-lt}
-use Rattle.winograd.specs.Winograd.{neighbours, scaled, ready, IsReady}
+use Rattle.field.proofs.Forms.{divided-lt}
+use Rattle.winograd.specs.WinogradHelpers.{neighbours, scaled, ready, IsReady}
 use Rattle.winograd.proofs.Pairs.{neighbours-ext}
 
 -- word t of m made ready
@@ -28,7 +28,7 @@ word-end m by i = rw (le-ltb (144 + i) 144 (omega arith)) (ap (λ k. 2 * P - nei
 
 pub scaled-lt : (m : List ℕ) (by t : ℕ) → scaled m by t < P
 unfolding scaled
-scaled-lt m by t = element-lt (cell m t * by)
+scaled-lt m by t = divided-lt (cell m t * by)
 
 pub cell-ready : (m : List ℕ) (by t : ℕ) → t < 144 → cell (ready m by) t ≡ scaled m by t
 unfolding ready

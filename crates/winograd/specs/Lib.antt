@@ -1,1 +1,1 @@
-pub mod Winograd
+pub mod WinogradHelpers

@@ -5,9 +5,9 @@ ghost use Prim.Native.Nat.{ℕ, _+_, _*_, _%_, _<_};
 ghost use lib.ListN.{length};
 ghost use Rattle.lists.specs.Lists.{cell, sum};
 ghost use Rattle.field.specs.Field.{P, Canonical};
-ghost use Rattle.field.specs.Montgomery.{Short, element};
+ghost use Rattle.field.specs.MontgomeryHelpers.{Short, divided};
 ghost use Rattle.words.specs.Words.{AllCanonical, CanonicalTo};
-ghost use Rattle.winograd.specs.Winograd.{neighbours, scaled, ready, IsReady};
+ghost use Rattle.winograd.specs.WinogradHelpers.{neighbours, scaled, ready, IsReady};
 use field::Fp;
 use field::montgomery;
 use sums::Wide;
@@ -24,7 +24,7 @@ pub fn neighbours(s: &[u64]) -> u64
         sum = next;
         j += 1;
     }
-    sums::less_once(sum.divided(), Fp::P)
+    sums::reduce_once(sum.divided(), Fp::P)
 }
 
 // The matrix, each cell times the scale and divided by 2^64, and room for twelve words more.
@@ -35,7 +35,7 @@ fn scale(m: &[u64], by: u64) -> [u64; 156]
     let mut out = [0u64; 156];
     let mut t: usize = 0;
     while t < 144 {
-        out[t] = sums::less_once(montgomery::times(m[t], by), Fp::P);
+        out[t] = sums::reduce_once(montgomery::times(m[t], by), Fp::P);
         t += 1;
     }
     out
@@ -60,7 +60,7 @@ pub fn ready(m: &[u64], by: u64) -> [u64; 156]
 // Cell i of the matrix times s, divided by 2^64, plus k; the excess is s's neighbours.
 pub fn cell_plus(ready: &[u64], i: usize, s: &[u64], excess: u64, k: u64) -> u64
     requires { ⌜ IsReady (now ready) × (i < 12) × (length (now s) ≡ 12) × CanonicalTo 12 (now s) × (excess ≡ neighbours (cell (now s))) × Canonical k ⌝ }
-    ensures { λ r. ⌜ (r % P ≡ (element (sum 12 (λ j. cell (now (ready .entry)) (12 * i + j) * cell (now (s .entry)) j)) + k) % P) × Short r ⌝ }
+    ensures { λ r. ⌜ (r % P ≡ (divided (sum 12 (λ j. cell (now (ready .entry)) (12 * i + j) * cell (now (s .entry)) j)) + k) % P) × Short r ⌝ }
 {
     let start = 12 * i;
     // Six, but the compiler shall learn it in the callers, into whose loops it then takes this one.

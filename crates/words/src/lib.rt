@@ -7,12 +7,10 @@ use field::Fp;
 pub fn first_bad(s: &[u64]) -> usize
     ensures { λ r. ⌜ r ≡ firstBad (now (s .entry)) ⌝ }
 {
-    let mut i: usize = 0;
-    while i < s.len() {
+    for i in 0..s.len() {
         if !Fp::is_canonical(s[i]) {
             return i;
         }
-        i += 1;
     }
-    i
+    s.len()
 }

@@ -32,9 +32,9 @@ four : (f : tie.Else1) {o : Answer} → let a = f .before .before .args in
 unfolding unpackTest
 four f e = unless-passed _ (le-leb _ _ (f .if1 .left)) e
 
-tested : (t : tie.After-test-count) →
+of-count : (t : tie.After-test-count) →
     t .test-count .result ≡ countTest (wordAt (t .before .before .before .before .args .file .now) 0)
-tested t = t .test-count .ensures ∙ ap countTest (t .before .read .ensures)
+of-count t = t .test-count .ensures ∙ ap countTest (t .before .read .ensures)
 
 -- it is accepted, and k is what it holds
 abbrev entry : tie.After-count-in → tie.Start
@@ -44,7 +44,7 @@ counted : (c : tie.After-count-in) {o : Answer} → let a = entry c .args in
     o ≡ fromLength (a .file .now) (a .size) → o ≡ unpackTest (a .file .now) (a .size)
 counted c e =
     let t = c .before .before .before in
-    four (t .before .before) (after-accepted (tested t) (c .before .enum-told .given .1) e)
+    four (t .before .before) (after-accepted (of-count t) (c .before .enum-told .given .1) e)
 
 batches : (c : tie.After-count-in) → batchesIn (entry c .args .file .now) ≡ c .count-in .result
 unfolding batchesIn
@@ -76,7 +76,7 @@ enum-told-2 c = search needs
 returns-2 : tie.Need-returns-2
 returns-2 c =
     let t = c .before .before in
-    four (t .before .before) (after-refused _ (tested t) (c .enum-told2 .given .1))
+    four (t .before .before) (after-refused _ (of-count t) (c .enum-told2 .given .1))
 
 count-in-requires : tie.Need-count-in-requires
 count-in-requires c κs = search needs

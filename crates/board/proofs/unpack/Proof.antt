@@ -50,6 +50,10 @@ returns c =
     let r = c .refusal .ensures in
     (digest-turned-back e _ r, leaves-old e _ r)
 
+-- once the claim is read
+abbrev told : tie.After-read4 → tie.After-enum-told
+told r = r .before .before .before .before
+
 read-requires : tie.Need-read-requires
 read-requires c κs = element c 0 (lit< tt)
 
@@ -64,7 +68,7 @@ read-requires-4 c κs = element (c .before .before .before) 3 (lit< tt)
 
 read-all-requires : tie.Need-read-all-requires
 read-all-requires c κs =
-    let b = board (c .before .before .before .before .before) in (
+    let b = board (told (c .before)) in (
       omega (arith, b .0 .size, b .1),
       λ i h. rw (after-claim i) at (b .0 .elements (4 + i) (omega (arith, b .1)) .value),
     )
@@ -76,16 +80,16 @@ returns-2 : tie.Need-returns-2
 unfolding claimIn tapsIn elementsAt tab unpackAnswer unpackLeaves
 returns-2 c =
     let read = c .before .before .before .before in
-    let told = read .before .before .before .before in
-    let e = told .before .before .test-unpack .ensures in
-    let a = told .enum-told .given .1 in (
+    let t = told read in
+    let e = t .before .before .test-unpack .ensures in
+    let a = t .enum-told .given .1 in (
       digest-returned e a (rw (
         read .before .before .before .read .ensures,
         read .before .before .read2 .ensures,
         read .before .read3 .ensures,
         read .read4 .ensures,
       )),
-      leaves-new e _ a (c .before .before .read-all .ensures ∙ rw (board told .1)),
+      leaves-new e _ a (c .before .before .read-all .ensures ∙ rw (board t .1)),
     )
 
 pub unpack-spec : {M : Type 1} → statement M

@@ -29,14 +29,16 @@ same-length c = search needs
 
 returns : tie.Need-returns
 returns c =
-    let third = c .before .before in
-    let second = third .before .before .before .before in
-    let first = second .before .before .before .before .before in
-    let start = first .before .before .before .before .before in
+    let taps = c .before .before in
+    let claim = taps .before .before .before .before in
+    let lent = claim .before .before .before in
+    let word = lent .before .before in
+    let join = word .before .before in
+    let start = join .before .before .before in
     let a = start .args in
-    file-written (a .destination .now) _ _ _ (a .taps .now) (a .t2) (a .k) (first .before .before .join .result .0)
-    (omega arith) (start .pre .1) (start .pre .2) (first .before .before .join .ensures) (first .write .ensures)
-    (second .write-all .ensures) (third .write-all2 .ensures)
+    file-written (a .destination .now) _ _ _ (a .taps .now) (a .t2) (a .k) (join .join .result .0)
+    (omega arith) (start .pre .1) (start .pre .2) (join .join .ensures) (word .write .ensures)
+    (claim .write-all .ensures) (taps .write-all2 .ensures)
 
 pub write-file-spec : {M : Type 1} → statement M
 write-file-spec =

@@ -1,4 +1,4 @@
--- `checker::check` meets its contract: each return is the case of the definition that the tests before it left.
+-- `checker::check`: each return is the case of the definition that the tests before it left.
 -- Assumes nothing.
 use mathlib.Core.Path.{_≡_, refl, sym, _∙_}
 use lib.ListN.{length}
@@ -55,6 +55,10 @@ returns-2 c =
 -- the trace has k batches, and the claim is to be tested
 abbrev entry : tie.After-known-told → tie.Start
 entry c = c .before .before .before .before .before .before .before .before .before
+
+-- and that place, from where the words have been tested
+abbrev known-of : tie.After-test-words → tie.After-known-told
+known-of t = t .before .before .before .before .before
 
 sized : (c : tie.After-known-told) {o : Answer} → let a = entry c .args in
     o ≡ fromClaim (a .table .now) (a .trace .now) (a .t3) → o ≡ checkTest (a .table .now) (a .trace .now) (a .t3)
@@ -118,7 +122,7 @@ test-constraints-requires : tie.Need-test-constraints-requires
 test-constraints-requires c κs =
     let told = c .before in
     let t = told .before .before in
-    let k = t .before .before .before .before .before in
+    let k = known-of t in
     let b = k .before .before .before in
     let trace = entry k .args .trace .now in
     let s = batches (length trace) (b .trace-batches .ensures) (k .before .k .given .1) in (
@@ -133,7 +137,7 @@ unfolding checkAnswer
 returns-5 c =
     let told = c .before .before in
     let t = told .before .before in
-    let k = t .before .before .before .before .before in
+    let k = known-of t in
     let a = entry k .args in
     let b = k .before .before .before in
     let s = batches (length (a .trace .now)) (b .trace-batches .ensures) (k .before .k .given .1) in

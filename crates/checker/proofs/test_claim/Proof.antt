@@ -1,4 +1,4 @@
--- `checker::test_claim` meets its contract: the words of the claim are scanned.
+-- `checker::test_claim`: the scan finds the first word of the claim that is not canonical, or its end.
 -- Assumes nothing.
 use mathlib.Core.Path.{refl, ap}
 use Rattle.words.proofs.Laws.{scanned-good, scanned-bad}

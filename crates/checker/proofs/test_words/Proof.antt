@@ -1,4 +1,4 @@
--- `checker::test_words` meets its contract: the words of the trace are scanned.
+-- `checker::test_words`: the scan finds the first word of the trace that is not canonical, or its end.
 -- Assumes nothing.
 use mathlib.Core.Path.{refl, ap}
 use Rattle.words.proofs.Laws.{scanned-good, scanned-bad}

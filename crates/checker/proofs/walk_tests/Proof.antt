@@ -1,24 +1,31 @@
--- `checker::walk_tests` meets its contract: what is left of the walk gives the answer, at every row and at every test.
+-- The walk: at every row and at every test, the walk over what is left gives the answer of the whole (`WalkSteps`). A
+-- test that holds or does not apply is passed over, one that fails is the answer, and so is the count where no row is
+-- left.
 -- Assumes nothing.
 use mathlib.Core.Path.{_≡_, sym, _∙_}
 use mathlib.Core.Logic.{⊎-elim}
-use Prim.Native.Nat.{_+_, _-_, _*_, _≤_, _<_}
+use mathlib.Core.List.{List}
+use Prim.Native.Nat.{ℕ, _+_, _-_, _*_, _^_, _≤_, _<_}
 use native.Mathlib.Nat.{sub-zero}
-use borrow.Author.Tests.{not-true, not-false}
-use Rattle.rowtests.proofs.SpanLaws.{spans-of}
-use Rattle.checker.proofs.WalkSteps.{answer, rows as from-row, constraints, start, skip, pass, fail, enter, leave, done}
-use borrow.Author.Needs.{needs}
 use native.Mathlib.Omega.{arith}
+use borrow.Author.Needs.{needs}
+use borrow.Author.Tests.{not-true, not-false}
+use lib.ListN.{length}
+use Rattle.words.specs.Words.{AllCanonical}
+use Rattle.rowtests.specs.TestHelpers.{InTrace}
+use Rattle.checker.proofs.WalkSteps.{answer, rows as from-row, constraints, start, skip, pass, fail, enter}
+use Rattle.checker.proofs.WalkSteps.{leave}
+use Rattle.checker.proofs.WalkSteps.{done}
 use Rattle.checker.proofs.walk_tests.Statement.{statement}
 use Rattle.checker.proofs.walk_tests.Tie as tie
 
 abbrev Inv-loop : tie.InvT-loop
-Inv-loop m inverse table trace claim k rows tests₀ i row forward back last constraint₀ tests constraint =
-    (1 ≤ constraint) × (constraint ≤ last + 1) × (last ≤ 52) × (tests < 52 * i + constraint)
+Inv-loop m inverse table trace claim k rows tests₀ i row forward back end constraint₀ tests constraint =
+    (1 ≤ constraint) × (constraint ≤ end) × (end ≤ 53) × (tests < 52 * i + constraint)
     × (constraints table trace claim k i constraint (rows - (i + 1)) tests ≡ answer table trace claim k)
 
 abbrev μ-loop : tie.MeasureT-loop
-μ-loop m inverse table trace claim k rows tests₀ i row forward back last constraint₀ tests constraint = last + 1 - constraint
+μ-loop m inverse table trace claim k rows tests₀ i row forward back end constraint₀ tests constraint = end - constraint
 
 abbrev Inv-walk : tie.InvT-walk
 Inv-walk m inverse table trace claim k rows tests₀ i₀ tests i =
@@ -26,6 +33,19 @@ Inv-walk m inverse table trace claim k rows tests₀ i₀ tests i =
 
 abbrev μ-walk : tie.MeasureT-walk
 μ-walk m inverse table trace claim k rows tests₀ i₀ tests i = rows - i
+
+-- a row that is walked lies in the trace
+abbrev in-trace : {t : List ℕ} {i : ℕ} (k : ℕ) → AllCanonical t → length t ≡ 384 * k → k < 2 ^ 32 → i < 32 * k →
+    InTrace t i
+in-trace k canonical size few inside =
+    record { k = k; canonical = canonical; size = size; few = few; inside = inside }
+
+-- the function's entry, from a turn of the outer loop; and that turn, from a test of the inner
+abbrev entry : tie.At-walk Inv-loop μ-loop Inv-walk μ-walk → tie.Start Inv-loop μ-loop Inv-walk μ-walk
+entry turn = turn .before .before .before .before .before
+
+abbrev turn-of : tie.After-applies Inv-loop μ-loop Inv-walk μ-walk → tie.At-walk Inv-loop μ-loop Inv-walk μ-walk
+turn-of test = test .before .before .before .before .before .before .before
 
 mul-rows : tie.Need-mul-rows Inv-loop μ-loop Inv-walk μ-walk
 mul-rows c = omega arith
@@ -35,23 +55,36 @@ walk-holds c = (omega arith, omega arith, rw sub-zero (start _ _ _ _))
 
 forward-of-requires : tie.Need-forward-of-requires Inv-loop μ-loop Inv-walk μ-walk
 forward-of-requires c κs =
-    let a = c .before .before .before .before .before .before in
-    (a .pre .2, a .pre .0, record { k = a .args .k; canonical = a .pre .3; size = a .pre .4; few = a .pre .5; inside = c .if1 .left })
+    let start = entry (c .before) in
+    let p = start .pre in
+    (p .2, p .0, in-trace (start .args .k) (p .3) (p .4) (p .5) (c .if1 .left))
 
 back-after-requires : tie.Need-back-after-requires Inv-loop μ-loop Inv-walk μ-walk
 back-after-requires c κs =
-    let a = c .before .before .before .before .before .before .before in
-    (a .pre .2, a .pre .1, record { k = a .args .k; canonical = a .pre .3; size = a .pre .4; few = a .pre .5; inside = c .before .if1 .left })
+    let row = c .before in
+    let start = entry (row .before) in
+    let p = start .pre in
+    (p .2, p .1, in-trace (start .args .k) (p .3) (p .4) (p .5) (row .if1 .left))
 
 span-of-requires : tie.Need-span-of-requires Inv-loop μ-loop Inv-walk μ-walk
 span-of-requires c κs = search needs
 
 loop-holds : tie.Need-loop-holds Inv-loop μ-loop Inv-walk μ-walk
 loop-holds c =
-    let a = c .before .before .before .before .before .before .before .before .before .args in
-    let w = c .before .before .before .before .walk in
-    let s = spans-of (w .i) (c .span-of .ensures .0) (c .span-of .ensures .1) in
-    (s .from-one, omega (arith, s .some), s .to-last, omega (arith, s .from-one), sym (enter (a .table .now) (a .trace .now) (a .claim .now) (a .k) (w .i) _ _ s (32 * a .k) (w .tests) (c .before .before .before .if1 .left)) ∙ w .inv .2)
+    let row = c .before .before .before in
+    let turn = row .before in
+    let w = turn .walk in
+    let a = entry turn .args in
+    let s = c .span-of .ensures in (
+      s .from-one,
+      omega (arith, s .some),
+      s .to-last,
+      omega (arith, s .from-one),
+      sym
+          (enter (a .table .now) (a .trace .now) (a .claim .now) (a .k) (w .i) _ _ s (32 * a .k) (w .tests)
+          (row .if1 .left))
+          ∙ w .inv .2,
+    )
 
 applies-requires : tie.Need-applies-requires Inv-loop μ-loop Inv-walk μ-walk
 applies-requires c κs = omega arith
@@ -61,11 +94,18 @@ add-tests c = omega arith
 
 holds-requires : tie.Need-holds-requires Inv-loop μ-loop Inv-walk μ-walk
 holds-requires c κs =
-    let a = c .before .before .before .before .before .before .before .before .before .before .before .before .before .before .before in (
-      a .pre .2,
-      record { place = record { k = a .args .k; canonical = a .pre .3; size = a .pre .4; few = a .pre .5; inside = c .before .before .before .before .before .before .before .before .before .if1 .left }; applied = sym (c .before .before .before .applies .ensures) ∙ c .before .before .if2 .taken },
-      c .before .before .before .before .before .before .before .before .forward-of .ensures,
-      c .before .before .before .before .before .before .before .back-after .ensures,
+    let test = c .before .before .before in
+    let made = test .before .before .before .before in
+    let row = made .before .before in
+    let start = entry (turn-of test) in
+    let p = start .pre in (
+      p .2,
+      record {
+        place = in-trace (start .args .k) (p .3) (p .4) (p .5) (row .if1 .left);
+        applied = sym (test .applies .ensures) ∙ c .before .before .if2 .taken;
+      },
+      made .before .forward-of .ensures,
+      made .back-after .ensures,
     )
 
 add-constraint : tie.Need-add-constraint Inv-loop μ-loop Inv-walk μ-walk
@@ -76,10 +116,12 @@ loop-less c = omega arith
 
 loop-again : tie.Need-loop-again Inv-loop μ-loop Inv-walk μ-walk
 loop-again c =
-    let a = c .before .before .before .before .before .before .before .before .before .before .before .before .before .args in
-    let i = c .before .before .before .before .before .before .before .before .walk .i in
-    let l = c .before .before .before .loop in
+    let test = c .before in
+    let l = test .before .before .loop in
+    let i = turn-of test .walk .i in
+    let a = entry (turn-of test) .args in
     let n = 32 * a .k - (i + 1) in
+    let applied = sym (test .applies .ensures) in
     ⊎-elim
     (λ w. (
       omega arith,
@@ -87,7 +129,10 @@ loop-again c =
       l .inv .2,
       omega arith,
       rw (w .5)
-          (sym (pass (a .table .now) (a .trace .now) (a .claim .now) (a .k) i (l .constraint) n (l .tests) (omega arith) (sym (c .before .applies .ensures) ∙ w .0 .taken) (sym (w .3 .ensures) ∙ not-false _ (w .4 .left))) ∙ l .inv .4),
+          (sym
+          (pass (a .table .now) (a .trace .now) (a .claim .now) (a .k) i (l .constraint) n (l .tests) (omega arith)
+          (applied ∙ w .0 .taken) (sym (w .3 .ensures) ∙ not-false _ (w .4 .left)))
+          ∙ l .inv .4),
     ))
     (λ w. (
       omega arith,
@@ -95,7 +140,10 @@ loop-again c =
       l .inv .2,
       omega arith,
       rw (w .1)
-          (sym (skip (a .table .now) (a .trace .now) (a .claim .now) (a .k) i (l .constraint) n (l .tests) (omega arith) (sym (c .before .applies .ensures) ∙ w .0 .left)) ∙ l .inv .4),
+          (sym
+          (skip (a .table .now) (a .trace .now) (a .claim .now) (a .k) i (l .constraint) n (l .tests) (omega arith)
+          (applied ∙ w .0 .left))
+          ∙ l .inv .4),
     ))
     (c .if2 .came)
 
@@ -107,24 +155,41 @@ walk-less c = omega arith
 
 walk-again : tie.Need-walk-again Inv-loop μ-loop Inv-walk μ-walk
 walk-again c =
-    let a = c .before .before .before .before .before .before .before .before .before .before .before .args in
-    let i = c .before .before .before .before .before .before .walk .i in
     let l = c .before .loop in
-    let s = spans-of i (c .before .before .span-of .ensures .0) (c .before .before .span-of .ensures .1) in
-    (omega arith, omega arith, sym (leave (a .table .now) (a .trace .now) (a .claim .now) (a .k) i _ _ s (l .constraint) (32 * a .k - (i + 1)) (l .tests) (c .loop-test .left) (omega arith)) ∙ l .inv .4)
+    let row = c .before .before in
+    let turn = row .before .before .before .before in
+    let i = turn .walk .i in
+    let a = entry turn .args in (
+      omega arith,
+      omega arith,
+      sym
+          (leave (a .table .now) (a .trace .now) (a .claim .now) (a .k) i _ _ (row .span-of .ensures) (l .constraint)
+          (32 * a .k - (i + 1)) (l .tests) (c .loop-test .left) (omega arith))
+          ∙ l .inv .4,
+    )
 
 returns : tie.Need-returns Inv-loop μ-loop Inv-walk μ-walk
 returns c =
-    let a = c .before .before .before .before .before .before .args in
-    let w = c .before .walk in
-    sym (done (a .table .now) (a .trace .now) (a .claim .now) (a .k) (w .i) (32 * a .k - w .i) (w .tests) (omega arith)) ∙ w .inv .2
+    let turn = c .before in
+    let w = turn .walk in
+    let a = entry turn .args in
+    sym
+    (done (a .table .now) (a .trace .now) (a .claim .now) (a .k) (w .i) (32 * a .k - w .i) (w .tests) (omega arith))
+    ∙ w .inv .2
 
 returns-2 : tie.Need-returns-2 Inv-loop μ-loop Inv-walk μ-walk
 returns-2 c =
-    let a = c .before .before .before .before .before .before .before .before .before .before .before .before .before .before .before .before .before .args in
-    let i = c .before .before .before .before .before .before .before .before .before .before .before .before .walk .i in
-    let l = c .before .before .before .before .before .before .before .loop in
-    sym (fail (a .table .now) (a .trace .now) (a .claim .now) (a .k) i (l .constraint) (32 * a .k - (i + 1)) (l .tests) (omega arith) (sym (c .before .before .before .before .before .applies .ensures) ∙ c .before .before .before .before .if2 .taken) (sym (c .before .holds .ensures) ∙ not-true _ (c .if3 .taken))) ∙ l .inv .4
+    let applied = c .before .before .before .before in
+    let test = applied .before in
+    let l = test .before .before .loop in
+    let i = turn-of test .walk .i in
+    let a = entry (turn-of test) .args in
+    sym
+    (fail (a .table .now) (a .trace .now) (a .claim .now) (a .k) i (l .constraint) (32 * a .k - (i + 1)) (l .tests)
+    (omega arith)
+    (sym (test .applies .ensures) ∙ applied .if2 .taken)
+    (sym (c .before .holds .ensures) ∙ not-true _ (c .if3 .taken)))
+    ∙ l .inv .4
 
 pub walk-tests-spec : {M : Type 1} → statement M
 walk-tests-spec =

@@ -1,4 +1,5 @@
--- `clear::ended` meets its contract: an answer below 0 is no count. Assumes nothing.
+-- `clear::ended`: the test of the sign is that of the definition, an answer below 0 being no count.
+-- Assumes nothing.
 use mathlib.Core.Bool.{true, false}
 use mathlib.Core.Path.{_≡_, refl, sym, ap, subst, _∙_}
 use Prim.Native.Nat.{ℕ}

@@ -1,4 +1,4 @@
--- `clear::main` meets its contract: the bytes that were read, and the line that is written, lie within their buffers.
+-- `clear::main`: the bytes that were read, and the line that is written, lie within their buffers.
 -- Assumes nothing.
 use mathlib.Core.Path.{sym, ap, subst}
 use Prim.Native.Nat.{_≤_}

@@ -1,5 +1,5 @@
--- `clear::read_all` meets its contract. The loop's invariant: the bytes read lie within the buffer, whose length is
--- kept. The measure is the room that is left. Assumes nothing.
+-- `clear::read_all`: the bytes read lie within the buffer, whose length is kept, and each turn leaves less room.
+-- Assumes nothing.
 use mathlib.Core.Path.{_≡_, sym, ap, subst, _∙_}
 use Prim.Native.Nat.{ℕ, _≤_, _-_}
 use native.Mathlib.Omega.{arith}
@@ -53,25 +53,32 @@ count-requires c κs = search needs
 ended-requires : tie.Need-ended-requires Inv-loop μ-loop
 ended-requires c κs = search needs
 
+-- the call of a turn, and the turn's start
+abbrev called : tie.After-count Inv-loop μ-loop → tie.After-read-on Inv-loop μ-loop
+called c = c .before .before .before .before
+
+abbrev head : tie.After-count Inv-loop μ-loop → tie.At-loop Inv-loop μ-loop
+head c = called c .before .before .before
+
 same-length : tie.Need-same-length Inv-loop μ-loop
 same-length c =
-    let b = c .before .before .before .before .before .before in
-    b .read-on .kept .0 ∙ b .before .before .before .loop .inv .0
+    let count = c .before .before in
+    called count .read-on .kept .0 ∙ head count .loop .inv .0
 
 returns : tie.Need-returns Inv-loop μ-loop
 returns c =
-    let b = c .before .before .before .before .before .before in
-    let r = b .read-on in
-    let l = b .before .before .before .loop in
+    let count = c .before .before in
+    let r = called count .read-on in
+    let l = head count .loop in
     let low : l .done ≤ length (r .last .0) = omega (arith, r .kept .0, l .inv .1) in
     within-ended (c .ended .result) (held (r .result)) (l .done) (length (r .last .0)) (c .ended .ensures) low
 
 -- what a turn read lies in the room that was left
 more : (c : tie.Else1 Inv-loop μ-loop) →
-    let l = c .before .before .before .before .before .before .before .before .loop in
+    let l = head (c .before) .loop in
     c .before .count .result ≤ length (l .buf) - l .done
 more c =
-    let r = c .before .before .before .before .before .read-on in
+    let r = called (c .before) .read-on in
     let same = toZ-ofZ {w = w64} (record { sfits = r .ok }) in
     counted (r .result) _ (length (r .last .0)) _ same (r .ensures .0) (c .before .count .ensures .1)
 
@@ -79,10 +86,10 @@ add-done : tie.Need-add-done Inv-loop μ-loop
 add-done c = omega (arith, more c)
 
 loop-less : tie.Need-loop-less Inv-loop μ-loop
-loop-less c = omega (arith, more c, c .before .before .before .before .before .read-on .kept .0)
+loop-less c = omega (arith, more c, called (c .before) .read-on .kept .0)
 
 loop-again : tie.Need-loop-again Inv-loop μ-loop
-loop-again c = omega (arith, more c, c .before .before .before .before .before .read-on .kept .0)
+loop-again c = omega (arith, more c, called (c .before) .read-on .kept .0)
 
 same-length-2 : tie.Need-same-length-2 Inv-loop μ-loop
 same-length-2 c = search needs

@@ -1,4 +1,5 @@
--- `clear::read_on` meets its contract: what is lent to `read` begins after the bytes that are kept. Assumes nothing.
+-- `clear::read_on`: what is lent to `read` begins after the bytes that are kept.
+-- Assumes nothing.
 use mathlib.Core.Path.{_≡_, sym, subst}
 use mathlib.Core.List.{List}
 use Prim.Native.Nat.{ℕ, _-_}
@@ -36,11 +37,11 @@ same-length c = search needs
 
 returns : tie.Need-returns
 returns c =
-    let a = c .before .before .before .before .before .args in
-    let fits = c .before .before .before .before .before .pre in
+    let start = c .before .before .before .before .before in
+    let a = start .args in
     let read = c .before .before .read in (
       answered (a .done) (a .buf .now) _ (read .result) (toZ-ofZ (record { sfits = read .ok })) (read .ensures),
-      take-put (a .done) (length (a .buf .now) - a .done) (a .buf .now) (read .last .1 .0) fits,
+      take-put (a .done) (length (a .buf .now) - a .done) (a .buf .now) (read .last .1 .0) (start .pre),
     )
 
 pub read-on-spec : {M : Type 1} → statement M

@@ -1,11 +1,12 @@
--- `clearing::clear` meets its contract.
+-- `clearing::clear`: each way through the code is one of the four cases of `Clears`, in the same order.
 -- Assumes nothing.
+use mathlib.Core.Path.{_≡_}
 use mathlib.Core.List.{List}
 use Prim.Native.Nat.{ℕ, _-_, _≤_}
 use native.Mathlib.Omega.{arith}
 use lib.ListN.{length, drop, length-take}
 use borrow.Author.Needs.{needs}
-use Rattle.clearing.specs.Clearing.{tableBytes, longest, short, long}
+use Rattle.clearing.specs.Clearing.{tableBytes, longest, unprepared, short, long}
 use Rattle.clearing.proofs.Stages.{rest-file, is-table, file-judged, table-turned-back}
 use Rattle.clearing.proofs.clear.Statement.{statement}
 use Rattle.clearing.proofs.clear.Tie as tie
@@ -22,6 +23,14 @@ low p = p .before .before .before .before .if1 .left
 
 high : (p : tie.After-prepare) → length (input p) ≤ longest
 high p = p .before .before .before .if2 .left
+
+-- Prepare's answer, and the room that it was lent
+abbrev room-is : (p : tie.After-prepare) → p .before .before .table-room .result ≡ unprepared
+room-is p = p .before .before .table-room .ensures
+
+-- where it accepts the table
+abbrev prepared : tie.After-enum-told → tie.After-prepare
+prepared m = m .before .before .before
 
 returns : tie.Need-returns
 returns c = short (c .if1 .taken)
@@ -55,21 +64,27 @@ part-clear-file-end c = search needs
 
 clear-file-requires : tie.Need-clear-file-requires
 clear-file-requires c κs =
-    let p = c .before .before .before .before .before in
-    (is-table (input p) _ _ _ (low p) (high p) (p .before .before .table-room .ensures) (p .prepare .ensures) (c .before .before .enum-told .given .1), omega (arith, length-take (length (input p) - tableBytes) (drop tableBytes (input p)), high p))
+    let m = c .before .before in
+    let p = prepared m in (
+      is-table (input p) _ _ _ (low p) (high p) (room-is p) (p .prepare .ensures) (m .enum-told .given .1),
+      omega (arith, length-take (length (input p) - tableBytes) (drop tableBytes (input p)), high p),
+    )
 
 enum-known-refusal : tie.Need-enum-known-refusal
 enum-known-refusal c = search needs
 
 returns-3 : tie.Need-returns-3
 returns-3 c =
-    let p = c .before .before .before .before .before .before in
-    file-judged (input p) _ _ _ (low p) (high p) (p .before .before .table-room .ensures) (p .prepare .ensures) _ _ (c .before .before .before .enum-told .given .1) (rest-file (input p)) (c .clear-file .ensures)
+    let m = c .before .before .before in
+    let p = prepared m in
+    file-judged (input p) _ _ _ (low p) (high p) (room-is p) (p .prepare .ensures) _ _ (m .enum-told .given .1)
+    (rest-file (input p)) (c .clear-file .ensures)
 
 returns-4 : tie.Need-returns-4
 returns-4 c =
     let p = c .before .before .before .before in
-    table-turned-back (input p) _ _ _ (low p) (high p) (p .before .before .table-room .ensures) (p .prepare .ensures) _ (c .before .refusal .given .1)
+    table-turned-back (input p) _ _ _ (low p) (high p) (room-is p) (p .prepare .ensures) _
+    (c .before .refusal .given .1)
 
 pub clear-spec : {M : Type 1} → statement M
 clear-spec =

@@ -1,4 +1,4 @@
--- `clearing::clear_taps` meets its contract: Build accepts such taps, and Check has only the walk left to do.
+-- `clearing::clear_taps`: Build accepts such taps and leaves their trace, so that Check has only the walk left to do.
 -- Assumes nothing.
 use mathlib.Core.Path.{_≡_, sym, ap, _∙_}
 use mathlib.Core.List.{List}
@@ -8,7 +8,8 @@ use lib.ListN.{length, take}
 use borrow.Author.Needs.{needs}
 use Rattle.refusals.specs.Refusals.{digestWords}
 use Rattle.checker.specs.Answers.{checkAnswer}
-use Rattle.clearing.proofs.Stages.{length-part, part-again, part-within, length-again, never-refused, taps-cleared}
+use Rattle.clearing.proofs.Stages.{length-part, part-again, part-within, length-again}
+use Rattle.clearing.proofs.Stages.{never-refused, taps-cleared}
 use Rattle.clearing.proofs.clear_taps.Statement.{statement}
 use Rattle.clearing.proofs.clear_taps.Tie as tie
 
@@ -16,11 +17,17 @@ use Rattle.clearing.proofs.clear_taps.Tie as tie
 abbrev start : tie.After-build → tie.Start
 start b = b .before .before .before .before .before
 
+abbrev table : tie.After-build → List ℕ
+table b = start b .args .table .now
+
 abbrev taps : tie.After-build → List ℕ
 taps b = start b .args .taps .now
 
+abbrev cells : List ℕ → ℕ
+cells w = 384 * (length w / 12)
+
 abbrev size : tie.After-build → ℕ
-size b = 384 * (length (taps b) / 12)
+size b = cells (taps b)
 
 abbrev room : tie.After-build → List ℕ
 room b = b .before .before .trace-room .result
@@ -31,11 +38,19 @@ last b = b .build .last .1 .1 .0
 abbrev kept : (b : tie.After-build) → length (last b) ≡ length (take (size b) (room b))
 kept b = b .build .kept .1 .1 .0
 
-fits-room : (c : tie.After-trace-room) → 384 * (length (c .before .before .before .args .taps .now) / 12) ≤ length (c .trace-room .result)
+fits-room : (c : tie.After-trace-room)
+    → cells (c .before .before .before .args .taps .now) ≤ length (c .trace-room .result)
 fits-room c = omega (arith, c .before .before .before .pre .1 .few, c .trace-room .ensures)
 
 fits : (b : tie.After-build) → size b ≤ length (room b)
 fits b = fits-room (b .before .before)
+
+part-size : (b : tie.After-build) → length (take (size b) (room b)) ≡ size b
+part-size b = length-part (room b) (last b) (size b) (fits b)
+
+-- where Build accepts
+abbrev built : tie.After-enum-told → tie.After-build
+built m = m .before .before .before
 
 mul-cells : tie.Need-mul-cells
 mul-cells c = omega (arith, c .before .before .pre .1 .few)
@@ -47,7 +62,10 @@ array-borrow-prefix-rows : tie.Need-array-borrow-prefix-rows
 array-borrow-prefix-rows c = fits-room c
 
 slice-aggregate-build : tie.Need-slice-aggregate-build
-slice-aggregate-build c = sym (length-part (c .before .trace-room .result) (c .before .trace-room .result) (384 * (length (c .before .before .before .before .args .taps .now) / 12)) (fits-room (c .before)))
+slice-aggregate-build c =
+    let room = c .before .trace-room .result in
+    let taps = c .before .before .before .before .args .taps .now in
+    sym (length-part room room (cells taps) (fits-room (c .before)))
 
 build-requires : tie.Need-build-requires
 build-requires c κs = search needs
@@ -57,12 +75,12 @@ enum-told c = search needs
 
 array-share-prefix-rows : tie.Need-array-share-prefix-rows
 array-share-prefix-rows c =
-    let b = c .before .before .before in
+    let b = built c in
     part-within (room b) (last b) (size b) (fits b) (kept b)
 
 slice-aggregate-check : tie.Need-slice-aggregate-check
 slice-aggregate-check c =
-    let b = c .before .before .before .before in
+    let b = built (c .before) in
     sym (length-again (room b) (last b) (size b) (fits b) (kept b))
 
 check-requires : tie.Need-check-requires
@@ -76,16 +94,20 @@ enum-known-refusal c = search needs
 
 returns : tie.Need-returns
 returns c =
-    let b = c .before .before .before .before .before .before in
+    let checked = c .before in
+    let b = built (checked .before .before) in
+    let claim = digestWords (start b .args .claim) in
     let part = part-again (room b) (last b) (size b) (fits b) (kept b) in
-    let checked = c .before .check .ensures ∙ ap (λ t. checkAnswer (start b .args .table .now) t (digestWords (start b .args .claim))) part in
-    taps-cleared (start b .args .table .now) (taps b) (start b .pre .0) (start b .pre .1) (digestWords (start b .args .claim)) (take (size b) (room b)) (last b) _ _ (start b .pre .2)
-    (length-part (room b) (last b) (size b) (fits b)) (b .build .ensures .1) checked (c .reported .ensures)
+    let answered = checked .check .ensures ∙ ap (λ t. checkAnswer (table b) t claim) part in
+    taps-cleared (table b) (taps b) (start b .pre .0) (start b .pre .1) claim (take (size b) (room b)) (last b) _ _
+    (start b .pre .2) (part-size b) (b .build .ensures .1) answered (c .reported .ensures)
 
 returns-2 : tie.Need-returns-2
 returns-2 c =
     let b = c .before .before .before .before in
-    absurd (never-refused (start b .args .table .now) (taps b) (start b .pre .0) (start b .pre .1) (b .build .result) _ _ (length-part (room b) (last b) (size b) (fits b)) (b .build .ensures .0) (c .before .refusal .given .1))
+    absurd
+    (never-refused (table b) (taps b) (start b .pre .0) (start b .pre .1) (b .build .result) _ _
+    (part-size b) (b .build .ensures .0) (c .before .refusal .given .1))
 
 pub clear-taps-spec : {M : Type 1} → statement M
 clear-taps-spec =

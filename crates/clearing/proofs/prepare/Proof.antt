@@ -1,4 +1,4 @@
--- `clearing::prepare` meets its contract.
+-- `clearing::prepare`: what is read is the raw table, and Prepare answers for that.
 -- Assumes nothing.
 use mathlib.Core.Path.{subst}
 use borrow.Author.Needs.{needs}
@@ -24,8 +24,9 @@ same-length c = search needs
 returns : tie.Need-returns
 returns c =
     let p = c .before .before .prepare in
-    let start = c .before .before .before .before .before .before .before .before .before .before in
-    subst (λ raw. Prepares raw (start .args .table .now) (p .result) (p .last .1 .0)) (c .before .before .before .before .before .before .read-table .ensures) (p .ensures)
+    let read = c .before .before .before .before .before .before in
+    let table = read .before .before .before .before .args .table .now in
+    subst (λ raw. Prepares raw table (p .result) (p .last .1 .0)) (read .read-table .ensures) (p .ensures)
 
 pub prepare-spec : {M : Type 1} → statement M
 prepare-spec =

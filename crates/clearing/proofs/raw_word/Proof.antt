@@ -1,4 +1,4 @@
--- `clearing::raw_word` meets its contract.
+-- `clearing::raw_word`: two words of four bytes, the high one shifted past the low one, are the word of eight.
 -- Assumes nothing.
 use native.Mathlib.Omega.{arith}
 use borrow.Author.Needs.{needs}
@@ -28,7 +28,9 @@ cast-result-2 : tie.Need-cast-result-2
 cast-result-2 c = search needs
 
 returns : tie.Need-returns
-returns c = joined-word _ _ _ _ (omega arith) (omega arith) (c .before .before .before .read .ensures) (c .before .before .read2 .ensures)
+returns c =
+    let high = c .before .before in
+    joined-word _ _ _ _ (omega arith) (omega arith) (high .before .read .ensures) (high .read2 .ensures)
 
 pub raw-word-spec : {M : Type 1} → statement M
 raw-word-spec =

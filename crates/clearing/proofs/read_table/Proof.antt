@@ -1,4 +1,4 @@
--- `clearing::read_table` meets its contract. The loop's invariant: the words passed are those of the input.
+-- `clearing::read_table`: the room is filled from the front with the words of the input.
 -- Assumes nothing.
 use mathlib.Core.Path.{_≡_, sym, _∙_}
 use Prim.Native.Nat.{_-_, _≤_}
@@ -38,7 +38,6 @@ loop-less c = search needs
 loop-again : tie.Need-loop-again Inv-loop μ-loop
 loop-again c =
     let l = c .before .before .loop in
-    let size = c .before .before .before .before .before .pre .1 in
     (omega arith, simp length-set (l .inv .1), filled-more _ _ _ _ _ (omega arith) (c .raw-word .ensures) (l .inv .2))
 
 same-length : tie.Need-same-length Inv-loop μ-loop

@@ -1,4 +1,4 @@
--- `clearing::reported` meets its contract.
+-- `clearing::reported`: the two arms are the two cases of its definition.
 -- Assumes nothing.
 use borrow.Author.Needs.{needs}
 use Rattle.clearing.proofs.reported.Statement.{statement}

@@ -10,12 +10,12 @@ use Rattle.elements.proofs.read_all.Statement.{statement}
 use Rattle.elements.proofs.read_all.Tie as tie
 
 abbrev Inv-loop : tie.InvT-loop
-Inv-loop file index destination₀ i₀ destination i =
-    (i ≤ length destination) × (length destination ≡ length destination₀)
+Inv-loop file index destination₀ i₀ i-end destination i =
+    (i ≤ i-end) × (length destination ≡ length destination₀)
     × (destination ≡ filled i (λ n. elementAt file (index + 3 * n)) destination₀)
 
 abbrev μ-loop : tie.MeasureT-loop
-μ-loop file index destination₀ i₀ destination i = length destination - i
+μ-loop file index destination₀ i₀ i-end destination i = i-end - i
 
 loop-holds : tie.Need-loop-holds Inv-loop μ-loop
 loop-holds c = (omega arith, refl, filled-none _ _)
@@ -39,12 +39,12 @@ add-i : tie.Need-add-i Inv-loop μ-loop
 add-i c = omega arith
 
 loop-less : tie.Need-loop-less Inv-loop μ-loop
-loop-less c = simp length-set (omega arith)
+loop-less c = omega arith
 
 loop-again : tie.Need-loop-again Inv-loop μ-loop
 loop-again c =
     let loop = c .before .before .loop in (
-      simp length-set (omega arith),
+      omega arith,
       simp length-set (omega arith),
       filled-more _ (loop .i) (c .read .result) _ (loop .destination) (omega arith) (c .read .ensures)
           (loop .inv .2),

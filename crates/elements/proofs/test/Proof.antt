@@ -20,17 +20,26 @@ use Rattle.elements.proofs.Laws.{read-three, no-word}
 use Rattle.elements.proofs.test.Statement.{statement}
 use Rattle.elements.proofs.test.Tie as tie
 
+-- where a kind is known: the place of the kind before it, and the function's entry
+abbrev second : tie.After-kind3 → tie.After-kind2
+second c = c .before .before .before
+
+abbrev first : tie.After-kind2 → tie.After-kind
+first c = c .before .before .before
+
+abbrev entry : tie.After-kind → tie.Start
+entry c = c .before .before .before
+
 -- each kind that is compared is that of the file's word
-first-kind : (c : tie.After-kind) → let a = c .before .before .before .args in
+first-kind : (c : tie.After-kind) → let a = entry c .args in
     c .kind .result ≡ kindOf (wordAt (a .file .now) (a .index))
 first-kind c = c .kind .ensures ∙ ap kindOf (c .before .read .ensures)
 
-second-kind : (c : tie.After-kind2) → let a = c .before .before .before .before .before .before .args in
+second-kind : (c : tie.After-kind2) → let a = entry (first c) .args in
     c .kind2 .result ≡ kindOf (wordAt (a .file .now) (a .index + 1))
 second-kind c = c .kind2 .ensures ∙ ap kindOf (c .before .read2 .ensures)
 
-third-kind : (c : tie.After-kind3) →
-    let a = c .before .before .before .before .before .before .before .before .before .args in
+third-kind : (c : tie.After-kind3) → let a = entry (first (second c)) .args in
     c .kind3 .result ≡ kindOf (wordAt (a .file .now) (a .index + 2))
 third-kind c = c .kind3 .ensures ∙ ap kindOf (c .before .read3 .ensures)
 
@@ -45,34 +54,37 @@ abbrev fromMiddle : List ℕ → ℕ → Answer
 fromMiddle file j = unless (eqb (kindOf (wordAt file (j + 1))) 2) (WrongKind (j + 1)) (fromLow file j)
 
 -- what is answered there is left to them
-one-kind : (f : tie.Else1) {o : Answer} → let a = f .before .before .before .before .args in
+one-kind : (f : tie.Else1) {o : Answer} → let a = entry (f .before) .args in
     o ≡ fromMiddle (a .file .now) (a .index) → o ≡ elementTest (a .file .now) (a .index)
 unfolding elementTest
 one-kind f e = unless-passed _ (eq-eqb _ _ (sym (first-kind (f .before)) ∙ f .if1 .left)) e
 
-two-kinds : (f : tie.Else2) {o : Answer} → let a = f .before .before .before .before .before .before .before .args in
+two-kinds : (f : tie.Else2) {o : Answer} → let a = entry (first (f .before)) .args in
     o ≡ fromLow (a .file .now) (a .index) → o ≡ elementTest (a .file .now) (a .index)
 two-kinds f e =
     one-kind (f .before .before .before) (unless-passed _ (eq-eqb _ _ (sym (second-kind (f .before)) ∙ f .if2 .left)) e)
 
 abbrev start : tie.Else3 → tie.Start
-start c = c .before .before .before .before .before .before .before .before .before .before
+start f = entry (first (second (f .before)))
 
 three-kinds : (f : tie.Else3) {o : Answer} → let a = start f .args in
     o ≡ fromValue (a .file .now) (a .index) → o ≡ elementTest (a .file .now) (a .index)
 three-kinds f e =
     two-kinds (f .before .before .before) (unless-passed _ (eq-eqb _ _ (sym (third-kind (f .before)) ∙ f .if3 .left)) e)
 
-value-is : (c : tie.After-value) → let a = start (c .before .before .before) .args in
+-- where the value is known all three kinds have passed
+abbrev passed : tie.After-value → tie.Else3
+passed c = c .before .before .before
+
+value-is : (c : tie.After-value) → let a = start (passed c) .args in
     c .value .result ≡ elementAt (a .file .now) (a .index)
 value-is c =
-    let three = c .before .before .before in
-    let two = three .before .before .before in
-    let one = two .before .before .before in
-    read-three _ _ _ _ _ _ (one .before .before .read .ensures) (two .before .before .read2 .ensures)
-    (three .before .before .read3 .ensures) (c .value .ensures)
+    let three = passed c .before in
+    let two = second three in
+    read-three _ _ _ _ _ _ (first two .before .read .ensures) (two .before .read2 .ensures)
+    (three .before .read3 .ensures) (c .value .ensures)
 
-canonical : (c : tie.After-is-canonical) → let a = start (c .before .before .before .before) .args in
+canonical : (c : tie.After-is-canonical) → let a = start (passed (c .before)) .args in
     ltb (elementAt (a .file .now) (a .index)) P ≡ c .is-canonical .result
 canonical c = ap (λ v. ltb v P) (sym (value-is (c .before))) ∙ sym (c .is-canonical .ensures)
 
@@ -127,7 +139,7 @@ returns-4 : tie.Need-returns-4
 returns-4 c =
     let three = c .before .before in
     let a = start three .args in
-    let read = three .before .before .before .before .before .before .before .before in
+    let read = first (second (three .before)) .before in
     let p = c .before .payload .ensures ∙ ap payloadOf (read .read .ensures) in
     let large : P ≤ elementAt (a .file .now) (a .index) =
     omega (arith, no-word (a .file .now) (a .index) (rw p at (c .if4 .taken))) in
@@ -141,12 +153,12 @@ is-canonical-requires c κs = search needs
 
 returns-5 : tie.Need-returns-5
 returns-5 c =
-    three-kinds (c .before .before .before .before .before)
+    three-kinds (passed (c .before .before))
     (unless-refused _ (canonical (c .before) ∙ not-true _ (c .if5 .taken)) refl)
 
 returns-6 : tie.Need-returns-6
 returns-6 c =
-    three-kinds (c .before .before .before .before .before)
+    three-kinds (passed (c .before .before))
     (unless-passed _ (canonical (c .before) ∙ not-false _ (c .if5 .left)) refl)
 
 pub test-spec : {M : Type 1} → statement M

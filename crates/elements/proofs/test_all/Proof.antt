@@ -41,8 +41,8 @@ enum-told-2 c = search needs
 returns : tie.Need-returns Inv-loop μ-loop
 returns c =
     let loop = c .before .before .before .before .loop in
-    let tested = c .before .before .test in
-    tests-stop _ _ _ (loop .i) (tested .result) _ (omega arith) (tested .ensures) (c .enum-told2 .given .1)
+    let of-element = c .before .before .test in
+    tests-stop _ _ _ (loop .i) (of-element .result) _ (omega arith) (of-element .ensures) (c .enum-told2 .given .1)
     ∙ loop .inv .1
 
 add-i : tie.Need-add-i Inv-loop μ-loop
@@ -54,9 +54,9 @@ loop-less c = omega arith
 loop-again : tie.Need-loop-again Inv-loop μ-loop
 loop-again c =
     let loop = c .before .before .before .before .loop in
-    let tested = c .before .before .test in (
+    let of-element = c .before .before .test in (
       omega arith,
-      tests-on _ _ _ (loop .i) (tested .result) (omega arith) (tested .ensures) (c .enum-told .given .1)
+      tests-on _ _ _ (loop .i) (of-element .result) (omega arith) (of-element .ensures) (c .enum-told .given .1)
           ∙ loop .inv .1,
     )
 

@@ -11,6 +11,13 @@ use Rattle.elements.proofs.Laws.{write-three}
 use Rattle.elements.proofs.write.Statement.{statement}
 use Rattle.elements.proofs.write.Tie as tie
 
+-- the function's entry, from the first word's write and from the second's
+abbrev entry : tie.After-write → tie.Start
+entry w = w .before .before .before .before
+
+abbrev first : tie.After-write2 → tie.After-write
+first w = w .before .before .before .before .before
+
 cast-high : tie.Need-cast-high
 cast-high c = search needs
 
@@ -27,7 +34,7 @@ write-requires : tie.Need-write-requires
 write-requires c κs = search needs
 
 join-requires-2 : tie.Need-join-requires-2
-join-requires-2 c κs = (lit< tt, mask-lt (c .before .before .before .before .before .before .args .element / 2 ^ 30) 30)
+join-requires-2 c κs = (lit< tt, mask-lt (entry (c .before .before) .args .element / 2 ^ 30) 30)
 
 add-write : tie.Need-add-write
 add-write c = search needs
@@ -36,9 +43,7 @@ write-requires-2 : tie.Need-write-requires-2
 write-requires-2 c κs = search needs
 
 join-requires-3 : tie.Need-join-requires-3
-join-requires-3 c κs =
-    let a = c .before .before .before .before .before .before .before .before .before .before .before .args in
-    (lit< tt, mask-lt (a .element) 30)
+join-requires-3 c κs = (lit< tt, mask-lt (entry (first (c .before .before)) .args .element) 30)
 
 add-write-2 : tie.Need-add-write-2
 add-write-2 c = search needs
@@ -52,17 +57,17 @@ same-length c = search needs
 returns : tie.Need-returns
 returns c =
     let third = c .before .before in
-    let second = third .before .before .before .before .before in
-    let first = second .before .before .before .before .before in
-    let a = first .before .before .before .before .args in
-    let high = first .before .before .join in
-    let middle = second .before .before .join2 in
-    let low = third .before .before .join3 in
-    let m = middle .ensures ∙ ap (joined 2) (and-mask (a .element / 2 ^ 30) 30) in
-    let l = low .ensures ∙ ap (joined 3) (and-mask (a .element) 30) in
-    write-three (a .destination .now) _ _ _ (a .index) (high .result .0) (middle .result .0) (low .result .0)
-    (first .write .ensures) (second .write2 .ensures) (third .write3 .ensures)
-    ∙ rw (high .ensures, m, l)
+    let low = third .before .before in
+    let second = low .before .before .before in
+    let middle = second .before .before in
+    let first = middle .before .before .before in
+    let high = first .before .before in
+    let a = high .before .before .args in
+    let m = middle .join2 .ensures ∙ ap (joined 2) (and-mask (a .element / 2 ^ 30) 30) in
+    let l = low .join3 .ensures ∙ ap (joined 3) (and-mask (a .element) 30) in
+    write-three (a .destination .now) _ _ _ (a .index) (high .join .result .0) (middle .join2 .result .0)
+    (low .join3 .result .0) (first .write .ensures) (second .write2 .ensures) (third .write3 .ensures)
+    ∙ rw (high .join .ensures, m, l)
 
 pub write-spec : {M : Type 1} → statement M
 write-spec =

@@ -13,12 +13,12 @@ use Rattle.elements.proofs.write_all.Statement.{statement}
 use Rattle.elements.proofs.write_all.Tie as tie
 
 abbrev Inv-loop : tie.InvT-loop
-Inv-loop elements index destination₀ i₀ destination i =
-    (i ≤ length elements) × (length destination ≡ length destination₀)
+Inv-loop elements index destination₀ i₀ i-end destination i =
+    (i ≤ i-end) × (length destination ≡ length destination₀)
     × (destination ≡ sets destination₀ (4 * index) (bytesOf (wordsOf (take i elements))))
 
 abbrev μ-loop : tie.MeasureT-loop
-μ-loop elements index destination₀ i₀ destination i = length elements - i
+μ-loop elements index destination₀ i₀ i-end destination i = i-end - i
 
 loop-holds : tie.Need-loop-holds Inv-loop μ-loop
 unfolding each
@@ -47,9 +47,9 @@ loop-less c = omega arith
 
 loop-again : tie.Need-loop-again Inv-loop μ-loop
 loop-again c =
-    let loop = c .before .before .before .before .before .before .loop in
-    let written = c .before .before .write in
-    let next = write-next _ _ _ _ (loop .i) _ (omega arith) (loop .inv .2) (written .ensures) in
+    let written = c .before .before in
+    let loop = written .before .before .before .before .loop in
+    let next = write-next _ _ _ _ (loop .i) _ (omega arith) (loop .inv .2) (written .write .ensures) in
     (omega arith, ap length next ∙ simp length-sets, next)
 
 same-length : tie.Need-same-length Inv-loop μ-loop

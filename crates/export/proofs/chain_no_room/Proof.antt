@@ -1,6 +1,8 @@
--- `export::chain_no_room`: 1, 2, 4, 5, and then 8.
+-- `export::chain_no_room`: 1, 2, 4, 5, and then 8: each return is the case of the definition that the tests before it
+-- left.
 -- Assumes nothing.
 use mathlib.Core.Path.{refl}
+use Prim.Native.Nat.{ℕ}
 use lib.ListN.{length}
 use Rattle.numbers.specs.Numbers.{mostBatches}
 use Rattle.numbers.proofs.Laws.{tap-permitted, tap-refused}
@@ -9,6 +11,10 @@ use Rattle.export.specs.Calls.{chainNoRoom}
 use borrow.Author.Needs.{needs}
 use Rattle.export.proofs.chain_no_room.Statement.{statement}
 use Rattle.export.proofs.chain_no_room.Tie as tie
+
+-- the length of the taps, once the table is accepted
+abbrev words : tie.After-enum-told → ℕ
+words told = length (told .before .before .before .before .before .args .taps .now)
 
 test-requires : tie.Need-test-requires
 test-requires c κs = search needs
@@ -37,18 +43,16 @@ unfolding chainNoRoom
 returns-2 c =
     let b = c .before .before in
     let told = b .before in
-    let words = length (told .before .before .before .before .before .args .taps .now) in
     after-accepted (told .before .before .test .ensures) (told .enum-told .given .1)
-    (unless-refused _ (tap-refused mostBatches words (b .tap-batches .ensures) (c .enum-told4 .given .1)) refl)
+    (unless-refused _ (tap-refused mostBatches (words told) (b .tap-batches .ensures) (c .enum-told4 .given .1)) refl)
 
 returns-3 : tie.Need-returns-3
 unfolding chainNoRoom
 returns-3 c =
     let b = c .before .before in
     let told = b .before in
-    let words = length (told .before .before .before .before .before .args .taps .now) in
-    after-accepted (told .before .before .test .ensures) (told .enum-told .given .1)
-    (unless-passed _ (tap-permitted mostBatches words (b .tap-batches .ensures) (c .enum-told3 .given .1) .0) refl)
+    let permitted = tap-permitted mostBatches (words told) (b .tap-batches .ensures) (c .enum-told3 .given .1) .0 in
+    after-accepted (told .before .before .test .ensures) (told .enum-told .given .1) (unless-passed _ permitted refl)
 
 pub chain-no-room-spec : {M : Type 1} → statement M
 chain-no-room-spec =

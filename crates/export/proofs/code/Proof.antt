@@ -1,4 +1,4 @@
--- `export::code` meets its contract: each part below its bound, so that the sum fits 64 bits.
+-- `export::code`: each part is cut below its bound, so that the sum fits 64 bits.
 -- Assumes nothing.
 use native.Mathlib.Omega.{arith}
 use borrow.Author.Needs.{needs}

@@ -1,4 +1,4 @@
--- `export::hash_no_room`: 1, 2, 4, and then 8.
+-- `export::hash_no_room`: 1, 2, 4, and then 8: each return is the case of the definition that the table test left.
 -- Assumes nothing.
 use mathlib.Core.Path.{refl}
 use Rattle.refusals.proofs.Laws.{after-refused, after-accepted}

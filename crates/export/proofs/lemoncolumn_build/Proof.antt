@@ -3,7 +3,8 @@
 use mathlib.Core.Path.{ap, _∙_}
 use Rattle.export.specs.Code.{answerCode}
 use Rattle.export.specs.Calls.{buildCall}
-use Rattle.export.proofs.Answers.{stopped, kept, handed-as, build-short, chain-no-room-refuses, build-answer, build-left}
+use Rattle.export.proofs.Answers.{stopped, kept, handed-as, build-short, chain-no-room-refuses}
+use Rattle.export.proofs.Answers.{build-answer, build-left}
 use borrow.Author.Needs.{needs}
 use Rattle.export.proofs.lemoncolumn_build.Statement.{statement}
 use Rattle.export.proofs.lemoncolumn_build.Tie as tie
@@ -39,10 +40,12 @@ same-length-2 c = search needs
 
 returns-2 : tie.Need-returns-2
 returns-2 c =
-    let called = c .before .before .before .before .before .before in
+    let handed = c .before .before in
+    let called = handed .before .before .before .before in
     let room = called .before .before .if1 .left in
+    let same = called .build .ensures .0 ∙ build-answer _ room _ _ _ in
     record {
-      four = handed-as _ _ _ _ _ (called .build .ensures .0 ∙ build-answer _ room _ _ _) (c .before .before .hand-over .ensures);
+      four = handed-as _ _ _ _ _ same (handed .hand-over .ensures);
       rows = called .build .ensures .1 ∙ build-left _ room _ _ _;
     }
 

@@ -18,7 +18,9 @@ returns : tie.Need-returns
 unfolding chainCall
 returns c =
     let n = c .before in
-    stopped _ _ (chain-short _ _ _ (n .before .if1 .taken)) (chain-no-room-refuses _ _) _ _ _ (c .answer-code .ensures ∙ ap answerCode (n .chain-no-room .ensures))
+    let short = chain-short _ _ _ (n .before .if1 .taken) in
+    let coded = c .answer-code .ensures ∙ ap answerCode (n .chain-no-room .ensures) in
+    stopped _ _ short (chain-no-room-refuses _ _) _ _ _ coded
 
 chain-requires : tie.Need-chain-requires
 chain-requires c κs = search needs
@@ -31,8 +33,10 @@ same-length c = search needs
 
 returns-2 : tie.Need-returns-2
 returns-2 c =
-    let called = c .before .before .before .before in
-    handed-as _ _ _ _ _ (called .chain .ensures ∙ chain-answer _ (called .before .if1 .left) _ _) (c .before .before .hand-over .ensures)
+    let handed = c .before .before in
+    let called = handed .before .before in
+    let same = called .chain .ensures ∙ chain-answer _ (called .before .if1 .left) _ _ in
+    handed-as _ _ _ _ _ same (handed .hand-over .ensures)
 
 pub lemoncolumn-chain-spec : {M : Type 1} → statement M
 lemoncolumn-chain-spec =

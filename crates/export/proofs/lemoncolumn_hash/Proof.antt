@@ -18,7 +18,9 @@ returns : tie.Need-returns
 unfolding hashCall
 returns c =
     let n = c .before in
-    stopped _ _ (hash-short _ _ _ (n .before .if1 .taken)) (hash-no-room-refuses _) _ _ _ (c .answer-code .ensures ∙ ap answerCode (n .hash-no-room .ensures))
+    let short = hash-short _ _ _ (n .before .if1 .taken) in
+    let coded = c .answer-code .ensures ∙ ap answerCode (n .hash-no-room .ensures) in
+    stopped _ _ short (hash-no-room-refuses _) _ _ _ coded
 
 hash-requires : tie.Need-hash-requires
 hash-requires c κs = search needs
@@ -31,8 +33,10 @@ same-length c = search needs
 
 returns-2 : tie.Need-returns-2
 returns-2 c =
-    let called = c .before .before .before .before in
-    handed-as _ _ _ _ _ (called .hash .ensures ∙ hash-answer _ (called .before .if1 .left) _ _) (c .before .before .hand-over .ensures)
+    let handed = c .before .before in
+    let called = handed .before .before in
+    let same = called .hash .ensures ∙ hash-answer _ (called .before .if1 .left) _ _ in
+    handed-as _ _ _ _ _ same (handed .hand-over .ensures)
 
 pub lemoncolumn-hash-spec : {M : Type 1} → statement M
 lemoncolumn-hash-spec =

@@ -1,8 +1,10 @@
--- `export::lemoncolumn_unpack`: Unpack, or what is left of it where the claim finds no room: no list of taps has 0 words.
+-- `export::lemoncolumn_unpack`: Unpack, or what is left of it where the claim finds no room, no list of taps having 0
+-- words.
 -- Assumes nothing.
 use mathlib.Core.Path.{ap, _∙_}
 use Rattle.export.specs.Code.{digestCode}
-use Rattle.export.proofs.Answers.{kept, handed-as, list-kept, unpack-short, unpack-stopped, no-list-refuses, unpack-answer, unpack-left}
+use Rattle.export.proofs.Answers.{kept, handed-as, list-kept, unpack-short, unpack-stopped, no-list-refuses}
+use Rattle.export.proofs.Answers.{unpack-answer, unpack-left}
 use borrow.Author.Needs.{needs}
 use Rattle.export.proofs.lemoncolumn_unpack.Statement.{statement}
 use Rattle.export.proofs.lemoncolumn_unpack.Tie as tie
@@ -28,7 +30,9 @@ returns c =
     let short = called .before .before .if1 .taken in
     record {
       four = unpack-stopped _ _ _ short _ _ (c .digest-code .ensures ∙ ap digestCode (called .unpack .ensures .0));
-      list = list-kept (called .unpack .last .1 .0) _ (called .unpack .kept .1 .0) ∙ kept _ _ (unpack-short _ _ _ short) (no-list-refuses _) _ _;
+      list =
+          list-kept (called .unpack .last .1 .0) _ (called .unpack .kept .1 .0)
+          ∙ kept _ _ (unpack-short _ _ _ short) (no-list-refuses _) _ _;
     }
 
 unpack-requires-2 : tie.Need-unpack-requires-2
@@ -45,10 +49,12 @@ same-length-3 c = search needs
 
 returns-2 : tie.Need-returns-2
 returns-2 c =
-    let called = c .before .before .before .before .before .before in
+    let handed = c .before .before in
+    let called = handed .before .before .before .before in
     let room = called .before .before .if1 .left in
+    let same = called .unpack2 .ensures .0 ∙ unpack-answer _ room _ _ in
     record {
-      four = handed-as _ _ _ _ _ (called .unpack2 .ensures .0 ∙ unpack-answer _ room _ _) (c .before .before .hand-over .ensures);
+      four = handed-as _ _ _ _ _ same (handed .hand-over .ensures);
       list = called .unpack2 .ensures .1 ∙ unpack-left _ room _ _;
     }
 

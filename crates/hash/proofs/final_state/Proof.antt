@@ -20,21 +20,25 @@ Inv-loop table state₀ round₀ state round =
 abbrev μ-loop : tie.MeasureT-loop
 μ-loop table state₀ round₀ state round = 10 - round
 
-opening-requires : tie.Need-opening-requires Inv-loop μ-loop
-opening-requires c κs = c .before .pre
+-- the function's entry, from the loop's head
+abbrev entry : tie.At-loop Inv-loop μ-loop → tie.Start Inv-loop μ-loop
+entry head = head .before .before .before
+
+plus-initial-requires : tie.Need-plus-initial-requires Inv-loop μ-loop
+plus-initial-requires c κs = c .before .pre
 
 loop-holds : tie.Need-loop-holds Inv-loop μ-loop
-loop-holds c = (omega arith, canonical-state (c .opening .ensures) (stateAt-state _ _ 0), λ s e. e)
+loop-holds c = (omega arith, canonical-state (c .plus-initial .ensures) (stateAt-state _ _ 0), λ s e. e)
 
 first-step-requires : tie.Need-first-step-requires Inv-loop μ-loop
-first-step-requires c κs = (c .before .before .before .before .pre .0, omega arith, c .before .loop .inv .1)
+first-step-requires c κs =
+    let head = c .before in
+    (entry head .pre .0, omega arith, head .loop .inv .1)
 
 second-step-requires : tie.Need-second-step-requires Inv-loop μ-loop
-second-step-requires c κs = (
-  c .before .before .before .before .before .pre .0,
-  omega arith,
-  canonical-state (c .first-step .ensures) (firstStep-state _ _ _),
-)
+second-step-requires c κs =
+    let head = c .before .before in
+    (entry head .pre .0, omega arith, canonical-state (c .first-step .ensures) (firstStep-state _ _ _))
 
 add-round : tie.Need-add-round Inv-loop μ-loop
 add-round c = search needs
@@ -45,23 +49,24 @@ loop-less c = search needs
 loop-again : tie.Need-loop-again Inv-loop μ-loop
 unfolding stateAt
 loop-again c =
-    let t = c .before .before .before .before .before .before .args .table .now in
-    let l = c .before .before .before .loop in
-    let n = l .round in (
+    let head = c .before .before .before in
+    let T = entry head .args .table .now in
+    let round = head .loop .round in (
       omega arith,
       canonical-state (c .second-step .ensures) (secondStep-state _ _ _),
       λ s e. c .second-step .ensures
-          ∙ ap (secondStep t n) (c .before .first-step .ensures ∙ ap (firstStep t n) (l .inv .2 s e))
-          ∙ rw (add-one n),
+          ∙ ap (secondStep T round) (c .before .first-step .ensures ∙ ap (firstStep T round) (head .loop .inv .2 s e))
+          ∙ rw (add-one round),
     )
 
 returns : tie.Need-returns Inv-loop μ-loop
 unfolding finalState
 returns c =
-    let a = c .before .before .before .before .args in
-    let l = c .before .loop in
-    let e : l .round ≡ 10 = omega arith in
-    l .inv .2 (a .input) (c .before .before .opening .ensures) ∙ ap (stateAt (a .table .now) (a .input)) e
+    let head = c .before in
+    let start = entry head .args in
+    let e : head .loop .round ≡ 10 = omega arith in
+    head .loop .inv .2 (start .input) (head .before .plus-initial .ensures)
+    ∙ ap (stateAt (start .table .now) (start .input)) e
 
 pub final-state-spec : {M : Type 1} → statement M
 final-state-spec =
@@ -69,7 +74,7 @@ final-state-spec =
     (tie.spec
     Inv-loop
     μ-loop
-    opening-requires
+    plus-initial-requires
     loop-holds
     first-step-requires
     second-step-requires

@@ -1,4 +1,5 @@
--- `hash::first_step`: roots, M, then the round's first-step constant.
+-- `hash::first_step`: the definition's three parts, roots, M and the round's first-step constant, are one call each;
+-- what each hands on is canonical.
 -- Assumes nothing.
 use mathlib.Core.Path.{ap, _∙_}
 use native.Mathlib.Omega.{arith}

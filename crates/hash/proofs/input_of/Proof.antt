@@ -61,10 +61,11 @@ shared-slice-read-t33 c = search needs
 
 returns : tie.Need-returns
 returns c =
-    let a = c .before .before .before .before .before .before .before in
-    let at = c .before .before .before .before .start .result in
-    let e : at ≡ 4 * (a .args .hash .0 + 1) = omega arith in
-    input-words (a .args .t2) (a .args .taps .now) (a .args .hash .0 + 1) at (omega arith) (omega arith) e
+    let placed = c .before .before .before .before in
+    let entry = placed .before .before .before .args in
+    let at = placed .start .result in
+    let e : at ≡ 4 * (entry .hash .0 + 1) = omega arith in
+    input-words (entry .t2) (entry .taps .now) (entry .hash .0 + 1) at (omega arith) (omega arith) e
 
 pub input-of-spec : {M : Type 1} → statement M
 input-of-spec =

@@ -1,4 +1,4 @@
--- `hash::last_state`: the state begins with the output of the hashes passed.
+-- `hash::last_state`: the state begins with the output of the hashes passed, and a hash of it and the next tap goes on.
 -- Assumes nothing.
 use mathlib.Core.Path.{_≡_, ap, _∙_}
 use Prim.Native.Nat.{_-_, _≤_}
@@ -16,24 +16,29 @@ Inv-loop table taps hashes state₀ h₀ state h = (h ≤ hashes) × (take 4 sta
 abbrev μ-loop : tie.MeasureT-loop
 μ-loop table taps hashes state₀ h₀ state h = hashes - h
 
+-- the function's entry, from the loop's head
+abbrev entry : tie.At-loop Inv-loop μ-loop → tie.Start Inv-loop μ-loop
+entry head = head .before .before .before .before
+
 chain-start-requires : tie.Need-chain-start-requires Inv-loop μ-loop
 chain-start-requires c κs = omega arith
 
 loop-holds : tie.Need-loop-holds Inv-loop μ-loop
 loop-holds c =
-    let a = c .before .before .before in
-    (omega arith, starts (a .args .table .now) (a .args .taps .now) _ (omega arith) (c .chain-start .ensures))
+    let start = c .before .before .before .args in
+    (omega arith, starts (start .table .now) (start .taps .now) _ (omega arith) (c .chain-start .ensures))
 
 input-of-requires : tie.Need-input-of-requires Inv-loop μ-loop
 input-of-requires c κs = omega arith
 
 final-state-requires : tie.Need-final-state-requires Inv-loop μ-loop
 final-state-requires c κs =
-    let a = c .before .before .before .before .before .before in
-    let l = c .before .before .loop in (
-      a .pre .0,
-      input-canonical (a .args .table .now) (a .args .taps .now) (l .h) (l .state) _ (l .inv .1)
-          (c .input-of .ensures) (a .pre .3) (omega arith),
+    let head = c .before .before in
+    let start = entry head in
+    let loop = head .loop in (
+      start .pre .0,
+      input-canonical (start .args .table .now) (start .args .taps .now) (loop .h) (loop .state) _ (loop .inv .1)
+          (c .input-of .ensures) (start .pre .3) (omega arith),
     )
 
 add-h : tie.Need-add-h Inv-loop μ-loop
@@ -44,19 +49,20 @@ loop-less c = omega arith
 
 loop-again : tie.Need-loop-again Inv-loop μ-loop
 loop-again c =
-    let a = c .before .before .before .before .before .before .before .args in
-    let l = c .before .before .before .loop in (
+    let head = c .before .before .before in
+    let start = entry head .args in
+    let loop = head .loop in (
       omega arith,
-      goes-on (a .table .now) (a .taps .now) (l .h) (l .state) _ (l .inv .1) (c .before .input-of .ensures) _
-          (c .final-state .ensures),
+      goes-on (start .table .now) (start .taps .now) (loop .h) (loop .state) _ (loop .inv .1)
+          (c .before .input-of .ensures) _ (c .final-state .ensures),
     )
 
 returns : tie.Need-returns Inv-loop μ-loop
 returns c =
-    let a = c .before .before .before .before .before .args in
-    let l = c .before .loop in
-    let e : l .h ≡ a .hashes = omega arith in
-    l .inv .1 ∙ ap (outputAt (a .table .now) (a .taps .now)) e
+    let head = c .before in
+    let start = entry head .args in
+    let e : head .loop .h ≡ start .hashes = omega arith in
+    head .loop .inv .1 ∙ ap (outputAt (start .table .now) (start .taps .now)) e
 
 pub last-state-spec : {M : Type 1} → statement M
 last-state-spec =

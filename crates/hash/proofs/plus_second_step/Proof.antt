@@ -1,27 +1,27 @@
--- `hash::plus_second_step`: the cells passed are filled with the sums.
+-- `hash::plus_second_step`: the cells passed are those of s plus the round's second-step constant, and twelve of them
+-- are the definition's sum.
 -- Assumes nothing.
-use mathlib.Core.Path.{_≡_, refl, ap, _∙_}
-use Prim.Native.Nat.{_-_, _≤_}
+use mathlib.Core.Path.{refl, ap, _∙_}
+use Prim.Native.Nat.{_-_}
 use native.Mathlib.Omega.{arith}
 use borrow.Author.Needs.{needs}
-use lib.ListN.{length, length-set}
 use Rattle.lists.specs.Lists.{cell}
-use Rattle.lists.proofs.Tab.{filled, filled-none, filled-more}
+use Rattle.lists.proofs.Tab.{Fills, fills-none, fills-more, fills-all}
 use Rattle.field.specs.Field.{add}
 use Rattle.table.specs.Table.{secondStepConstant}
-use Rattle.hash.proofs.CodeStates.{plus-filled}
+use Rattle.hash.specs.Hash.{plus}
 use Rattle.hash.proofs.plus_second_step.Statement.{statement}
 use Rattle.hash.proofs.plus_second_step.Tie as tie
 
 abbrev Inv-loop : tie.InvT-loop
 Inv-loop table round s out₀ j₀ out j =
-    (j ≤ 12) × (length out ≡ 12) × (out ≡ filled j (λ i. add (cell s i) (cell (secondStepConstant table round) i)) out₀)
+    Fills 12 (λ i. add (cell s i) (cell (secondStepConstant table round) i)) out₀ j out
 
 abbrev μ-loop : tie.MeasureT-loop
 μ-loop table round s out₀ j₀ out j = 12 - j
 
 loop-holds : tie.Need-loop-holds Inv-loop μ-loop
-loop-holds c = (omega arith, refl, filled-none _ _)
+loop-holds c = fills-none refl
 
 second-step-constant-requires : tie.Need-second-step-constant-requires Inv-loop μ-loop
 second-step-constant-requires c κs = search needs
@@ -51,12 +51,12 @@ loop-less c = search needs
 
 loop-again : tie.Need-loop-again Inv-loop μ-loop
 loop-again c =
-    let l = c .before .before .before .loop in
-    let v = c .add .ensures .0 ∙ ap (add _) (c .before .second-step-constant .ensures .0) in
-    (omega arith, simp length-set (l .inv .1), filled-more _ (l .j) _ _ (l .out) (omega arith) v (l .inv .2))
+    fills-more (c .before .before .before .loop .inv) (omega arith)
+    (c .add .ensures .0 ∙ ap (add _) (c .before .second-step-constant .ensures .0))
 
 returns : tie.Need-returns Inv-loop μ-loop
-returns c = plus-filled _ _ (c .before .loop .j) (omega arith) (c .before .loop .inv .2)
+unfolding plus
+returns c = fills-all (c .before .loop .inv) (omega arith)
 
 pub plus-second-step-spec : {M : Type 1} → statement M
 plus-second-step-spec =

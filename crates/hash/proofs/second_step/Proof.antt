@@ -1,4 +1,5 @@
--- `hash::second_step`: cubes, M, then the round's second-step constant.
+-- `hash::second_step`: the definition's three parts, cubes, M and the round's second-step constant, are one call each;
+-- what each hands on is canonical.
 -- Assumes nothing.
 use mathlib.Core.Path.{ap, _∙_}
 use native.Mathlib.Omega.{arith}

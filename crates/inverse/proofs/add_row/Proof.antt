@@ -4,7 +4,7 @@ use Prim.Native.Nat.{_-_, _≤_}
 use mathlib.Core.Path.{sym, ap, ap₂, _∙_}
 use native.Mathlib.Omega.{arith}
 use Rattle.field.specs.Field.{add, mul}
-use Rattle.inverse.specs.Elimination.{RowSet, addedRow}
+use Rattle.inverse.specs.EliminationHelpers.{RowSet, addedRow}
 use Rattle.inverse.proofs.Rows.{row-none, row-more, row-end, row-next, row-other}
 use Rattle.inverse.proofs.Rows.{next-canonical, other-canonical}
 use borrow.Author.Needs.{needs}
@@ -18,6 +18,10 @@ Inv-loop w₀ r j c l₀ w l =
 abbrev μ-loop : tie.MeasureT-loop
 μ-loop w₀ r j c l₀ w l =
     24 - l
+
+-- the function's entry, from the loop's head
+abbrev entry : tie.At-loop Inv-loop μ-loop → tie.Start Inv-loop μ-loop
+entry head = head .before
 
 loop-holds : tie.Need-loop-holds Inv-loop μ-loop
 loop-holds c =
@@ -43,11 +47,11 @@ element-copy-out-t15 c = omega arith
 
 mul-requires : tie.Need-mul-requires Inv-loop μ-loop
 mul-requires c κs =
-    let s = c .before .before .before in
-    let v = c .before .before .loop in (
-      s .pre .3,
-      other-canonical _ _ _ _ _ (s .pre .4) (v .inv .1) _ _ (s .pre .1) (c .before .loop-test .taken)
-          (λ e. s .pre .2 (sym e)),
+    let turn = c .before in
+    let head = turn .before in
+    let p = entry head .pre in (
+      p .3,
+      other-canonical _ _ _ _ _ (p .4) (head .loop .inv .1) _ _ (p .1) (turn .loop-test .taken) (λ e. p .2 (sym e)),
     )
 
 mul-t9-2 : tie.Need-mul-t9-2 Inv-loop μ-loop
@@ -58,11 +62,10 @@ element-copy-out-t15-2 c = omega arith
 
 add-requires : tie.Need-add-requires Inv-loop μ-loop
 add-requires c κs =
-    let s = c .before .before .before .before .before in
-    let v = c .before .before .before .before .loop in (
-      next-canonical _ _ _ _ _ (s .pre .4) (s .pre .0) (c .before .before .before .loop-test .taken) (v .inv .1),
-      c .before .mul .ensures .1,
-    )
+    let turn = c .before .before .before in
+    let head = turn .before in
+    let p = entry head .pre in
+    (next-canonical _ _ _ _ _ (p .4) (p .0) (turn .loop-test .taken) (head .loop .inv .1), c .before .mul .ensures .1)
 
 mul-w : tie.Need-mul-w Inv-loop μ-loop
 mul-w c = search needs
@@ -78,14 +81,17 @@ loop-less c = search needs
 
 loop-again : tie.Need-loop-again Inv-loop μ-loop
 loop-again c =
-    let s = c .before .before .before .before .before .before in
-    let v = c .before .before .before .before .before .loop in
-    let t = c .before .before .before .before .loop-test .taken in
-    let here = row-next _ _ _ _ _ (s .pre .0) t (v .inv .1) in
-    let there = row-other _ _ _ _ _ (v .inv .1) _ _ (s .pre .1) t (λ e. s .pre .2 (sym e)) in (
+    let product = c .before .before in
+    let turn = product .before .before in
+    let head = turn .before in
+    let p = entry head .pre in
+    let t = turn .loop-test .taken in
+    let row = head .loop .inv .1 in
+    let here = row-next _ _ _ _ _ (p .0) t row in
+    let there = row-other _ _ _ _ _ row _ _ (p .1) t (λ e. p .2 (sym e)) in (
       omega arith,
-      row-more _ _ _ _ _ _ (s .pre .4 .size) (s .pre .0) t (v .inv .1)
-          (c .add .ensures .0 ∙ ap₂ add here (c .before .before .mul .ensures .0 ∙ ap (mul (s .args .c)) there)),
+      row-more _ _ _ _ _ _ (p .4 .size) (p .0) t row
+          (c .add .ensures .0 ∙ ap₂ add here (product .mul .ensures .0 ∙ ap (mul (entry head .args .c)) there)),
     )
 
 returns : tie.Need-returns Inv-loop μ-loop

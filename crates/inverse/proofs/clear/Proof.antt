@@ -23,11 +23,12 @@ loop-holds c =
 
 clear-word-requires : tie.Need-clear-word-requires Inv-loop μ-loop
 clear-word-requires c κs =
-    let s = c .before .before .before .before in (
-      c .before .before .loop-test .taken,
-      s .pre .0,
+    let turn = c .before .before in
+    let head = turn .before in (
+      turn .loop-test .taken,
+      head .before .pre .0,
       c .before .if1 .taken,
-      c .before .before .before .loop .inv .1 .reduces .reduced .working,
+      head .loop .inv .1 .reduces .reduced .working,
     )
 
 add-i : tie.Need-add-i Inv-loop μ-loop
@@ -38,24 +39,25 @@ loop-less c = search needs
 
 loop-again : tie.Need-loop-again Inv-loop μ-loop
 loop-again c =
-    let s = c .before .before .before in
-    let v = c .before .before .loop in
-    let t = c .before .loop-test .taken in (
+    let turn = c .before in
+    let loop = turn .before .loop in
+    let start = turn .before .before in (
       omega arith,
       ⊎-elim
-          (λ a. subst (λ y. Cleared (s .args .w .now) y (s .args .j) (v .i + 1)) (sym (a .3))
-          (cleared-more _ _ _ _ _ (s .pre .0) t (v .inv .1) (a .0 .taken) (a .2 .ensures)))
-          (λ a. subst (λ y. Cleared (s .args .w .now) y (s .args .j) (v .i + 1)) (sym (a .1))
-          (cleared-same _ _ _ _ (v .inv .1) (a .0 .left)))
+          (λ a. subst (λ y. Cleared (start .args .w .now) y (start .args .j) (loop .i + 1)) (sym (a .3))
+          (cleared-more _ _ _ _ _ (start .pre .0) (turn .loop-test .taken) (loop .inv .1) (a .0 .taken)
+          (a .2 .ensures)))
+          (λ a. subst (λ y. Cleared (start .args .w .now) y (start .args .j) (loop .i + 1)) (sym (a .1))
+          (cleared-same _ _ _ _ (loop .inv .1) (a .0 .left)))
           (c .if1 .came),
     )
 
 returns : tie.Need-returns Inv-loop μ-loop
 returns c =
-    let s = c .before .before in
-    let v = c .before .loop in
-    cleared-all _ _ _ (s .pre .0)
-    (subst (λ y. Cleared (s .args .w .now) (v .w) (s .args .j) y) (omega arith) (v .inv .1))
+    let start = c .before .before in
+    let loop = c .before .loop in
+    cleared-all _ _ _ (start .pre .0)
+    (subst (λ y. Cleared (start .args .w .now) (loop .w) (start .args .j) y) (omega arith) (loop .inv .1))
 
 pub clear-spec : {M : Type 1} → statement M
 clear-spec =

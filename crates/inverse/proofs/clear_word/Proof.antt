@@ -2,7 +2,7 @@
 -- Assumes nothing.
 use mathlib.Core.Path.{subst}
 use native.Mathlib.Omega.{arith}
-use Rattle.inverse.specs.Elimination.{RowSet, addedRow}
+use Rattle.inverse.specs.EliminationHelpers.{RowSet, addedRow}
 use borrow.Author.Needs.{needs}
 use Rattle.inverse.proofs.clear_word.Statement.{statement}
 use Rattle.inverse.proofs.clear_word.Tie as tie

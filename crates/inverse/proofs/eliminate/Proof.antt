@@ -5,7 +5,7 @@ use mathlib.Core.Path.{_≡_, subst}
 use mathlib.Core.Bool.{true, false}
 use native.Mathlib.Omega.{arith}
 use borrow.Author.Tests.{not-true, not-false}
-use Rattle.inverse.specs.Elimination.{Reduces, Stepped}
+use Rattle.inverse.specs.EliminationHelpers.{Reduces, Stepped}
 use Rattle.inverse.proofs.Steps.{reduces-none, reduces-trans}
 use borrow.Author.Needs.{needs}
 use Rattle.inverse.proofs.eliminate.Statement.{statement}

@@ -2,12 +2,21 @@
 -- column without a pivot gives a non-zero column that the matrix takes to zeros.
 -- Assumes nothing.
 use mathlib.Core.Path.{refl, sym, subst}
+use mathlib.Core.List.{List}
+use Prim.Native.Nat.{ℕ}
 use borrow.Author.Tests.{not-true, not-false}
-use Rattle.inverse.specs.Elimination.{Working}
+use Rattle.inverse.specs.EliminationHelpers.{Working}
 use Rattle.inverse.proofs.Inversion.{start-working, without, found}
 use borrow.Author.Needs.{needs}
 use Rattle.inverse.proofs.invert.Statement.{statement}
 use Rattle.inverse.proofs.invert.Tie as tie
+
+-- the matrix, and the rows at the start, from the test of the elimination
+abbrev started : tie.After-eliminate → tie.After-start
+started c = c .before .before
+
+abbrev matrix : tie.After-eliminate → List ℕ
+matrix c = started c .before .before .before .args .m .now
 
 start-requires : tie.Need-start-requires
 start-requires c κs = search needs
@@ -19,10 +28,10 @@ eliminate-requires c κs =
 
 returns : tie.Need-returns
 returns c =
-    let m = c .before .before .before .before .before .before .args .m .now in
-    let r = c .before .eliminate in (
+    let rows = c .before in
+    let r = rows .eliminate in (
       refl,
-      without m _ _ (r .result) (c .before .before .before .start .ensures) (r .ensures)
+      without (matrix rows) _ _ (r .result) (started rows .start .ensures) (r .ensures)
           (not-true (r .result) (c .if1 .taken)),
     )
 
@@ -31,11 +40,11 @@ store-requires c κs = search needs
 
 returns-2 : tie.Need-returns-2
 returns-2 c =
-    let e = c .before .before .before in
-    let m = e .before .before .before .before .before .before .args .m .now in
-    let r = e .before .eliminate in
-    found m _ _ _ (r .result) (e .before .before .before .start .ensures) (r .ensures)
-    (not-false (r .result) (e .if1 .left)) (c .store .ensures)
+    let test = c .before .before .before in
+    let rows = test .before in
+    let r = rows .eliminate in
+    found (matrix rows) _ _ _ (r .result) (started rows .start .ensures) (r .ensures)
+    (not-false (r .result) (test .if1 .left)) (c .store .ensures)
 
 pub invert-spec : {M : Type 1} → statement M
 invert-spec =

@@ -3,7 +3,7 @@
 use Prim.Native.Nat.{ℕ, _-_, _<_, _≤_}
 use mathlib.Core.Path.{_≡_}
 use native.Mathlib.Omega.{arith}
-use Rattle.inverse.specs.Elimination.{at}
+use Rattle.inverse.specs.EliminationHelpers.{at}
 use Rattle.inverse.proofs.Steps.{pivot-more}
 use borrow.Author.Needs.{needs}
 use Rattle.inverse.proofs.pivot.Statement.{statement}
@@ -56,7 +56,12 @@ loop-again c =
 
 returns-2 : tie.Need-returns-2 Inv-loop μ-loop
 returns-2 c =
-    record { from = omega arith; to = omega arith; before = c .before .loop .inv .2; found = λ h. absurd (omega arith) }
+    record {
+      from = omega arith;
+      to = omega arith;
+      before = λ i a b. c .before .loop .inv .2 i a (omega arith);
+      found = λ h. absurd (omega arith);
+    }
 
 pub pivot-spec : {M : Type 1} → statement M
 pivot-spec =

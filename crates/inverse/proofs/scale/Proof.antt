@@ -4,7 +4,7 @@ use Prim.Native.Nat.{_-_, _≤_}
 use mathlib.Core.Path.{ap, _∙_}
 use native.Mathlib.Omega.{arith}
 use Rattle.field.specs.Field.{mul}
-use Rattle.inverse.specs.Elimination.{RowSet, scaledRow}
+use Rattle.inverse.specs.EliminationHelpers.{RowSet, scaledRow}
 use Rattle.inverse.proofs.Rows.{row-none, row-more, row-end, row-next, next-canonical}
 use borrow.Author.Needs.{needs}
 use Rattle.inverse.proofs.scale.Statement.{statement}
@@ -36,11 +36,10 @@ element-copy-out-t12 c = omega arith
 
 mul-requires : tie.Need-mul-requires Inv-loop μ-loop
 mul-requires c κs =
-    let s = c .before .before .before in (
-      s .pre .1,
-      next-canonical _ _ _ _ _ (s .pre .2) (s .pre .0) (c .before .loop-test .taken)
-          (c .before .before .loop .inv .1),
-    )
+    let turn = c .before in
+    let head = turn .before in
+    let p = head .before .pre in
+    (p .1, next-canonical _ _ _ _ _ (p .2) (p .0) (turn .loop-test .taken) (head .loop .inv .1))
 
 mul-w : tie.Need-mul-w Inv-loop μ-loop
 mul-w c = search needs
@@ -56,12 +55,14 @@ loop-less c = search needs
 
 loop-again : tie.Need-loop-again Inv-loop μ-loop
 loop-again c =
-    let s = c .before .before .before .before in
-    let v = c .before .before .before .loop in
-    let t = c .before .before .loop-test .taken in (
+    let turn = c .before .before in
+    let head = turn .before in
+    let start = head .before in
+    let t = turn .loop-test .taken in
+    let row = head .loop .inv .1 in (
       omega arith,
-      row-more _ _ _ _ _ _ (s .pre .2 .size) (s .pre .0) t (v .inv .1)
-          (c .mul .ensures .0 ∙ ap (mul (s .args .c)) (row-next _ _ _ _ _ (s .pre .0) t (v .inv .1))),
+      row-more _ _ _ _ _ _ (start .pre .2 .size) (start .pre .0) t row
+          (c .mul .ensures .0 ∙ ap (mul (start .args .c)) (row-next _ _ _ _ _ (start .pre .0) t row)),
     )
 
 returns : tie.Need-returns Inv-loop μ-loop

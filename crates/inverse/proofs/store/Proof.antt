@@ -1,26 +1,24 @@
 -- `inverse::store`: the words passed are those of the right half.
 -- Assumes nothing.
-use Prim.Native.Nat.{_+_, _-_, _/_, _%_, _≤_}
-use mathlib.Core.Path.{_≡_, refl, _∙_}
+use Prim.Native.Nat.{_+_, _-_, _/_, _%_}
+use mathlib.Core.Path.{refl}
 use native.Mathlib.Omega.{arith}
-use lib.ListN.{length, length-set}
-use Rattle.lists.proofs.Tab.{filled, filled-none, filled-more, filled-all}
-use Rattle.inverse.specs.Elimination.{at, rightHalf}
+use Rattle.lists.proofs.Tab.{Fills, fills-none, fills-more, fills-all}
+use Rattle.inverse.specs.EliminationHelpers.{at, rightHalf}
 use borrow.Author.Needs.{needs}
 use Rattle.inverse.proofs.store.Statement.{statement}
 use Rattle.inverse.proofs.store.Tie as tie
 
 abbrev Inv-loop : tie.InvT-loop
 Inv-loop w out₀ t₀ out t =
-    (t ≤ 144) × (length out ≡ 144) × (out ≡ filled t (λ k. at w (k / 12) (12 + k % 12)) out₀)
+    Fills 144 (λ k. at w (k / 12) (12 + k % 12)) out₀ t out
 
 abbrev μ-loop : tie.MeasureT-loop
 μ-loop w out₀ t₀ out t =
     144 - t
 
 loop-holds : tie.Need-loop-holds Inv-loop μ-loop
-loop-holds c =
-    (omega arith, c .pre, filled-none _ _)
+loop-holds c = fills-none (c .pre)
 
 mul-out : tie.Need-mul-out Inv-loop μ-loop
 mul-out c = search needs
@@ -50,17 +48,11 @@ loop-less : tie.Need-loop-less Inv-loop μ-loop
 loop-less c = search needs
 
 loop-again : tie.Need-loop-again Inv-loop μ-loop
-loop-again c =
-    let l = c .before .before .loop in
-    let size = c .before .before .before .pre in
-    (omega arith, simp length-set (l .inv .1), filled-more _ _ _ _ _ (omega arith) refl (l .inv .2))
+loop-again c = fills-more (c .before .before .loop .inv) (omega arith) refl
 
 returns : tie.Need-returns Inv-loop μ-loop
 unfolding rightHalf
-returns c =
-    let l = c .before .loop in
-    let e : l .t ≡ 144 = omega arith in
-    l .inv .2 ∙ rw e (filled-all 144 _ _ (c .before .before .pre))
+returns c = fills-all (c .before .loop .inv) (omega arith)
 
 pub store-spec : {M : Type 1} → statement M
 store-spec =

@@ -13,7 +13,7 @@ use lib.ListN.{length}
 use Rattle.lists.specs.Lists.{cell, sum as total}
 use Rattle.lists.proofs.Sum.{sum-zero, sum-suc, sum-le}
 use Rattle.field.specs.Field.{P, Canonical}
-use Rattle.sums.specs.Sums.{valueOf}
+use Rattle.sums.specs.SumHelpers.{valueOf}
 use Rattle.sums.proofs.Reduction.{upper-small}
 use Rattle.words.specs.Words.{AllCanonical, CanonicalTo}
 use Rattle.matrix.specs.Matrix.{entry, timesColumn}
@@ -71,19 +71,28 @@ small : (m : List ℕ) (row : ℕ) (s : List ℕ) → row < 12 → length m ≡ 
 small m row s hr e cm cs n hn i h =
     term-small (entry m row i) (cell s i) (cm (12 * row + i) (omega arith)) (cs i (omega arith))
 
+-- the function's entry, from the loop's head, and that the upper word of the sum has room there
+abbrev entry-of : tie.At-loop Inv-loop μ-loop → tie.Start Inv-loop μ-loop
+entry-of head = head .before .before
+
+below : (head : tie.At-loop Inv-loop μ-loop) → head .loop .sum .0 < 2 ^ 62
+below head =
+    let a = entry-of head .args in
+    let p = entry-of head .pre in
+    let l = head .loop in
+    room (l .j) (l .sum .0) (l .sum .1) _ (l .inv .0)
+    (small (a .m .now) (a .row) (a .t3) (p .0) (p .1) (p .2) (p .3) (l .j) (l .inv .0)) (l .inv .1)
+
 plus-requires : tie.Need-plus-requires Inv-loop μ-loop
 plus-requires c κs =
-    let a = c .before .before .before .before in
-    let l = c .before .before .loop in
-    let below =
-    room (l .j) (l .sum .0) (l .sum .1) _ (l .inv .0)
-    (small (a .args .m .now) (a .args .row) (a .args .t3) (a .pre .0) (a .pre .1) (a .pre .2) (a .pre .3) (l .j)
-    (l .inv .0))
-    (l .inv .1) in
+    let head = c .before .before in
+    let a = entry-of head .args in
+    let p = entry-of head .pre in
+    let j = head .loop .j in
     let upper =
-    upper-small (entry (a .args .m .now) (a .args .row) (l .j)) (cell (a .args .t3) (l .j))
-    (a .pre .2 (12 * a .args .row + l .j) (omega arith)) (a .pre .3 (l .j) (omega arith)) in
-    omega (arith, below, upper)
+    upper-small (entry (a .m .now) (a .row) j) (cell (a .t3) j) (p .2 (12 * a .row + j) (omega arith))
+    (p .3 j (omega arith)) in
+    omega (arith, below head, upper)
 
 add-j : tie.Need-add-j Inv-loop μ-loop
 add-j c = omega arith
@@ -93,9 +102,10 @@ loop-less c = omega arith
 
 loop-again : tie.Need-loop-again Inv-loop μ-loop
 loop-again c =
-    let a = c .before .before .before .before .before in
-    let l = c .before .before .before .loop in
-    let f : ℕ → ℕ = terms (a .args .row) (cell (a .args .t3)) (entry (a .args .m .now)) in (
+    let head = c .before .before .before in
+    let a = entry-of head .args in
+    let l = head .loop in
+    let f : ℕ → ℕ = terms (a .row) (cell (a .t3)) (entry (a .m .now)) in (
       omega arith,
       c .plus .ensures
           ∙ ap (λ v. v + f (l .j)) (l .inv .1)
@@ -103,23 +113,18 @@ loop-again c =
           ∙ ap (λ n. total n f) (sym (add-one (l .j))),
     )
 
-rest-requires : tie.Need-rest-requires Inv-loop μ-loop
-rest-requires c κs =
-    let a = c .before .before .before in
-    let l = c .before .loop in
-    room (l .j) (l .sum .0) (l .sum .1) _ (l .inv .0)
-    (small (a .args .m .now) (a .args .row) (a .args .t3) (a .pre .0) (a .pre .1) (a .pre .2) (a .pre .3) (l .j)
-    (l .inv .0))
-    (l .inv .1)
+remainder-requires : tie.Need-remainder-requires Inv-loop μ-loop
+remainder-requires c κs = below (c .before)
 
 returns : tie.Need-returns Inv-loop μ-loop
 unfolding timesColumn
 returns c =
-    let a = c .before .before .before .before in
-    let l = c .before .before .loop in
-    let f : ℕ → ℕ = terms (a .args .row) (cell (a .args .t3)) (entry (a .args .m .now)) in
+    let head = c .before .before in
+    let a = entry-of head .args in
+    let l = head .loop in
+    let f : ℕ → ℕ = terms (a .row) (cell (a .t3)) (entry (a .m .now)) in
     let e : l .j ≡ 12 = omega arith in
-    (c .rest .ensures .0 ∙ ap (λ v. v % P) (l .inv .1) ∙ ap (λ n. total n f % P) e, c .rest .ensures .1)
+    (c .remainder .ensures .0 ∙ ap (λ v. v % P) (l .inv .1) ∙ ap (λ n. total n f % P) e, c .remainder .ensures .1)
 
 pub dot-spec : {M : Type 1} → statement M
 dot-spec =
@@ -138,5 +143,5 @@ dot-spec =
     add-j
     loop-less
     loop-again
-    rest-requires
+    remainder-requires
     returns)

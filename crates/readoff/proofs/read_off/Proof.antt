@@ -1,4 +1,4 @@
--- `readoff::read_off` meets its contract: the destination is written after the last of the tests.
+-- `readoff::read_off`: the destination is written after the last of the tests, and is the list that they accepted.
 -- Assumes nothing.
 use mathlib.Core.Path.{_≡_}
 use native.Mathlib.Omega.{arith}
@@ -9,6 +9,10 @@ use Rattle.readoff.proofs.Answers.{read-off-inputs, accepted, kept, rea
 use borrow.Author.Needs.{needs}
 use Rattle.readoff.proofs.read_off.Statement.{statement}
 use Rattle.readoff.proofs.read_off.Tie as tie
+
+-- the function's entry, from where the tests have answered
+abbrev entry : tie.After-test-read-off → tie.Start
+entry t = t .before .before .before .before .before
 
 test-read-off-requires : tie.Need-test-read-off-requires
 test-read-off-requires c κs = search needs
@@ -22,16 +26,16 @@ enum-told-2 c = search needs
 returns : tie.Need-returns
 returns c =
     let t = c .before .before in
-    let a = t .before .before .before .before .before .args in
+    let a = entry t .args in
     let answered = t .test-read-off .ensures in
     (answered, kept (a .table .now) (a .trace .now) (a .t3) (a .destination .now) answered (c .enum-told2 .given .1))
 
 -- every test is passed
-passes : (c : tie.After-enum-told) → let a = c .before .before .before .before .before .before .before .args in
+passes : (c : tie.After-enum-told) → let a = entry (c .before .before) .args in
     readOffTest (a .table .now) (a .trace .now) (a .t3) (length (a .destination .now)) ≡ Accepted
 passes c =
     let t = c .before .before in
-    let a = t .before .before .before .before .before .args in
+    let a = entry t .args in
     accepted (a .table .now) (a .trace .now) (a .t3) (a .destination .now)
     (t .test-read-off .ensures) (c .enum-told .given .1)
 
@@ -45,8 +49,15 @@ write-taps-requires : tie.Need-write-taps-requires
 write-taps-requires c κs =
     let r = c .before .before in
     let i = read-off-inputs _ _ _ _ (passes (r .before)) in
-    let h = i .1 in
-    (r .back-ready .ensures, h .table, h .canonical, h .size, h .permitted .low, omega (arith, h .permitted .high), i .0)
+    let h = i .1 in (
+      r .back-ready .ensures,
+      h .table,
+      h .canonical,
+      h .size,
+      h .permitted .low,
+      omega (arith, h .permitted .high),
+      i .0,
+    )
 
 same-length : tie.Need-same-length
 same-length c = search needs
@@ -56,7 +67,7 @@ returns-2 c =
     let w = c .before .before in
     let told = w .before .before .before .before in
     let t = told .before .before in
-    let a = t .before .before .before .before .before .args in
+    let a = entry t .args in
     let answered = t .test-read-off .ensures in (
       answered,
       read (a .table .now) (a .trace .now) (a .t3) (a .destination .now)

@@ -1,65 +1,91 @@
--- `readoff::read_tap` meets its contract, word by word.
+-- A tap, word by word: columns 0 to 3 of the first row 0, or columns 4 to 7 of the input of the hash that takes it in.
 -- Assumes nothing.
-use Rattle.readoff.proofs.ReadLaws.{first-row, four, first-word, next-word}
 use native.Mathlib.Omega.{arith}
+use borrow.Author.Needs.{needs}
+use Rattle.readoff.proofs.ReadLaws.{first-row, four, first-word, next-word}
 use Rattle.readoff.proofs.read_tap.Statement.{statement}
 use Rattle.readoff.proofs.read_tap.Tie as tie
 
+-- the function's entry, from the taps after the first
+abbrev entry : tie.Else1 → tie.Start
+entry e = e .before .before .before .before .before
+
 cells-requires : tie.Need-cells-requires
-cells-requires c κs = first-row (c .before .before .before .before .before .pre .2)
+cells-requires c κs =
+    let start = c .before .before .before .before .before in
+    first-row (start .pre .2)
 
 array-read-t12 : tie.Need-array-read-t12
-array-read-t12 c = omega arith
+array-read-t12 c = search needs
 
 array-read-t15 : tie.Need-array-read-t15
-array-read-t15 c = omega arith
+array-read-t15 c = search needs
 
 array-read-t18 : tie.Need-array-read-t18
-array-read-t18 c = omega arith
+array-read-t18 c = search needs
 
 array-read-t21 : tie.Need-array-read-t21
-array-read-t21 c = omega arith
+array-read-t21 c = search needs
 
 returns : tie.Need-returns
 returns c =
-    let a = c .before .before .before .before .before .before .args in
+    let start = c .before .before .before .before .before .before in
+    let T = start .args .table .now in
+    let t = start .args .trace .now in
+    let n = start .args .tap .0 in
     let z = c .before .if1 .taken in
     let e = c .cells .ensures .0 in
     four _
-    (first-word (a .table .now) (a .trace .now) (a .tap .0) 0 (omega arith) z e)
-    (first-word (a .table .now) (a .trace .now) (a .tap .0) 1 (omega arith) z e)
-    (first-word (a .table .now) (a .trace .now) (a .tap .0) 2 (omega arith) z e)
-    (first-word (a .table .now) (a .trace .now) (a .tap .0) 3 (omega arith) z e)
+    (first-word T t n 0 (omega arith) z e)
+    (first-word T t n 1 (omega arith) z e)
+    (first-word T t n 2 (omega arith) z e)
+    (first-word T t n 3 (omega arith) z e)
 
-sub-t23 : tie.Need-sub-t23
-sub-t23 c = omega arith
+hash-requires : tie.Need-hash-requires
+hash-requires c κs = search needs
 
 read-input-requires : tie.Need-read-input-requires
 read-input-requires c κs =
-    let p = c .before .before .before .before .before .before .pre in
-    (p .0, p .1, record { k = p .2 .k; canonical = p .2 .canonical; size = p .2 .size; some = p .2 .some; few = p .2 .few; inside = omega arith })
+    let p = entry (c .before) .pre in
+    let h = p .2 in (
+      p .0,
+      p .1,
+      record {
+        k = h .k;
+        canonical = h .canonical;
+        size = h .size;
+        some = h .some;
+        few = h .few;
+        inside = omega (arith, h .inside, c .hash .ensures);
+      },
+    )
 
-array-read-t27 : tie.Need-array-read-t27
-array-read-t27 c = omega arith
+array-read-t26 : tie.Need-array-read-t26
+array-read-t26 c = search needs
 
-array-read-t30 : tie.Need-array-read-t30
-array-read-t30 c = omega arith
+array-read-t29 : tie.Need-array-read-t29
+array-read-t29 c = search needs
 
-array-read-t33 : tie.Need-array-read-t33
-array-read-t33 c = omega arith
+array-read-t32 : tie.Need-array-read-t32
+array-read-t32 c = search needs
 
-array-read-t36 : tie.Need-array-read-t36
-array-read-t36 c = omega arith
+array-read-t35 : tie.Need-array-read-t35
+array-read-t35 c = search needs
 
 returns-2 : tie.Need-returns-2
 returns-2 c =
-    let a = c .before .before .before .before .before .before .before .args in
+    let hash = c .before in
+    let start = entry (hash .before) in
+    let T = start .args .table .now in
+    let t = start .args .trace .now in
+    let n = start .args .tap .0 in
+    let z = hash .hash .ensures in
     let e = c .read-input .ensures in
     four _
-    (next-word (a .table .now) (a .trace .now) (a .tap .0) 0 (omega arith) (omega arith) e)
-    (next-word (a .table .now) (a .trace .now) (a .tap .0) 1 (omega arith) (omega arith) e)
-    (next-word (a .table .now) (a .trace .now) (a .tap .0) 2 (omega arith) (omega arith) e)
-    (next-word (a .table .now) (a .trace .now) (a .tap .0) 3 (omega arith) (omega arith) e)
+    (next-word T t n 0 (omega arith) (omega arith) z e)
+    (next-word T t n 1 (omega arith) (omega arith) z e)
+    (next-word T t n 2 (omega arith) (omega arith) z e)
+    (next-word T t n 3 (omega arith) (omega arith) z e)
 
 pub read-tap-spec : {M : Type 1} → statement M
 read-tap-spec =
@@ -71,10 +97,10 @@ read-tap-spec =
     array-read-t18
     array-read-t21
     returns
-    sub-t23
+    hash-requires
     read-input-requires
-    array-read-t27
-    array-read-t30
-    array-read-t33
-    array-read-t36
+    array-read-t26
+    array-read-t29
+    array-read-t32
+    array-read-t35
     returns-2)

@@ -1,4 +1,4 @@
--- `readoff::test_read_off` meets its contract: each return is the case of the definition that the tests before it left.
+-- `readoff::test_read_off`: each return is the case of the definition that the tests before it left.
 -- Assumes nothing.
 use mathlib.Core.Path.{_≡_, refl, sym, _∙_}
 use Prim.Native.Nat.{_+_, _*_, _^_, _<_}
@@ -61,6 +61,10 @@ returns-2 c =
 -- the trace has k batches, and the destination is to be tested
 abbrev entry : tie.After-known-told → tie.Start
 entry c = c .before .before .before .before .before .before .before .before .before
+
+-- and that place, from where the words have been tested
+abbrev known-of : tie.After-test-words → tie.After-known-told
+known-of t = t .before .before .before .before .before .before
 
 few : (c : tie.After-known-told) → let words = length (entry c .args .trace .now) in
     let k = c .before .k .given .0 .0 in
@@ -146,7 +150,7 @@ returns-5 c =
 test-constraints-requires : tie.Need-test-constraints-requires
 test-constraints-requires c κs =
     let t = c .before .before in
-    let k = t .before .before .before .before .before .before in
+    let k = known-of t in
     let b = k .before .before .before in
     let trace = entry k .args .trace .now in (
       is-table _ (b .before .before .before .test .ensures) (b .before .enum-told .given .1),
@@ -160,7 +164,7 @@ unfolding readOffAnswer
 returns-6 c =
     let told = c .before in
     let t = told .before .before in
-    let k = t .before .before .before .before .before .before in
+    let k = known-of t in
     let a = entry k .args in
     let trace = a .trace .now in
     walked (a .table .now) trace (a .claim .now) _ (few k .0) (c .test-constraints .ensures)

@@ -1,35 +1,45 @@
--- `readoff::write_taps` meets its contract: the taps passed are written, in rising order.
+-- The taps, one after the other: after n of them the first 4n words are those of the definition, so after all of
+-- them all are.
 -- Assumes nothing.
 use mathlib.Core.Path.{_≡_, refl}
 use Prim.Native.Nat.{_+_, _*_, _-_, _≤_}
+use native.Mathlib.Omega.{arith}
 use lib.ListN.{length, length-set}
 use Rattle.lists.proofs.Tab.{filled, filled-none}
 use Rattle.constraints.specs.ReadOff.{readWord}
 use Rattle.readoff.proofs.ReadLaws.{four-more, all-taps}
-use native.Mathlib.Omega.{arith}
 use Rattle.readoff.proofs.write_taps.Statement.{statement}
 use Rattle.readoff.proofs.write_taps.Tie as tie
 
 abbrev Inv-loop : tie.InvT-loop
-Inv-loop inverse table trace k destination₀ i₀ destination i = (i ≤ 3 * k + 1) × (length destination ≡ length destination₀) × (destination ≡ filled (4 * i) (readWord table trace) destination₀)
+Inv-loop inverse table trace k destination₀ taps n₀ destination n =
+    (n ≤ taps) × (length destination ≡ length destination₀)
+    × (destination ≡ filled (4 * n) (readWord table trace) destination₀)
 
 abbrev μ-loop : tie.MeasureT-loop
-μ-loop inverse table trace k destination₀ i₀ destination i = 3 * k + 1 - i
+μ-loop inverse table trace k destination₀ taps n₀ destination n = taps - n
+
+-- the function's entry, from a turn of the loop
+abbrev entry : tie.At-loop Inv-loop μ-loop → tie.Start Inv-loop μ-loop
+entry head = head .before .before .before .before .before
+
+mul-taps : tie.Need-mul-taps Inv-loop μ-loop
+mul-taps c = omega arith
+
+add-taps : tie.Need-add-taps Inv-loop μ-loop
+add-taps c = omega arith
 
 loop-holds : tie.Need-loop-holds Inv-loop μ-loop
 loop-holds c = (omega arith, refl, filled-none _ _)
 
-mul-loop : tie.Need-mul-loop Inv-loop μ-loop
-mul-loop c = omega arith
-
-add-loop : tie.Need-add-loop Inv-loop μ-loop
-add-loop c = omega arith
-
 read-tap-requires : tie.Need-read-tap-requires Inv-loop μ-loop
 read-tap-requires c κs =
-    let a = c .before .before .before .before .before .before in
-    let p = a .pre in
-    (p .0, p .1, record { k = a .args .k; canonical = p .2; size = p .3; some = p .4; few = p .5; inside = omega arith })
+    let start = entry (c .before) in
+    let p = start .pre in (
+      p .0,
+      p .1,
+      record { k = start .args .k; canonical = p .2; size = p .3; some = p .4; few = p .5; inside = omega arith },
+    )
 
 start-requires : tie.Need-start-requires Inv-loop μ-loop
 start-requires c κs = omega arith
@@ -79,19 +89,23 @@ mul-destination-4 c = omega arith
 slice-write-destination-4 : tie.Need-slice-write-destination-4 Inv-loop μ-loop
 slice-write-destination-4 c = simp length-set (omega arith)
 
-add-i : tie.Need-add-i Inv-loop μ-loop
-add-i c = omega arith
+add-n : tie.Need-add-n Inv-loop μ-loop
+add-n c = omega arith
 
 loop-less : tie.Need-loop-less Inv-loop μ-loop
 loop-less c = omega arith
 
 loop-again : tie.Need-loop-again Inv-loop μ-loop
 loop-again c =
-    let a = c .before .before .before .before .before .before .before .before .args in
-    let l = c .before .before .before .loop in (
+    let tap = c .before in
+    let head = tap .before .before in
+    let l = head .loop in
+    let a = entry head .args in
+    let f = readWord (a .table .now) (a .trace .now) in (
       omega arith,
       simp length-set (l .inv .1),
-      four-more (readWord (a .table .now) (a .trace .now)) (l .i) (c .start .result) (a .destination .now) (l .destination) (c .before .read-tap .result) (c .start .ensures) (omega arith) (c .before .read-tap .ensures) (l .inv .2),
+      four-more f (l .n) (c .start .result) (a .destination .now) (l .destination) (tap .read-tap .result)
+          (c .start .ensures) (omega arith) (tap .read-tap .ensures) (l .inv .2),
     )
 
 same-length : tie.Need-same-length Inv-loop μ-loop
@@ -99,9 +113,11 @@ same-length c = c .before .loop .inv .1
 
 returns : tie.Need-returns Inv-loop μ-loop
 returns c =
-    let a = c .before .before .before .before .before .before in
     let l = c .before .loop in
-    all-taps (a .args .table .now) (a .args .trace .now) (a .args .k) (l .i) (a .args .destination .now) (l .destination) (a .pre .6) (omega arith) (l .inv .2)
+    let start = entry (c .before) in
+    let a = start .args in
+    all-taps (a .table .now) (a .trace .now) (a .k) (l .n) (a .destination .now) (l .destination) (start .pre .6)
+    (omega arith) (l .inv .2)
 
 pub write-taps-spec : {M : Type 1} → statement M
 write-taps-spec =
@@ -109,9 +125,9 @@ write-taps-spec =
     (tie.spec
     Inv-loop
     μ-loop
+    mul-taps
+    add-taps
     loop-holds
-    mul-loop
-    add-loop
     read-tap-requires
     start-requires
     array-read-destination
@@ -129,7 +145,7 @@ write-taps-spec =
     add-destination-3
     mul-destination-4
     slice-write-destination-4
-    add-i
+    add-n
     loop-less
     loop-again
     same-length

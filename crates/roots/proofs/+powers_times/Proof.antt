@@ -7,7 +7,7 @@ use mathlib.Core.Logic.{⊎-elim}
 use Prim.Native.Nat.{ℕ, _/_, _%_, _^_, _<_}
 use native.Mathlib.Omega.{arith}
 use lib.ListN.{length}
-use Rattle.roots.specs.Cells.{ShortTo, elements, wordProducts, products, powers}
+use Rattle.roots.specs.CellHelpers.{ShortTo, elements, wordProducts, products, powers}
 use Rattle.roots.proofs.CellLaws.{length-word-products, word-products-short, elements-of-products}
 use Rattle.roots.proofs.CellLaws.{powers-done, powers-even, powers-odd}
 use borrow.Fn.Kinds.{In}
@@ -116,16 +116,17 @@ powers-times-powers-times-requires : (t : ℕ) → powers-times-lts.Need-powers-
   powers-times.Post,
 ) (powers-times-at t) powers-times.Post
 powers-times-powers-times-requires t c κs =
-    let a = c .before .before .before .before .before .before .before in
-    let q = passed t (c .before .before .before .before) in
-    let m = c .before .before .multiply2 .ensures in
-    let x = a .args .x .now in (
+    let joined = c .before .before .before .before in
+    let start = joined .before .before .before in
+    let q = passed t joined in
+    let squared = c .before .before .multiply2 .ensures in
+    let x = start .args .x .now in (
       omega arith,
       (
         q .size,
         q .short,
-        ap length m ∙ length-word-products x x,
-        subst (ShortTo 12) (sym m) (word-products-short x x (a .pre .1 .3) (a .pre .1 .3)),
+        ap length squared ∙ length-word-products x x,
+        subst (ShortTo 12) (sym squared) (word-products-short x x (start .pre .1 .3) (start .pre .1 .3)),
       ),
     )
 
@@ -136,15 +137,15 @@ powers-times-returns-2 : (t : ℕ) → powers-times-lts.Need-returns-2 (
   powers-times.Post,
 ) (powers-times-at t) powers-times.Post
 powers-times-returns-2 t c =
-    let j = c .before .before .before .before .before in
-    let a = j .before .before .before in
-    let x = a .args .x .now in
-    let q = passed t j in (
+    let squared = c .before .before .before in
+    let joined = squared .before .before in
+    let start = joined .before .before .before in
+    let x = start .args .x .now in (
       c .powers-times .ensures .0
-          ∙ ap (λ y. products (elements (j .if2 .acc)) (powers y (a .args .e / 2)))
-          (ap elements (c .before .before .before .multiply2 .ensures)
-          ∙ elements-of-products x x (a .pre .1 .3) (a .pre .1 .3))
-          ∙ q .same,
+          ∙ ap (λ y. products (elements (joined .if2 .acc)) (powers y (start .args .e / 2)))
+          (ap elements (squared .multiply2 .ensures)
+          ∙ elements-of-products x x (start .pre .1 .3) (start .pre .1 .3))
+          ∙ passed t joined .same,
       c .powers-times .ensures .1,
     )
 

@@ -6,8 +6,8 @@ use lib.ListN.{length, replicate}
 use Rattle.lists.specs.Lists.{cell}
 use Rattle.lists.proofs.Tab.{length-tab}
 use Rattle.field.specs.Field.{third}
-use Rattle.field.specs.Montgomery.{enterWord}
-use Rattle.roots.specs.Cells.{ShortTo, elements, words, products, powers}
+use Rattle.field.specs.MontgomeryHelpers.{enterWord}
+use Rattle.roots.specs.CellHelpers.{ShortTo, elements, words, products, powers}
 use Rattle.roots.proofs.CellLaws.{words-short, elements-of-words, ones-short, roots-of-powers}
 use Rattle.roots.proofs.roots.Statement.{statement}
 use Rattle.roots.proofs.roots.Tie as tie

@@ -1,4 +1,4 @@
--- `rows::back` meets its contract.
+-- Back of a row, from its round and its cells: the step undone is the definition's at both (`back-made`).
 -- Assumes nothing.
 use Rattle.rows.proofs.RowLaws.{back-made}
 use borrow.Author.Needs.{needs}
@@ -18,7 +18,8 @@ returns : tie.Need-returns
 returns c =
     let r = c .before .before in
     let a = r .before .before .before .before .args in
-    back-made (a .table .now) (a .trace .now) (a .row .0) (r .round-of .ensures .0) (c .before .cells .ensures .0) (c .back-step .ensures)
+    back-made (a .table .now) (a .trace .now) (a .row .0) (r .round-of .ensures .0) (c .before .cells .ensures .0)
+    (c .back-step .ensures)
 
 pub back-spec : {M : Type 1} → statement M
 back-spec = tie.close (tie.spec round-of-requires cells-requires back-step-requires returns)

@@ -1,4 +1,4 @@
--- `rows::cell` meets its contract: a cell of the row that `trace_row` lends.
+-- `rows::cell`: a cell of the row that `trace_row` lends, and the words of the trace are canonical.
 -- Assumes nothing.
 use native.Mathlib.Omega.{arith}
 use borrow.Author.Needs.{needs}

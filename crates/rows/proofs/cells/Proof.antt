@@ -1,5 +1,4 @@
--- `rows::cells` meets its contract: the cells passed are those of the row that `trace_row` lends, and the words of the
--- trace are canonical.
+-- `rows::cells`: the cells passed are those of the row that `trace_row` lends, and the trace's words are canonical.
 -- Assumes nothing.
 use mathlib.Core.Path.{_≡_, refl, ap, _∙_}
 use Prim.Native.Nat.{_-_, _≤_}
@@ -8,13 +7,14 @@ use lib.ListN.{length, length-set, replicate}
 use borrow.Author.Needs.{needs}
 use Rattle.lists.specs.Lists.{cell}
 use Rattle.lists.proofs.Tab.{filled, filled-none, filled-more, filled-all, tab-cell}
-use Rattle.constraints.specs.Constraints.{row}
+use Rattle.trace.specs.Trace.{row}
 use Rattle.rows.proofs.RowLaws.{length-read, cells-read}
 use Rattle.rows.proofs.cells.Statement.{statement}
 use Rattle.rows.proofs.cells.Tie as tie
 
 abbrev Inv-loop : tie.InvT-loop
-Inv-loop trace lent out₀ j₀ out j = (j ≤ 12) × (length lent ≡ 12) × (length out ≡ 12) × (out ≡ filled j (cell lent) out₀)
+Inv-loop trace lent out₀ j₀ out j = (j ≤ 12) × (length lent ≡ 12) × (length out ≡ 12) ×
+    (out ≡ filled j (cell lent) out₀)
 
 abbrev μ-loop : tie.MeasureT-loop
 μ-loop trace lent out₀ j₀ out j = 12 - j
@@ -48,8 +48,13 @@ loop-less c = omega arith
 
 loop-again : tie.Need-loop-again Inv-loop μ-loop
 loop-again c =
-    let l = c .before .before .loop in
-    (omega arith, l .inv .1, simp length-set (l .inv .2), filled-more _ (l .j) _ _ (l .out) (omega arith) refl (l .inv .3))
+    let l = c .before .before .loop in (
+      omega arith,
+      l .inv .1,
+      simp length-set (l .inv .2),
+      filled-more _ (l .j) _ _ (l .out) (omega arith) refl
+          (l .inv .3),
+    )
 
 returns : tie.Need-returns Inv-loop μ-loop
 returns c =

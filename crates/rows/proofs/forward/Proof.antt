@@ -1,4 +1,5 @@
--- `rows::forward` meets its contract.
+-- Forward of a row in the columns that are tested: the second step of its round, and at rows 10 and 20 K_0 as well
+-- (`forward-plain`, `forward-entering`).
 -- Assumes nothing.
 use mathlib.Core.Path.{sym, _∙_}
 use native.Mathlib.Omega.{arith}
@@ -16,8 +17,8 @@ round-of-requires c κs = search needs
 cells-requires : tie.Need-cells-requires
 cells-requires c κs = search needs
 
-second-step-requires : tie.Need-second-step-requires
-second-step-requires c κs =
+forward-step-requires : tie.Need-forward-step-requires
+forward-step-requires c κs =
     let r = c .before in
     let p = r .before .before .before .before .before .before .pre in
     (p .0, p .1, r .round-of .ensures .1, c .cells .ensures .1, omega arith)
@@ -25,7 +26,7 @@ second-step-requires c κs =
 plus-entering-requires : tie.Need-plus-entering-requires
 plus-entering-requires c κs =
     let e = c .before .before .before .before in
-    (e .before .before .before .before .pre .0, second-canonical 4 _ _ _ (c .second-step .ensures))
+    (e .before .before .before .before .pre .0, second-canonical 4 _ _ _ (c .forward-step .ensures))
 
 returns : tie.Need-returns
 returns c =
@@ -33,7 +34,9 @@ returns c =
     let r = n .before .before in
     let e = r .before .before in
     let a = e .before .before .before .before .args in
-    forward-entering (a .table .now) (a .trace .now) (a .row .0) (r .round-of .ensures .0) (n .before .cells .ensures .0) (sym (e .is-entering .ensures) ∙ r .before .if1 .taken) (n .second-step .ensures) (c .plus-entering .ensures)
+    forward-entering (a .table .now) (a .trace .now) (a .row .0) (r .round-of .ensures .0)
+    (n .before .cells .ensures .0) (sym (e .is-entering .ensures) ∙ r .before .if1 .taken)
+    (n .forward-step .ensures) (c .plus-entering .ensures)
 
 round-of-requires-2 : tie.Need-round-of-requires-2
 round-of-requires-2 c κs = search needs
@@ -41,8 +44,8 @@ round-of-requires-2 c κs = search needs
 cells-requires-2 : tie.Need-cells-requires-2
 cells-requires-2 c κs = search needs
 
-second-step-requires-2 : tie.Need-second-step-requires-2
-second-step-requires-2 c κs =
+forward-step-requires-2 : tie.Need-forward-step-requires-2
+forward-step-requires-2 c κs =
     let r = c .before in
     let p = r .before .before .before .before .before .before .pre in
     (p .0, p .1, r .round-of2 .ensures .1, c .cells2 .ensures .1, omega arith)
@@ -52,7 +55,9 @@ returns-2 c =
     let r = c .before .before in
     let e = r .before .before in
     let a = e .before .before .before .before .args in
-    forward-plain (a .table .now) (a .trace .now) (a .row .0) (r .round-of2 .ensures .0) (c .before .cells2 .ensures .0) (sym (e .is-entering .ensures) ∙ r .before .if1 .left) (c .second-step2 .ensures)
+    forward-plain (a .table .now) (a .trace .now) (a .row .0) (r .round-of2 .ensures .0)
+    (c .before .cells2 .ensures .0) (sym (e .is-entering .ensures) ∙ r .before .if1 .left)
+    (c .forward-step2 .ensures)
 
 pub forward-spec : {M : Type 1} → statement M
 forward-spec =
@@ -61,10 +66,10 @@ forward-spec =
     is-entering-requires
     round-of-requires
     cells-requires
-    second-step-requires
+    forward-step-requires
     plus-entering-requires
     returns
     round-of-requires-2
     cells-requires-2
-    second-step-requires-2
+    forward-step-requires-2
     returns-2)

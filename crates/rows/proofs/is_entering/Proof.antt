@@ -1,4 +1,4 @@
--- `rows::is_entering` meets its contract.
+-- Rows 10 and 20 of a batch, by the definition's two comparisons.
 -- Assumes nothing.
 use borrow.Author.Needs.{needs}
 use borrow.Author.Tests.{eq-eqb, ne-eqb}

@@ -1,4 +1,4 @@
--- `rows::plus_entering` meets its contract: the columns passed are the sums, the others as they were.
+-- `rows::plus_entering`: the columns passed are the sums, the others as they were; after four that is the definition.
 -- Assumes nothing.
 use mathlib.Core.Path.{_≡_, ap, _∙_}
 use Prim.Native.Nat.{_-_, _≤_}

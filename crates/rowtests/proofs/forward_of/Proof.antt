@@ -1,4 +1,4 @@
--- `rowtests::forward_of` meets its contract.
+-- Forward of the row at rows 1 to 30, in the columns that are tested, and zeros elsewhere: as the definition has it.
 -- Assumes nothing.
 use mathlib.Core.Path.{subst}
 use Prim.Native.Nat.{_≤_}
@@ -22,7 +22,8 @@ forward-requires c κs =
     (p .0, p .1, has-row (p .2), subst (λ w. 1 ≤ w) (c .before .before .within .ensures) (c .before .if1 .left))
 
 returns-3 : tie.Need-returns-3
-returns-3 c = some-forward _ _ _ (c .before .before .before .within .ensures) (c .before .before .if1 .left) (c .before .if2 .left) (c .forward .ensures)
+returns-3 c = some-forward _ _ _ (c .before .before .before .within .ensures) (c .before .before .if1 .left)
+    (c .before .if2 .left) (c .forward .ensures)
 
 pub forward-of-spec : {M : Type 1} → statement M
 forward-of-spec = tie.close (tie.spec within-requires returns returns-2 forward-requires returns-3)

@@ -1,28 +1,28 @@
--- `steps::less_first_step`: the cells passed are the differences.
+-- `steps::less_first_step`: the cells passed are those of s less the round's first-step constant, and twelve of them
+-- are the definition's difference, which is canonical.
 -- Assumes nothing.
-use mathlib.Core.Path.{_≡_, refl, sym, ap, _∙_, subst}
-use Prim.Native.Nat.{_-_, _≤_}
+use mathlib.Core.Path.{refl, ap, _∙_}
+use Prim.Native.Nat.{_-_}
 use native.Mathlib.Omega.{arith}
 use borrow.Author.Needs.{needs}
-use lib.ListN.{length, length-set}
 use Rattle.lists.specs.Lists.{cell}
-use Rattle.lists.proofs.Tab.{filled, filled-none, filled-more}
+use Rattle.lists.proofs.Tab.{Fills, fills-none, fills-more, fills-all}
 use Rattle.field.specs.Field.{sub}
-use Rattle.words.specs.Words.{CanonicalTo}
 use Rattle.table.specs.Table.{firstStepConstant}
-use Rattle.steps.proofs.Differences.{minus-canonical, minus-filled}
+use Rattle.constraints.specs.Constraints.{minus}
+use Rattle.steps.proofs.Differences.{minus-canonical}
 use Rattle.steps.proofs.less_first_step.Statement.{statement}
 use Rattle.steps.proofs.less_first_step.Tie as tie
 
 abbrev Inv-loop : tie.InvT-loop
 Inv-loop table round s out₀ j₀ out j =
-    (j ≤ 12) × (length out ≡ 12) × (out ≡ filled j (λ i. sub (cell s i) (cell (firstStepConstant table round) i)) out₀)
+    Fills 12 (λ i. sub (cell s i) (cell (firstStepConstant table round) i)) out₀ j out
 
 abbrev μ-loop : tie.MeasureT-loop
 μ-loop table round s out₀ j₀ out j = 12 - j
 
 loop-holds : tie.Need-loop-holds Inv-loop μ-loop
-loop-holds c = (omega arith, refl, filled-none _ _)
+loop-holds c = fills-none refl
 
 first-step-constant-requires : tie.Need-first-step-constant-requires Inv-loop μ-loop
 first-step-constant-requires c κs = search needs
@@ -52,14 +52,15 @@ loop-less c = search needs
 
 loop-again : tie.Need-loop-again Inv-loop μ-loop
 loop-again c =
-    let l = c .before .before .before .loop in
-    let v = c .sub .ensures .0 ∙ ap (sub _) (c .before .first-step-constant .ensures .0) in
-    (omega arith, simp length-set (l .inv .1), filled-more _ (l .j) _ _ (l .out) (omega arith) v (l .inv .2))
+    fills-more (c .before .before .before .loop .inv) (omega arith)
+    (c .sub .ensures .0 ∙ ap (sub _) (c .before .first-step-constant .ensures .0))
 
 returns : tie.Need-returns Inv-loop μ-loop
+unfolding minus
 returns c =
-    let made = minus-filled _ _ (c .before .loop .j) (omega arith) (c .before .loop .inv .2) in
-    (made, subst (CanonicalTo 12) (sym made) (minus-canonical _ _))
+    let start = c .before .before .before .args in
+    let made = fills-all (c .before .loop .inv) (omega arith) in
+    (made, minus-canonical (start .t3) (firstStepConstant (start .table .now) (start .round)) made)
 
 pub less-first-step-spec : {M : Type 1} → statement M
 less-first-step-spec =

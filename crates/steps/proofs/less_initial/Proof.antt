@@ -1,27 +1,26 @@
--- `steps::less_initial`: the cells passed are the differences.
+-- `steps::less_initial`: the cells passed are those of s less K_0, and twelve of them are the definition's difference.
 -- Assumes nothing.
-use mathlib.Core.Path.{_≡_, refl, ap, _∙_}
-use Prim.Native.Nat.{_-_, _≤_}
+use mathlib.Core.Path.{refl, ap, _∙_}
+use Prim.Native.Nat.{_-_}
 use native.Mathlib.Omega.{arith}
 use borrow.Author.Needs.{needs}
-use lib.ListN.{length, length-set}
 use Rattle.lists.specs.Lists.{cell}
-use Rattle.lists.proofs.Tab.{filled, filled-none, filled-more}
+use Rattle.lists.proofs.Tab.{Fills, fills-none, fills-more, fills-all}
 use Rattle.field.specs.Field.{sub}
 use Rattle.table.specs.Table.{initialConstant}
-use Rattle.steps.proofs.Differences.{minus-filled}
+use Rattle.constraints.specs.Constraints.{minus}
 use Rattle.steps.proofs.less_initial.Statement.{statement}
 use Rattle.steps.proofs.less_initial.Tie as tie
 
 abbrev Inv-loop : tie.InvT-loop
 Inv-loop table s out₀ j₀ out j =
-    (j ≤ 12) × (length out ≡ 12) × (out ≡ filled j (λ i. sub (cell s i) (cell (initialConstant table) i)) out₀)
+    Fills 12 (λ i. sub (cell s i) (cell (initialConstant table) i)) out₀ j out
 
 abbrev μ-loop : tie.MeasureT-loop
 μ-loop table s out₀ j₀ out j = 12 - j
 
 loop-holds : tie.Need-loop-holds Inv-loop μ-loop
-loop-holds c = (omega arith, refl, filled-none _ _)
+loop-holds c = fills-none refl
 
 initial-constant-requires : tie.Need-initial-constant-requires Inv-loop μ-loop
 initial-constant-requires c κs = search needs
@@ -51,12 +50,12 @@ loop-less c = search needs
 
 loop-again : tie.Need-loop-again Inv-loop μ-loop
 loop-again c =
-    let l = c .before .before .before .loop in
-    let v = c .sub .ensures .0 ∙ ap (sub _) (c .before .initial-constant .ensures .0) in
-    (omega arith, simp length-set (l .inv .1), filled-more _ (l .j) _ _ (l .out) (omega arith) v (l .inv .2))
+    fills-more (c .before .before .before .loop .inv) (omega arith)
+    (c .sub .ensures .0 ∙ ap (sub _) (c .before .initial-constant .ensures .0))
 
 returns : tie.Need-returns Inv-loop μ-loop
-returns c = minus-filled _ _ (c .before .loop .j) (omega arith) (c .before .loop .inv .2)
+unfolding minus
+returns c = fills-all (c .before .loop .inv) (omega arith)
 
 pub less-initial-spec : {M : Type 1} → statement M
 less-initial-spec =

@@ -1,23 +1,22 @@
--- `table::column`: the cells passed are those of the column.
+-- `table::column`: the cells passed are those of the column, read at steps of twelve words.
 -- Assumes nothing.
-use mathlib.Core.Path.{_≡_, refl, _∙_}
-use Prim.Native.Nat.{_-_, _≤_}
+use mathlib.Core.Path.{refl}
+use Prim.Native.Nat.{_-_}
 use native.Mathlib.Omega.{arith}
-use lib.ListN.{length}
-use Rattle.lists.proofs.Tab.{filled, filled-none, filled-more, filled-all}
+use Rattle.lists.proofs.Tab.{Fills, fills-none, fills-more, fills-all}
 use Rattle.matrix.specs.Matrix.{entry}
 use borrow.Author.Needs.{needs}
 use Rattle.table.proofs.column.Statement.{statement}
 use Rattle.table.proofs.column.Tie as tie
 
 abbrev Inv-loop : tie.InvT-loop
-Inv-loop n k out₀ j₀ out j = (j ≤ 12) × (length out₀ ≡ 12) × (out ≡ filled j (λ l. entry n l k) out₀)
+Inv-loop n k out₀ j₀ out j = Fills 12 (λ l. entry n l k) out₀ j out
 
 abbrev μ-loop : tie.MeasureT-loop
 μ-loop n k out₀ j₀ out j = 12 - j
 
 loop-holds : tie.Need-loop-holds Inv-loop μ-loop
-loop-holds c = (omega arith, refl, filled-none _ _)
+loop-holds c = fills-none refl
 
 mul-out : tie.Need-mul-out Inv-loop μ-loop
 mul-out c = search needs
@@ -44,15 +43,10 @@ loop-less : tie.Need-loop-less Inv-loop μ-loop
 loop-less c = search needs
 
 loop-again : tie.Need-loop-again Inv-loop μ-loop
-loop-again c =
-    let l = c .before .before .loop in
-    (omega arith, refl, filled-more _ _ _ _ _ (omega arith) refl (l .inv .2))
+loop-again c = fills-more (c .before .before .loop .inv) (omega arith) refl
 
 returns : tie.Need-returns Inv-loop μ-loop
-returns c =
-    let l = c .before .loop in
-    let e : l .j ≡ 12 = omega arith in
-    l .inv .2 ∙ rw e (filled-all 12 _ _ refl)
+returns c = fills-all (c .before .loop .inv) (omega arith)
 
 pub column-spec : {M : Type 1} → statement M
 column-spec =

@@ -4,7 +4,7 @@ use mathlib.Core.Path.{sym}
 use Prim.Native.Nat.{_+_, _*_}
 use native.Mathlib.Omega.{arith}
 use borrow.Author.Needs.{needs}
-use Rattle.table.specs.Table.{matrixWords}
+use Rattle.matrix.specs.Matrix.{matrixWords}
 use Rattle.table.proofs.Parts.{cell-constant}
 use Rattle.table.proofs.constant.Statement.{statement}
 use Rattle.table.proofs.constant.Tie as tie

@@ -1,4 +1,4 @@
--- `table::first_step_constant`: it is K_(2 round + 1).
+-- `table::first_step_constant`: K_(2 round + 1), one of the 21, is what the definition adds in a first step.
 -- Assumes nothing.
 use borrow.Author.Needs.{needs}
 use Rattle.table.specs.Table.{firstStepConstant}

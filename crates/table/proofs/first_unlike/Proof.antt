@@ -2,13 +2,15 @@
 -- Assumes nothing.
 use mathlib.Core.Path.{_≡_, sym, ap, ap₂, _∙_, subst}
 use mathlib.Core.Bool.{false}
+use mathlib.Core.List.{List}
 use Prim.Native.Nat.{ℕ, _-_, _≤_, _<_}
 use native.Mathlib.Omega.{arith}
 use borrow.Author.Count.{below-more}
 use lib.ListN.{length}
 use Rattle.lists.specs.Lists.{tab}
 use Rattle.words.specs.Words.{AllCanonical}
-use Rattle.table.specs.Table.{matrixWords, matrixOf, inverseOf, unlike}
+use Rattle.matrix.specs.Matrix.{matrixWords}
+use Rattle.table.specs.Table.{matrixOf, inverseOf, unlike}
 use Rattle.table.proofs.Parts.{length-matrix, matrix-canonical, length-inverse, inverse-canonical}
 use Rattle.table.proofs.Tested.{byColumns, at-cell, unlike-yes, unlike-no, stops, passes}
 use borrow.Author.Needs.{needs}
@@ -41,9 +43,12 @@ product-columns-requires c κs =
       subst AllCanonical (sym n) (inverse-canonical t (s .pre .0) (s .pre .1)),
     )
 
+-- the table, from where its product is made
+abbrev table-of : tie.After-product-columns Inv-loop μ-loop → List ℕ
+table-of made = made .before .before .before .before .args .table .now
+
 -- the product's cells are those of M times the stored inverse
-multiplied : (c : tie.After-product-columns Inv-loop μ-loop)
-    → let t = c .before .before .before .before .args .table .now in
+multiplied : (c : tie.After-product-columns Inv-loop μ-loop) → let t = table-of c in
     c .product-columns .result ≡ tab matrixWords (byColumns (matrixOf t) (inverseOf t))
 multiplied c =
     c .product-columns .ensures
@@ -71,10 +76,11 @@ identity-requires c κs =
 
 returns : tie.Need-returns Inv-loop μ-loop
 returns c =
-    let p = c .before .before .before .before in
-    let t = p .before .before .before .before .args .table .now in
-    let l = c .before .before .before .loop in
-    let value = at-cell (matrixOf t) (inverseOf t) _ (l .c) (omega arith) (multiplied p) in
+    let head = c .before .before .before in
+    let made = head .before in
+    let t = table-of made in
+    let l = head .loop in
+    let value = at-cell (matrixOf t) (inverseOf t) _ (l .c) (omega arith) (multiplied made) in
     stops t (l .c) (omega arith) (l .inv .1)
     (unlike-yes t (l .c) _ _ value (c .before .identity .ensures) (c .if1 .taken))
 
@@ -86,19 +92,17 @@ loop-less c = search needs
 
 loop-again : tie.Need-loop-again Inv-loop μ-loop
 loop-again c =
-    let p = c .before .before .before .before in
-    let t = p .before .before .before .before .args .table .now in
-    let l = c .before .before .before .loop in
-    let value = at-cell (matrixOf t) (inverseOf t) _ (l .c) (omega arith) (multiplied p) in (
+    let head = c .before .before .before in
+    let made = head .before in
+    let t = table-of made in
+    let l = head .loop in
+    let value = at-cell (matrixOf t) (inverseOf t) _ (l .c) (omega arith) (multiplied made) in (
       omega arith,
       below-more _ _ (l .inv .1) (unlike-no t (l .c) _ _ value (c .before .identity .ensures) (c .if1 .left)),
     )
 
 returns-2 : tie.Need-returns-2 Inv-loop μ-loop
-returns-2 c =
-    let l = c .before .loop in
-    let e : l .c ≡ 144 = omega arith in
-    e ∙ sym (passes _ (λ d h. l .inv .1 d (omega arith)))
+returns-2 c = sym (passes _ (λ d h. c .before .loop .inv .1 d (omega arith)))
 
 pub first-unlike-spec : {M : Type 1} → statement M
 first-unlike-spec =

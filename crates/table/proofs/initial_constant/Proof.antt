@@ -1,4 +1,4 @@
--- `table::initial_constant`: it is K_0.
+-- `table::initial_constant`: cell by cell, `constant` at 0 is what the definition adds before round 0.
 -- Assumes nothing.
 use borrow.Author.Needs.{needs}
 use Rattle.table.specs.Table.{initialConstant}

@@ -14,24 +14,32 @@ use borrow.Author.Needs.{needs}
 use Rattle.table.proofs.prepare.Statement.{statement}
 use Rattle.table.proofs.prepare.Tie as tie
 
+-- the function's entry, from where both lengths have passed
+abbrev entry : tie.Else2 → tie.Start
+entry lengths = lengths .before .before .before .before
+
+-- the lengths, from where the words have passed, and that place from after the inversion
+abbrev lengths : tie.Else3 → tie.Else2
+lengths words = words .before .before
+
+abbrev words : tie.After-invert → tie.Else3
+words c = c .before .before .before
+
 -- the tests have accepted
-tested : (c : tie.Else3) →
-    let s = c .before .before .before .before .before .before .args in
+tested : (c : tie.Else3) → let s = entry (lengths c) .args in
     rawTest (s .raw .now) (length (s .destination .now)) ≡ Accepted
 tested c =
-    let e = c .before .before in
-    raw-accepted _ _ (e .before .if1 .left) (e .if2 .left) (sym (c .before .first-bad .ensures) ∙ c .if3 .left)
+    let l = lengths c in
+    raw-accepted _ _ (l .before .if1 .left) (l .if2 .left) (sym (c .before .first-bad .ensures) ∙ c .if3 .left)
 
 -- and the inverse is found
-found : (c : tie.Else4) →
-    let t = c .before .before .before .before in
-    let s = t .before .before .before .before .before .before .args in
+found : (c : tie.Else4) → let s = entry (lengths (words (c .before))) .args in
     RawInverse (s .raw .now) (c .before .invert .last .1 .0)
 found c =
-    let t = c .before .before .before .before in
-    let s = t .before .before .before .before .before .before .args in
-    inverted (s .raw .now) (s .destination .now) (tested t) _ _ _ (c .before .invert .ensures)
-    (not-false (c .before .invert .result) (c .if4 .left))
+    let i = c .before .invert in
+    let w = words (c .before) in
+    let s = entry (lengths w) .args in
+    inverted (s .raw .now) (s .destination .now) (tested w) _ _ _ (i .ensures) (not-false (i .result) (c .if4 .left))
 
 returns : tie.Need-returns
 returns c =
@@ -48,10 +56,10 @@ first-bad-requires c κs = search needs
 
 returns-3 : tie.Need-returns-3
 returns-3 c =
-    let s = c .before .before .before .before .before .before .args in
-    let e = c .before .before in
+    let l = c .before .before in
+    let s = entry l .args in
     refuses _
-    (wrong-word (s .raw .now) (length (s .destination .now)) (e .before .if1 .left) (e .if2 .left) _
+    (wrong-word (s .raw .now) (length (s .destination .now)) (l .before .if1 .left) (l .if2 .left) _
     (c .before .first-bad .ensures) (c .if3 .taken))
 
 slice-aggregate-invert : tie.Need-slice-aggregate-invert
@@ -61,37 +69,38 @@ slice-aggregate-invert c =
 
 invert-requires : tie.Need-invert-requires
 invert-requires c κs =
-    let e = c .before .before in
-    let raw = e .before .before .before .before .before .before .args .raw .now in
-    let size : length raw ≡ rawWords = e .before .before .before .if1 .left in (
+    let w = c .before .before in
+    let raw = entry (lengths w) .args .raw .now in
+    let size : length raw ≡ rawWords = lengths w .before .if1 .left in (
       length-part raw 0 144 (omega arith),
       part-canonical raw 0 144 (omega arith)
-          (good-all raw (sym (e .before .first-bad .ensures) ∙ e .if3 .left ∙ sym size)),
+          (good-all raw (sym (w .before .first-bad .ensures) ∙ w .if3 .left ∙ sym size)),
       refl,
     )
 
 returns-4 : tie.Need-returns-4
 returns-4 c =
-    let e = c .before .before .before .before in
-    let s = e .before .before .before .before .before .before .args in
-    without (s .raw .now) (s .destination .now) (tested e) _ _ _ (c .before .invert .ensures)
-    (not-true (c .before .invert .result) (c .if4 .taken))
+    let i = c .before .invert in
+    let w = words (c .before) in
+    let s = entry (lengths w) .args in
+    without (s .raw .now) (s .destination .now) (tested w) _ _ _ (i .ensures) (not-true (i .result) (c .if4 .taken))
 
 write-requires : tie.Need-write-requires
 write-requires c κs =
     let e = c .before .before in
-    let t = e .before .before .before .before in
-    (t .before .before .before .if1 .left, found e .size, t .before .before .if2 .left)
+    let l = lengths (words (e .before)) in
+    (l .before .if1 .left, found e .size, l .if2 .left)
 
 same-length : tie.Need-same-length
 same-length c = search needs
 
 returns-5 : tie.Need-returns-5
 returns-5 c =
-    let e = c .before .before .before .before .before in
-    let t = e .before .before .before .before in
-    let s = t .before .before .before .before .before .before .args in
-    written (s .raw .now) (s .destination .now) (tested t) _ _ (found e) (c .before .before .write .ensures)
+    let filled = c .before .before in
+    let e = filled .before .before .before in
+    let w = words (e .before) in
+    let s = entry (lengths w) .args in
+    written (s .raw .now) (s .destination .now) (tested w) _ _ (found e) (filled .write .ensures)
 
 pub prepare-spec : {M : Type 1} → statement M
 prepare-spec =

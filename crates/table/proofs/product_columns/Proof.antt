@@ -1,23 +1,23 @@
 -- `table::product_columns`: the cells passed, column after column, are those of the product.
 -- Assumes nothing.
 use Prim.Native.Nat.{ℕ, _+_, _*_, _-_, _≤_}
-use mathlib.Core.Path.{_≡_, refl, ap, _∙_}
+use mathlib.Core.Path.{refl, subst}
 use mathlib.Core.List.{List}
 use native.Mathlib.Omega.{arith}
 use lib.ListN.{replicate}
-use Rattle.lists.proofs.Tab.{filled, filled-none, filled-more, filled-all}
+use Rattle.lists.proofs.Tab.{Fills, fills-none, fills-more, fills-all}
 use Rattle.table.proofs.Tested.{column-canonical, byColumns, next-cell}
 use borrow.Author.Needs.{needs}
 use Rattle.table.proofs.product_columns.Statement.{statement}
 use Rattle.table.proofs.product_columns.Tie as tie
 
--- the first t cells of the product, and zeros
-abbrev so-far : List ℕ → List ℕ → ℕ → List ℕ
-so-far m n t = filled t (byColumns m n) (replicate 144 0)
+-- the list holds the first t cells of the product, and zeros
+abbrev SoFar : List ℕ → List ℕ → List ℕ → ℕ → Type 0
+SoFar m n out t = Fills 144 (byColumns m n) (replicate 144 0) t out
 
 abbrev Inv-loop2 : tie.InvT-loop2
 Inv-loop2 m n out₀ k x i₀ out i =
-    (i ≤ 12) × (out ≡ so-far m n (12 * k + i))
+    (i ≤ 12) × SoFar m n out (12 * k + i)
 
 abbrev μ-loop2 : tie.MeasureT-loop2
 μ-loop2 m n out₀ k x i₀ out i =
@@ -25,35 +25,40 @@ abbrev μ-loop2 : tie.MeasureT-loop2
 
 abbrev Inv-loop : tie.InvT-loop
 Inv-loop m n out₀ k₀ out k =
-    (k ≤ 12) × (out ≡ so-far m n (12 * k))
+    (k ≤ 12) × SoFar m n out (12 * k)
 
 abbrev μ-loop : tie.MeasureT-loop
 μ-loop m n out₀ k₀ out k =
     12 - k
 
+-- the function's entry, from the outer loop's head, and that head from the inner one's
+abbrev entry : tie.At-loop Inv-loop2 μ-loop2 Inv-loop μ-loop → tie.Start Inv-loop2 μ-loop2 Inv-loop μ-loop
+entry head = head .before .before .before
+
+abbrev outer : tie.At-loop2 Inv-loop2 μ-loop2 Inv-loop μ-loop → tie.At-loop Inv-loop2 μ-loop2 Inv-loop μ-loop
+outer inner = inner .before .before .before .before
+
 loop-holds : tie.Need-loop-holds Inv-loop2 μ-loop2 Inv-loop μ-loop
-loop-holds c =
-    (omega arith, filled-none _ _)
+loop-holds c = (omega arith, fills-none refl)
 
 column-requires : tie.Need-column-requires Inv-loop2 μ-loop2 Inv-loop μ-loop
-column-requires c κs =
-    (c .before .before .before .before .pre .2, omega arith)
+column-requires c κs = (entry (c .before) .pre .2, omega arith)
 
 times-requires : tie.Need-times-requires Inv-loop2 μ-loop2 Inv-loop μ-loop
 times-requires c κs =
-    let s = c .before .before .before .before .before in (
-      s .pre .0,
-      s .pre .1,
-      column-canonical (s .args .n .now) _ (c .before .before .loop .k) (s .pre .2) (s .pre .3) (omega arith)
+    let head = c .before .before in
+    let start = entry head in (
+      start .pre .0,
+      start .pre .1,
+      column-canonical (start .args .n .now) _ (head .loop .k) (start .pre .2) (start .pre .3) (omega arith)
           (c .column .ensures),
     )
 
 loop2-holds : tie.Need-loop2-holds Inv-loop2 μ-loop2 Inv-loop μ-loop
 loop2-holds c =
-    let l = c .before .before .before .loop in
-    let s = c .before .before .before .before .before .before .args in
-    let e : 12 * l .k ≡ 12 * l .k + 0 = omega arith in
-    (omega arith, l .inv .1 ∙ ap (so-far (s .m .now) (s .n .now)) e)
+    let head = c .before .before .before in
+    let start = entry head .args in
+    (omega arith, subst (SoFar (start .m .now) (start .n .now) _) (omega arith) (head .loop .inv .1))
 
 mul-out : tie.Need-mul-out Inv-loop2 μ-loop2 Inv-loop μ-loop
 mul-out c = search needs
@@ -81,14 +86,15 @@ loop2-less c = search needs
 
 loop2-again : tie.Need-loop2-again Inv-loop2 μ-loop2 Inv-loop μ-loop
 loop2-again c =
-    let s = c .before .before .before .before .before .before .before .before .args in
-    let k = c .before .before .before .before .before .loop .k in
-    let l = c .before .loop2 in
+    let inner = c .before in
+    let start = entry (outer inner) .args in
     let next =
-    next-cell (s .m .now) (s .n .now) _ _ k (l .i) (omega arith) (c .before .before .before .column .ensures)
-    (c .before .before .times .ensures .0) in
-    let e : 12 * k + l .i + 1 ≡ 12 * k + (l .i + 1) = omega arith in
-    (omega arith, filled-more _ _ _ _ _ (omega arith) next (l .inv .1) ∙ ap (so-far (s .m .now) (s .n .now)) e)
+    next-cell (start .m .now) (start .n .now) _ _ (outer inner .loop .k) (inner .loop2 .i) (omega arith)
+    (inner .before .before .column .ensures) (inner .before .times .ensures .0) in (
+      omega arith,
+      subst (SoFar (start .m .now) (start .n .now) _) (omega arith)
+          (fills-more (inner .loop2 .inv .1) (omega arith) next),
+    )
 
 add-k : tie.Need-add-k Inv-loop2 μ-loop2 Inv-loop μ-loop
 add-k c = search needs
@@ -98,17 +104,12 @@ loop-less c = search needs
 
 loop-again : tie.Need-loop-again Inv-loop2 μ-loop2 Inv-loop μ-loop
 loop-again c =
-    let k = c .before .before .before .before .before .loop .k in
-    let l = c .before .loop2 in
-    let s = c .before .before .before .before .before .before .before .before .args in
-    let e : 12 * k + l .i ≡ 12 * (k + 1) = omega arith in
-    (omega arith, l .inv .1 ∙ ap (so-far (s .m .now) (s .n .now)) e)
+    let inner = c .before in
+    let start = entry (outer inner) .args in
+    (omega arith, subst (SoFar (start .m .now) (start .n .now) _) (omega arith) (inner .loop2 .inv .1))
 
 returns : tie.Need-returns Inv-loop2 μ-loop2 Inv-loop μ-loop
-returns c =
-    let l = c .before .loop in
-    let e : 12 * l .k ≡ 144 = omega arith in
-    l .inv .1 ∙ rw e (filled-all 144 _ (replicate 144 0) refl)
+returns c = fills-all (c .before .loop .inv .1) (omega arith)
 
 pub product-columns-spec : {M : Type 1} → statement M
 product-columns-spec =

@@ -1,4 +1,4 @@
--- `table::second_step_constant`: it is K_(2 round + 2).
+-- `table::second_step_constant`: K_(2 round + 2), one of the 21, is what the definition adds in a second step.
 -- Assumes nothing.
 use borrow.Author.Needs.{needs}
 use Rattle.table.specs.Table.{secondStepConstant}

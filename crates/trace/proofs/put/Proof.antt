@@ -1,23 +1,22 @@
--- `trace::put`: the words passed are filled with the cells.
+-- `trace::put`: the words passed are filled with the cells, and twelve of them are the whole part.
 -- Assumes nothing.
-use mathlib.Core.Path.{_≡_, refl, _∙_}
-use Prim.Native.Nat.{_-_, _≤_}
+use mathlib.Core.Path.{refl, _∙_}
+use Prim.Native.Nat.{_-_}
 use native.Mathlib.Omega.{arith}
 use borrow.Author.Needs.{needs}
-use lib.ListN.{length, length-set}
 use Rattle.lists.specs.Lists.{cell}
-use Rattle.lists.proofs.Tab.{filled, filled-none, filled-more, filled-all, tab-cell}
+use Rattle.lists.proofs.Tab.{Fills, fills-none, fills-more, fills-all, tab-cell}
 use Rattle.trace.proofs.put.Statement.{statement}
 use Rattle.trace.proofs.put.Tie as tie
 
 abbrev Inv-loop : tie.InvT-loop
-Inv-loop part₀ cells j₀ part j = (j ≤ 12) × (length part ≡ 12) × (part ≡ filled j (cell cells) part₀)
+Inv-loop part₀ cells j₀ part j = Fills 12 (cell cells) part₀ j part
 
 abbrev μ-loop : tie.MeasureT-loop
 μ-loop part₀ cells j₀ part j = 12 - j
 
 loop-holds : tie.Need-loop-holds Inv-loop μ-loop
-loop-holds c = (omega arith, c .pre, filled-none _ _)
+loop-holds c = fills-none (c .pre)
 
 mul-part : tie.Need-mul-part Inv-loop μ-loop
 mul-part c = search needs
@@ -38,19 +37,14 @@ loop-less : tie.Need-loop-less Inv-loop μ-loop
 loop-less c = search needs
 
 loop-again : tie.Need-loop-again Inv-loop μ-loop
-loop-again c =
-    let l = c .before .loop in
-    (omega arith, simp length-set (l .inv .1), filled-more _ (l .j) _ _ (l .part) (omega arith) refl (l .inv .2))
+loop-again c = fills-more (c .before .loop .inv) (omega arith) refl
 
 same-length : tie.Need-same-length Inv-loop μ-loop
 same-length c = omega arith
 
 returns : tie.Need-returns Inv-loop μ-loop
 returns c =
-    let a = c .before .before in
-    let l = c .before .loop in
-    let e : l .j ≡ 12 = omega arith in
-    l .inv .2 ∙ rw e (filled-all 12 _ _ (a .pre)) ∙ tab-cell 12 (a .args .t2) (search needs)
+    fills-all (c .before .loop .inv) (omega arith) ∙ tab-cell 12 (c .before .before .args .t2) (search needs)
 
 pub put-spec : {M : Type 1} → statement M
 put-spec =

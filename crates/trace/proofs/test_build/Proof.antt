@@ -1,6 +1,7 @@
 -- `trace::test_build`: each return is the case of the definition that the tests before it left.
 -- Assumes nothing.
 use mathlib.Core.Path.{_≡_, refl, sym, ap, _∙_}
+use mathlib.Core.Bool.{true}
 use Prim.Native.Nat.{ℕ, _*_, _≤_}
 use native.Mathlib.Omega.{arith}
 use borrow.Author.Tests.{eq-eqb, ne-eqb}
@@ -8,9 +9,9 @@ use lib.Dec.{eqb}
 use lib.ListN.{length}
 use Rattle.words.specs.Words.{firstBad, canonicalWords}
 use Rattle.words.proofs.Laws.{scanned-good, scanned-bad}
-use Rattle.numbers.specs.Numbers.{mostBatches, tapWordBatches}
+use Rattle.numbers.specs.Numbers.{mostBatches, isTapLength, tapWordBatches}
 use Rattle.numbers.proofs.Laws.{tap-length-sound, tap-permitted, tap-refused}
-use Rattle.refusals.specs.declared.Refusal.the-variants.{TapWord, DestinationLength}
+use Rattle.refusals.specs.declared.Refusal.the-variants.{TapLength, TapWord, DestinationLength}
 use Rattle.refusals.specs.declared.Answer.{Answer}
 use Rattle.refusals.specs.declared.Answer.the-variants.{Accepted, Refused}
 use Rattle.refusals.specs.Answers.{unless}
@@ -20,40 +21,47 @@ use borrow.Author.Needs.{needs}
 use Rattle.trace.proofs.test_build.Statement.{statement}
 use Rattle.trace.proofs.test_build.Tie as tie
 
--- the function's entry, and k, where the table is accepted and the taps' length permitted
-abbrev entry : tie.After-known-told → tie.Start
-entry p = p .before .before .before .before .before .before .before .before .before
+-- the function's entry, from where the batches of the taps are counted
+abbrev entry : tie.After-tap-batches → tie.Start
+entry counted = counted .before .before .before .before .before .before
 
-abbrev words : tie.After-known-told → ℕ
-words p = length (entry p .args .taps .now)
+abbrev words : tie.After-tap-batches → ℕ
+words counted = length (entry counted .args .taps .now)
+
+-- there the table is accepted, and what is answered is left to the taps' length, the destination's and the words
+accepted : (c : tie.After-tap-batches) {o : Answer} → let taps = entry c .args .taps .now in
+    o ≡ unless (isTapLength mostBatches (words c)) TapLength
+    (unless (eqb (entry c .args .size) (384 * tapWordBatches (words c))) DestinationLength
+    (unless (canonicalWords taps) (TapWord (firstBad taps)) Accepted))
+    → o ≡ buildTest (entry c .args .table .now) taps (entry c .args .size)
+unfolding buildTest
+accepted c e =
+    let told = c .before in
+    after-accepted (told .before .before .test .ensures) (told .enum-told .given .1) e
+
+-- where k is known, the taps' length is permitted
+abbrev counted : tie.After-known-told → tie.After-tap-batches
+counted p = p .before .before .before
 
 permitted : (p : tie.After-known-told)
-    → (tapWordBatches (words p) ≡ p .before .k .given .0 .0) × (p .before .k .given .0 .0 ≤ 1024)
+    → let n = words (counted p) in let k = p .before .k .given .0 .0 in
+    (isTapLength mostBatches n ≡ true) × (tapWordBatches n ≡ k) × (k ≤ 1024)
 permitted p =
-    let t =
-    tap-permitted mostBatches (words p) (p .before .before .before .tap-batches .ensures) (p .before .k .given .1) in
-    let s = tap-length-sound mostBatches (words p) (t .0) in
-    (t .1, omega (arith, s .1 .high, t .1))
+    let n = words (counted p) in
+    let t = tap-permitted mostBatches n (counted p .tap-batches .ensures) (p .before .k .given .1) in
+    let s = tap-length-sound mostBatches n (t .0) in
+    (t .0, t .1, omega (arith, s .1 .high, t .1))
 
--- what is answered there is left to the destination's length and the words
-counted : (p : tie.After-known-told) {o : Answer} → let taps = entry p .args .taps .now in
-    o ≡ unless (eqb (entry p .args .size) (384 * tapWordBatches (words p))) DestinationLength
-    (unless (canonicalWords taps) (TapWord (firstBad taps)) Accepted)
-    → o ≡ buildTest (entry p .args .table .now) taps (entry p .args .size)
-unfolding buildTest
-counted p e =
-    let b = p .before .before .before in
-    let told = b .before in
-    after-accepted (told .before .before .test .ensures) (told .enum-told .given .1)
-    (unless-passed _ (tap-permitted mostBatches (words p) (b .tap-batches .ensures) (p .before .k .given .1) .0) e)
-
--- and here to the words
-roomy : (f : tie.After-first-bad) {o : Answer} → let p = f .before .before in let taps = entry p .args .taps .now in
+-- and here the destination has room, so that the words are left
+roomy : (f : tie.After-first-bad) {o : Answer} → let c = counted (f .before .before) in
+    let taps = entry c .args .taps .now in
     o ≡ unless (canonicalWords taps) (TapWord (firstBad taps)) Accepted
-    → o ≡ buildTest (entry p .args .table .now) taps (entry p .args .size)
+    → o ≡ buildTest (entry c .args .table .now) taps (entry c .args .size)
 roomy f e =
     let p = f .before .before in
-    counted p (unless-passed _ (eq-eqb _ _ (f .before .if1 .left ∙ ap (λ n. 384 * n) (sym (permitted p .0)))) e)
+    accepted (counted p)
+    (unless-passed _ (permitted p .0)
+    (unless-passed _ (eq-eqb _ _ (f .before .if1 .left ∙ ap (λ n. 384 * n) (sym (permitted p .1)))) e))
 
 test-requires : tie.Need-test-requires
 test-requires c κs = search needs
@@ -78,21 +86,20 @@ enum-told-3 : tie.Need-enum-told-3
 enum-told-3 c = search needs
 
 returns-2 : tie.Need-returns-2
-unfolding buildTest
 returns-2 c =
-    let b = c .before .before in
-    let told = b .before in
-    let n = length (told .before .before .before .before .before .args .taps .now) in
-    after-accepted (told .before .before .test .ensures) (told .enum-told .given .1)
-    (unless-refused _ (tap-refused mostBatches n (b .tap-batches .ensures) (c .enum-told3 .given .1)) refl)
+    let taps = c .before .before in
+    let refused = tap-refused mostBatches (words taps) (taps .tap-batches .ensures) (c .enum-told3 .given .1) in
+    accepted taps (unless-refused _ refused refl)
 
 mul-if1 : tie.Need-mul-if1
-mul-if1 c = omega (arith, permitted c .1)
+mul-if1 c = omega (arith, permitted c .2)
 
 returns-3 : tie.Need-returns-3
 returns-3 c =
     let p = c .before in
-    counted p (unless-refused _ (ne-eqb _ _ (λ e. c .if1 .taken (e ∙ ap (λ n. 384 * n) (permitted p .0)))) refl)
+    accepted (counted p)
+    (unless-passed _ (permitted p .0)
+    (unless-refused _ (ne-eqb _ _ (λ e. c .if1 .taken (e ∙ ap (λ n. 384 * n) (permitted p .1)))) refl))
 
 first-bad-requires : tie.Need-first-bad-requires
 first-bad-requires c κs = search needs

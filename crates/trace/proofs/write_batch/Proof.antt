@@ -7,7 +7,7 @@ use borrow.Author.Needs.{needs}
 use lib.ListN.{take}
 use Rattle.hash.specs.Hash.{input, tap, outputAt}
 use Rattle.trace.specs.Trace.{hashInput}
-use Rattle.trace.specs.Rows.{Writable}
+use Rattle.trace.specs.RowHelpers.{Writable}
 use Rattle.trace.proofs.WrittenBatches.{still-writable, is-input, is-output, batch-rows}
 use Rattle.trace.proofs.write_batch.Statement.{statement}
 use Rattle.trace.proofs.write_batch.Tie as tie

@@ -8,7 +8,7 @@ use lib.ListN.{length, take}
 use Rattle.hash.specs.Hash.{outputAt, chain}
 use Rattle.hash.proofs.CodeChain.{starts}
 use Rattle.trace.specs.Trace.{traceRow}
-use Rattle.trace.specs.Rows.{withRows}
+use Rattle.trace.specs.RowHelpers.{withRows}
 use Rattle.trace.proofs.WrittenRows.{rows-none}
 use Rattle.trace.proofs.WrittenBatches.{is-output, more-rows, all-rows}
 use Rattle.trace.proofs.write_batches.Statement.{statement}
@@ -22,23 +22,29 @@ Inv-loop table taps k destination₀ state₀ b₀ destination state b =
 abbrev μ-loop : tie.MeasureT-loop
 μ-loop table taps k destination₀ state₀ b₀ destination state b = k - b
 
+-- the function's entry, from the loop's head
+abbrev entry : tie.At-loop Inv-loop μ-loop → tie.Start Inv-loop μ-loop
+entry head = head .before .before .before .before .before
+
 chain-start-requires : tie.Need-chain-start-requires Inv-loop μ-loop
 chain-start-requires c κs = omega arith
 
 loop-holds : tie.Need-loop-holds Inv-loop μ-loop
 loop-holds c =
-    let a = c .before .before .before .before .args in (
+    let start = c .before .before .before .before .args in (
       omega arith,
       refl,
-      starts (a .table .now) (a .taps .now) _ (omega arith) (c .chain-start .ensures),
-      sym (rows-none _ 0 (a .destination .now)),
+      starts (start .table .now) (start .taps .now) _ (omega arith) (c .chain-start .ensures),
+      sym (rows-none _ 0 (start .destination .now)),
     )
 
 write-batch-requires : tie.Need-write-batch-requires Inv-loop μ-loop
 write-batch-requires c κs =
-    let p = c .before .before .before .before .before .before .before .pre in
-    let l = c .before .before .loop in
-    (record { table = p .0; canonical = p .1; small = omega arith; taps = omega arith; room = omega arith }, l .inv .2)
+    let head = c .before .before in
+    let p = entry head .pre in (
+      record { table = p .0; canonical = p .1; small = omega arith; taps = omega arith; room = omega arith },
+      head .loop .inv .2,
+    )
 
 add-b : tie.Need-add-b Inv-loop μ-loop
 add-b c = search needs
@@ -48,15 +54,16 @@ loop-less c = omega arith
 
 loop-again : tie.Need-loop-again Inv-loop μ-loop
 loop-again c =
-    let w = c .before .before in
-    let l = w .before .before .before .loop in
-    let a = w .before .before .before .before .before .before .before .before .args in (
+    let written = c .before .before in
+    let head = written .before .before .before in
+    let start = entry head .args in
+    let loop = head .loop in (
       omega arith,
-      w .write-batch .kept .1 .1 .1 .1 .0 ∙ l .inv .1,
-      is-output (a .table .now) (a .taps .now) (3 * l .b + 2) (3 * (l .b + 1)) _ (omega arith)
-          (w .write-batch .ensures .0),
-      more-rows (a .table .now) (a .taps .now) (l .b) (a .destination .now) (l .destination) _ (omega arith)
-          (l .inv .3) (w .write-batch .ensures .1),
+      written .write-batch .kept .1 .1 .1 .1 .0 ∙ loop .inv .1,
+      is-output (start .table .now) (start .taps .now) (3 * loop .b + 2) (3 * (loop .b + 1)) _ (omega arith)
+          (written .write-batch .ensures .0),
+      more-rows (start .table .now) (start .taps .now) (loop .b) (start .destination .now) (loop .destination) _
+          (omega arith) (loop .inv .3) (written .write-batch .ensures .1),
     )
 
 same-length : tie.Need-same-length Inv-loop μ-loop
@@ -65,14 +72,14 @@ same-length c = c .before .loop .inv .1
 returns : tie.Need-returns Inv-loop μ-loop
 unfolding chain
 returns c =
-    let b = c .before .before .before .before .before .before in
-    let a = b .args in
-    let l = c .before .loop in
-    let e : l .b ≡ a .k = omega arith in (
-      l .inv .2 ∙ ap (λ n. outputAt (a .table .now) (a .taps .now) (3 * n)) e,
-      l .inv .3
+    let start = entry (c .before) in
+    let a = start .args in
+    let loop = c .before .loop in
+    let e : loop .b ≡ a .k = omega arith in (
+      loop .inv .2 ∙ ap (λ n. outputAt (a .table .now) (a .taps .now) (3 * n)) e,
+      loop .inv .3
           ∙ ap (λ n. withRows (traceRow (a .table .now) (a .taps .now)) 0 (32 * n) (a .destination .now)) e
-          ∙ all-rows (a .table .now) (a .taps .now) (a .k) (a .destination .now) (b .pre .4),
+          ∙ all-rows (a .table .now) (a .taps .now) (a .k) (a .destination .now) (start .pre .4),
     )
 
 pub write-batches-spec : {M : Type 1} → statement M

@@ -37,14 +37,15 @@ hash-requires c κs = search needs
 input-of-requires : tie.Need-input-of-requires
 input-of-requires c κs = search needs
 
-mul-row : tie.Need-mul-row
-mul-row c = search needs
+first-row-requires : tie.Need-first-row-requires
+first-row-requires c κs = search needs
 
-add-row : tie.Need-add-row
-add-row c = search needs
-
-row-requires : tie.Need-row-requires
-row-requires c κs = search needs
+-- the hash's first row, by the batch
+starts : (c : tie.After-first-row) → let a = entry (c .before .before) .args in
+    c .first-row .result .0 ≡ 32 * a .batch .0 + (10 * a .within + 1)
+starts c =
+    let i = c .before .before in
+    omega (arith, c .first-row .ensures, i .before .hash .ensures, entry i .pre .1)
 
 write-rounds-requires : tie.Need-write-rounds-requires
 write-rounds-requires c κs =
@@ -63,11 +64,12 @@ same-length c = search needs
 returns : tie.Need-returns
 returns c =
     let w = c .before .before in
-    let i = w .before .before .before in
+    let r = w .before in
+    let i = r .before .before in
     let a = entry i .args in (
       w .write-rounds .ensures .0 ∙ ap (finalState (a .table .now)) (is-made i),
-      hash-rows (a .table .now) (a .taps .now) (a .batch .0) (a .within) (w .before .row .result .0)
-          (i .input-of .result) (a .destination .now) _ (entry i .pre .1) (w .before .row .ensures) (is-made i)
+      hash-rows (a .table .now) (a .taps .now) (a .batch .0) (a .within) (r .first-row .result .0)
+          (i .input-of .result) (a .destination .now) _ (entry i .pre .1) (starts r) (is-made i)
           (w .write-rounds .ensures .1),
     )
 
@@ -77,9 +79,7 @@ write-hash-spec =
     (tie.spec
     hash-requires
     input-of-requires
-    mul-row
-    add-row
-    row-requires
+    first-row-requires
     write-rounds-requires
     same-length
     returns)

@@ -12,7 +12,7 @@ use Rattle.words.specs.Words.{CanonicalTo}
 use Rattle.hash.specs.Hash.{firstStep, secondStep, stateAt, middleState, finalState}
 use Rattle.hash.proofs.States.{firstStep-state, secondStep-state, stateAt-state, stateAt-suc}
 use Rattle.hash.proofs.CodeStates.{canonical-state}
-use Rattle.trace.specs.Rows.{withRows}
+use Rattle.trace.specs.RowHelpers.{withRows}
 use Rattle.trace.proofs.WrittenRows.{rows-none, rows-join, rows-ext}
 use Rattle.trace.proofs.write_rounds.Statement.{statement}
 use Rattle.trace.proofs.write_rounds.Tie as tie
@@ -68,8 +68,15 @@ Inv-loop table destination₀ first state₀ round₀ destination state round =
 abbrev μ-loop : tie.MeasureT-loop
 μ-loop table destination₀ first state₀ round₀ destination state round = 10 - round
 
-opening-requires : tie.Need-opening-requires Inv-loop μ-loop
-opening-requires c κs = (c .before .before .pre .0, c .before .before .pre .1)
+-- the function's entry and the loop's head, from the middle state of a turn
+abbrev entry : tie.At-loop Inv-loop μ-loop → tie.Start Inv-loop μ-loop
+entry head = head .before .before .before .before
+
+abbrev head-of : tie.After-first-step Inv-loop μ-loop → tie.At-loop Inv-loop μ-loop
+head-of middle = middle .before .before
+
+plus-initial-requires : tie.Need-plus-initial-requires Inv-loop μ-loop
+plus-initial-requires c κs = (c .before .before .pre .0, c .before .before .pre .1)
 
 loop-holds : tie.Need-loop-holds Inv-loop μ-loop
 loop-holds c =
@@ -78,7 +85,7 @@ loop-holds c =
     let d = a .destination .now in
     let z : r + 0 ≡ r = omega arith in (
       omega arith,
-      canonical-state (c .opening .ensures) (stateAt-state _ _ 0),
+      canonical-state (c .plus-initial .ensures) (stateAt-state _ _ 0),
       refl,
       λ s e. record {
         at = e;
@@ -88,7 +95,9 @@ loop-holds c =
     )
 
 first-step-requires : tie.Need-first-step-requires Inv-loop μ-loop
-first-step-requires c κs = (c .before .before .before .before .before .pre .0, omega arith, c .before .loop .inv .1)
+first-step-requires c κs =
+    let head = c .before in
+    (entry head .pre .0, omega arith, head .loop .inv .1)
 
 add-t14 : tie.Need-add-t14 Inv-loop μ-loop
 add-t14 c = omega arith
@@ -98,11 +107,8 @@ write-row-requires c κs = omega arith
 
 second-step-requires : tie.Need-second-step-requires Inv-loop μ-loop
 second-step-requires c κs =
-    let f = c .before .before .before .before in (
-      f .before .before .before .before .before .before .pre .0,
-      omega arith,
-      canonical-state (f .first-step .ensures) (firstStep-state _ _ _),
-    )
+    let middle = c .before .before .before .before in
+    (entry (head-of middle) .pre .0, omega arith, canonical-state (middle .first-step .ensures) (firstStep-state _ _ _))
 
 add-round : tie.Need-add-round Inv-loop μ-loop
 add-round c = search needs
@@ -112,16 +118,16 @@ loop-less c = omega arith
 
 loop-again : tie.Need-loop-again Inv-loop μ-loop
 loop-again c =
-    let f = c .before .before .before .before .before in
-    let w = c .before .before .before in
-    let a = f .before .before .before .before .before .before in
-    let l = f .before .before .loop in (
+    let written = c .before .before .before in
+    let middle = written .before .before in
+    let start = entry (head-of middle) .args in
+    let loop = head-of middle .loop in (
       omega arith,
       canonical-state (c .second-step .ensures) (secondStep-state _ _ _),
-      w .write-row .kept .0 ∙ l .inv .2,
-      λ s e. next (a .args .table .now) s (a .args .row .0) (a .args .destination .now) (l .destination) (l .state)
-          (l .round) _ _ _ (omega arith) (f .first-step .ensures) (w .write-row .ensures) (c .second-step .ensures)
-          (l .inv .3 s e),
+      written .write-row .kept .0 ∙ loop .inv .2,
+      λ s e. next (start .table .now) s (start .row .0) (start .destination .now) (loop .destination) (loop .state)
+          (loop .round) _ _ _ (omega arith) (middle .first-step .ensures) (written .write-row .ensures)
+          (c .second-step .ensures) (loop .inv .3 s e),
     )
 
 same-length : tie.Need-same-length Inv-loop μ-loop
@@ -130,15 +136,16 @@ same-length c = c .before .loop .inv .2
 returns : tie.Need-returns Inv-loop μ-loop
 unfolding finalState
 returns c =
-    let o = c .before .before in
-    let a = o .before .before .before .args in
-    let l = c .before .loop in
-    let e : l .round ≡ 10 = omega arith in
-    let r = a .row .0 in
-    let t = a .table .now in
-    let p = l .inv .3 (a .input) (o .opening .ensures) in (
-      p .at ∙ ap (stateAt t (a .input)) e,
-      p .rows ∙ ap (λ n. withRows (λ i. middleState t (a .input) (i - r)) r (r + n) (a .destination .now)) e,
+    let head = c .before in
+    let start = entry head .args in
+    let T = start .table .now in
+    let first = start .row .0 in
+    let e : head .loop .round ≡ 10 = omega arith in
+    let passed = head .loop .inv .3 (start .input) (head .before .plus-initial .ensures) in (
+      passed .at ∙ ap (stateAt T (start .input)) e,
+      passed .rows
+          ∙ ap (λ n. withRows (λ i. middleState T (start .input) (i - first)) first (first + n)
+          (start .destination .now)) e,
     )
 
 pub write-rounds-spec : {M : Type 1} → statement M
@@ -147,7 +154,7 @@ write-rounds-spec =
     (tie.spec
     Inv-loop
     μ-loop
-    opening-requires
+    plus-initial-requires
     loop-holds
     first-step-requires
     add-t14

@@ -7,7 +7,7 @@ use native.Mathlib.Omega.{arith}
 use borrow.Author.Needs.{needs}
 use borrow.Rule.Slice.PartMut.{putMid, postOf, post-is}
 use lib.ListN.{length, take, drop}
-use Rattle.trace.specs.Rows.{withRows}
+use Rattle.trace.specs.RowHelpers.{withRows}
 use Rattle.trace.proofs.WrittenRows.{row-one}
 use Rattle.trace.proofs.write_row.Statement.{statement}
 use Rattle.trace.proofs.write_row.Tie as tie
@@ -46,9 +46,11 @@ same-length c = search needs
 
 returns : tie.Need-returns
 returns c =
-    let a = c .before .before .before .before .before .before .args in
-    in-place (a .cells) (a .row .0) _ (a .destination .now) _ (search needs)
-    (c .before .before .before .before .start .ensures) (c .before .before .put .ensures)
+    let filled = c .before .before in
+    let begin = filled .before .before in
+    let entry = begin .before .before .args in
+    in-place (entry .cells) (entry .row .0) _ (entry .destination .now) _ (search needs) (begin .start .ensures)
+    (filled .put .ensures)
 
 pub write-row-spec : {M : Type 1} → statement M
 write-row-spec =

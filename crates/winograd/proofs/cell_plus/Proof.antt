@@ -7,10 +7,10 @@ use native.Mathlib.Omega.{arith}
 use Rattle.lists.specs.Lists.{cell, sum as total}
 use Rattle.lists.proofs.Sum.{sum-zero, sum-suc}
 use Rattle.field.specs.Field.{P, Canonical}
-use Rattle.field.specs.Montgomery.{element}
+use Rattle.field.specs.MontgomeryHelpers.{divided}
 use Rattle.field.proofs.Forms.{upper-small}
-use Rattle.sums.specs.Sums.{valueOf}
-use Rattle.winograd.specs.Winograd.{neighbours}
+use Rattle.sums.specs.SumHelpers.{valueOf}
+use Rattle.winograd.specs.WinogradHelpers.{neighbours}
 use Rattle.winograd.proofs.Pairs.{cross, cross-room, inner, neighbours-lt, starts}
 use Rattle.winograd.proofs.cell_plus.Statement.{statement}
 use Rattle.winograd.proofs.cell_plus.Tie as tie
@@ -163,7 +163,7 @@ returns c =
     let a = l .before .before .before .before in
     let e : l .loop .j ≡ 6 = omega arith in (
       c .divided .ensures .0
-          ∙ ap element (l .loop .inv .1 ∙ ap (λ n. (end a - a .args .excess + a .args .k) * 2 ^ 64 + total n (cross (row a) (column a))) e)
+          ∙ ap divided (l .loop .inv .1 ∙ ap (λ n. (end a - a .args .excess + a .args .k) * 2 ^ 64 + total n (cross (row a) (column a))) e)
           ∙ inner (row a) (column a) (end a - a .args .excess + a .args .k) (a .args .k) (ap (λ w. (end a - a .args .excess + a .args .k) + (neighbours (row a) + w)) (sym (a .pre .4)) ∙ over a .1),
       c .divided .ensures .1,
     )

@@ -7,10 +7,10 @@ use native.Mathlib.Omega.{arith}
 use borrow.Author.Needs.{needs}
 use Rattle.lists.specs.Lists.{cell, sum as total}
 use Rattle.lists.proofs.Sum.{sum-zero, sum-suc}
-use Rattle.field.specs.Montgomery.{element}
-use Rattle.sums.specs.Sums.{valueOf}
+use Rattle.field.specs.MontgomeryHelpers.{divided}
+use Rattle.sums.specs.SumHelpers.{valueOf}
 use Rattle.sums.proofs.Reduction.{upper-small, made-canonical}
-use Rattle.winograd.specs.Winograd.{neighbours}
+use Rattle.winograd.specs.WinogradHelpers.{neighbours}
 use Rattle.winograd.proofs.Pairs.{near, near-room}
 use Rattle.winograd.proofs.neighbours.Statement.{statement}
 use Rattle.winograd.proofs.neighbours.Tie as tie
@@ -71,8 +71,8 @@ divided-requires c κs =
     let a = l .before .before in
     omega (arith, near-room (l .loop .j) (l .loop .sum .0) (l .loop .sum .1) (cell (a .args .s .now)) (l .loop .inv .0) (a .pre .1) (l .loop .inv .1))
 
-less-once-requires : tie.Need-less-once-requires Inv-loop μ-loop
-less-once-requires c κs = search needs
+reduce-once-requires : tie.Need-reduce-once-requires Inv-loop μ-loop
+reduce-once-requires c κs = search needs
 
 returns : tie.Need-returns Inv-loop μ-loop
 unfolding neighbours
@@ -80,7 +80,7 @@ returns c =
     let d = c .before in
     let l = d .before .before in
     let e : l .loop .j ≡ 6 = omega arith in
-    made-canonical _ (d .divided .result) (c .less-once .result) (d .divided .ensures .1) (d .divided .ensures .0 ∙ ap element (l .loop .inv .1 ∙ ap (λ n. total n (near (cell (l .before .before .args .s .now)))) e)) (c .less-once .ensures)
+    made-canonical _ (d .divided .result) (c .reduce-once .result) (d .divided .ensures .1) (d .divided .ensures .0 ∙ ap divided (l .loop .inv .1 ∙ ap (λ n. total n (near (cell (l .before .before .args .s .now)))) e)) (c .reduce-once .ensures)
 
 pub neighbours-spec : {M : Type 1} → statement M
 neighbours-spec =
@@ -101,5 +101,5 @@ neighbours-spec =
     loop-less
     loop-again
     divided-requires
-    less-once-requires
+    reduce-once-requires
     returns)

@@ -8,7 +8,7 @@ use lib.ListN.{length, length-set}
 use Rattle.lists.specs.Lists.{cell}
 use Rattle.lists.proofs.Tab.{filled, filled-same, filled-more, filled-before, filled-all, length-part, cell-part}
 use Rattle.field.specs.Field.{P}
-use Rattle.winograd.specs.Winograd.{neighbours, scaled, ready as made-ready}
+use Rattle.winograd.specs.WinogradHelpers.{neighbours, scaled, ready as made-ready}
 use Rattle.winograd.proofs.Pairs.{neighbours-ext}
 use Rattle.winograd.proofs.ReadyWords.{word, word-scaled, word-end, scaled-lt}
 use Rattle.winograd.proofs.ready.Statement.{statement}

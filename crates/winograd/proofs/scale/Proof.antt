@@ -8,10 +8,10 @@ use lib.ListN.{length, length-set}
 use Rattle.lists.specs.Lists.{cell}
 use Rattle.lists.proofs.Tab.{filled, filled-none, filled-more, filled-before}
 use Rattle.field.specs.Field.{P}
-use Rattle.field.specs.Montgomery.{element}
+use Rattle.field.specs.MontgomeryHelpers.{divided}
 use Rattle.field.proofs.Forms.{times-divided}
 use Rattle.sums.proofs.Reduction.{made-canonical}
-use Rattle.winograd.specs.Winograd.{scaled}
+use Rattle.winograd.specs.WinogradHelpers.{scaled}
 use Rattle.winograd.proofs.scale.Statement.{statement}
 use Rattle.winograd.proofs.scale.Tie as tie
 
@@ -36,8 +36,8 @@ times-requires c κs =
     let a = l .before .before in
     (omega (arith, a .pre .1 (l .loop .t) (omega arith)), omega (arith, a .pre .2))
 
-less-once-requires : tie.Need-less-once-requires Inv-loop μ-loop
-less-once-requires c κs = search needs
+reduce-once-requires : tie.Need-reduce-once-requires Inv-loop μ-loop
+reduce-once-requires c κs = search needs
 
 mul-out : tie.Need-mul-out Inv-loop μ-loop
 mul-out c = search needs
@@ -52,14 +52,14 @@ loop-less : tie.Need-loop-less Inv-loop μ-loop
 loop-less c = omega arith
 
 -- the word that is stored
-word : (c : tie.After-less-once Inv-loop μ-loop) → c .less-once .result ≡ scaled (c .before .before .before .before .before .before .args .m .now) (c .before .before .before .before .before .before .args .by) (c .before .before .before .before .loop .t)
+word : (c : tie.After-reduce-once Inv-loop μ-loop) → c .reduce-once .result ≡ scaled (c .before .before .before .before .before .before .args .m .now) (c .before .before .before .before .before .before .args .by) (c .before .before .before .before .loop .t)
 unfolding scaled
 word c =
     let r = c .before in
     let l = r .before .before .before in
     let a = l .before .before in
     let x = cell (a .args .m .now) (l .loop .t) in
-    made-canonical (element (x * a .args .by)) (r .times .result) (c .less-once .result) (r .times .ensures .2) (ap (λ y. y % P) (r .times .ensures .0) ∙ times-divided x (a .args .by) (omega (arith, a .pre .1 (l .loop .t) (omega arith))) (omega (arith, a .pre .2))) (c .less-once .ensures) .0
+    made-canonical (divided (x * a .args .by)) (r .times .result) (c .reduce-once .result) (r .times .ensures .2) (ap (λ y. y % P) (r .times .ensures .0) ∙ times-divided x (a .args .by) (omega (arith, a .pre .1 (l .loop .t) (omega arith))) (omega (arith, a .pre .2))) (c .reduce-once .ensures) .0
 
 loop-again : tie.Need-loop-again Inv-loop μ-loop
 loop-again c =
@@ -67,8 +67,8 @@ loop-again c =
     let a = l .before .before in
     let t = l .loop .t in
     let f = scaled (a .args .m .now) (a .args .by) in
-    let v : c .less-once .result ≡ f t = word c in
-    (omega arith, length-set (l .loop .out) t (c .less-once .result) ∙ l .loop .inv .1, filled-more f t (c .less-once .result) _ (l .loop .out) (omega arith) v (l .loop .inv .2))
+    let v : c .reduce-once .result ≡ f t = word c in
+    (omega arith, length-set (l .loop .out) t (c .reduce-once .result) ∙ l .loop .inv .1, filled-more f t (c .reduce-once .result) _ (l .loop .out) (omega arith) v (l .loop .inv .2))
 
 returns : tie.Need-returns Inv-loop μ-loop
 returns c =
@@ -88,7 +88,7 @@ scale-spec =
     mul-times
     shared-slice-read-times
     times-requires
-    less-once-requires
+    reduce-once-requires
     mul-out
     array-write-out
     add-t

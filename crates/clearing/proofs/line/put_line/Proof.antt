@@ -1,4 +1,5 @@
--- `clearing::line::put_line` meets its contract: a word, its numbers and the line's end, one after the other.
+-- `clearing::line::put_line`: a word, its numbers and the line's end stand one after the other, and there is room for
+-- each.
 -- Assumes nothing.
 use mathlib.Core.Path.{_≡_, _∙_}
 use Prim.Native.Nat.{_+_, _≤_}
@@ -9,17 +10,25 @@ use Rattle.clearing.proofs.Fields.{length-fields, length-line, line-byt
 use Rattle.clearing.proofs.line.put_line.Statement.{statement}
 use Rattle.clearing.proofs.line.put_line.Tie as tie
 
+-- the two calls, and what was known before them
+abbrev numbers : tie.After-slice-known3 → tie.After-put-numbers
+numbers c = c .before .before
+
+abbrev word : tie.After-slice-known3 → tie.After-put-word
+word c = numbers c .before .before .before .before
+
 abbrev start : tie.After-slice-known3 → tie.Start
-start c = c .before .before .before .before .before .before .before .before .before .before .before
+start c = word c .before .before .before .before .before
 
 -- there is room for the line's end
-room : (c : tie.After-slice-known3) → c .before .before .put-numbers .result + 1 ≤ length (start c .args .out .now)
+room : (c : tie.After-slice-known3) → numbers c .put-numbers .result + 1 ≤ length (start c .args .out .now)
 room c =
-    let word = c .before .before .before .before .before .before .put-word in
-    omega (arith, c .before .before .put-numbers .ensures .0, word .ensures .0, length-fields (start c .args .numbers .now), start c .pre)
+    let fields = length-fields (start c .args .numbers .now) in
+    omega (arith, numbers c .put-numbers .ensures .0, word c .put-word .ensures .0, fields, start c .pre)
 
-kept : (c : tie.After-slice-known3) → length (c .before .before .put-numbers .last .1 .0) ≡ length (start c .args .out .now)
-kept c = c .before .before .put-numbers .kept .1 .0 ∙ c .before .before .before .before .before .before .put-word .kept .1 .0
+kept : (c : tie.After-slice-known3)
+    → length (numbers c .put-numbers .last .1 .0) ≡ length (start c .args .out .now)
+kept c = numbers c .put-numbers .kept .1 .0 ∙ word c .put-word .kept .1 .0
 
 put-word-requires : tie.Need-put-word-requires
 put-word-requires c κs = search needs
@@ -38,10 +47,11 @@ same-length c = simp length-set (kept c)
 
 returns : tie.Need-returns
 returns c =
-    let numbers = c .before .before .put-numbers in
-    let word = c .before .before .before .before .before .before .put-word in (
-      omega (arith, numbers .ensures .0, word .ensures .0, length-line (start c .args .word .now) (start c .args .numbers .now)),
-      line-bytes _ _ _ _ _ _ _ (word .ensures .0) (word .ensures .1) (numbers .ensures .0) (numbers .ensures .1),
+    let args = start c .args in
+    let second = numbers c .put-numbers .ensures in
+    let first = word c .put-word .ensures in (
+      omega (arith, second .0, first .0, length-line (args .word .now) (args .numbers .now)),
+      line-bytes _ _ _ _ _ _ _ (first .0) (first .1) (second .0) (second .1),
     )
 
 pub put-line-spec : {M : Type 1} → statement M

@@ -1,4 +1,4 @@
--- `clearing::line::put_refused` meets its contract, by how many values are told.
+-- `clearing::line::put_refused`: by how many values are told, the numbers that are written are those of the definition.
 -- Assumes nothing.
 use mathlib.Core.Path.{_≡_, ap, _∙_}
 use mathlib.Core.List.{List, [], _∷_}

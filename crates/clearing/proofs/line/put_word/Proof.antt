@@ -1,4 +1,4 @@
--- `clearing::line::put_word` meets its contract. The loop's invariant: the bytes passed stand at the start.
+-- `clearing::line::put_word`: the bytes passed stand at the start, and each turn stores the next.
 -- Assumes nothing.
 use mathlib.Core.Path.{_≡_, refl, sym, ap, _∙_}
 use mathlib.Core.List.{List, [], _∷_}
@@ -12,13 +12,14 @@ use Rattle.clearing.proofs.line.put_word.Statement.{statement}
 use Rattle.clearing.proofs.line.put_word.Tie as tie
 
 abbrev Inv-loop : tie.InvT-loop
-Inv-loop word out₀ i₀ out i = (i ≤ length word) × (out ≡ sets out₀ 0 (take i word))
+Inv-loop word out₀ i₀ i-end out i = (i ≤ i-end) × (out ≡ sets out₀ 0 (take i word))
 
 abbrev μ-loop : tie.MeasureT-loop
-μ-loop word out₀ i₀ out i = length word - i
+μ-loop word out₀ i₀ i-end out i = i-end - i
 
 -- one byte more
-more : (word l m : List ℕ) (i : ℕ) → i < length word → m ≡ sets l 0 (take i word) → set m i (getD word i 0) ≡ sets l 0 (take (i + 1) word)
+more : (word l m : List ℕ) (i : ℕ) → i < length word → m ≡ sets l 0 (take i word)
+    → set m i (getD word i 0) ≡ sets l 0 (take (i + 1) word)
 more word l m i h e =
     let at : i ≡ 0 + length (take i word) = omega (arith, length-take-le i word (omega arith)) in
     ap (λ s. set s i (getD word i 0)) e
@@ -37,8 +38,9 @@ shared-slice-read-out c = omega arith
 
 slice-write-out : tie.Need-slice-write-out Inv-loop μ-loop
 slice-write-out c =
-    let start = c .before .before .before in
-    omega (arith, same-size (start .args .word .now) (start .args .out .now) (c .before .before .loop .out) (c .before .before .loop .i) (c .before .before .loop .inv .1))
+    let args = c .before .before .before .args in
+    let l = c .before .before .loop in
+    omega (arith, same-size (args .word .now) (args .out .now) (l .out) (l .i) (l .inv .1))
 
 add-i : tie.Need-add-i Inv-loop μ-loop
 add-i c = omega arith
@@ -51,13 +53,15 @@ loop-again c = (omega arith, more _ _ _ _ (c .before .loop-test .taken) (c .befo
 
 same-length : tie.Need-same-length Inv-loop μ-loop
 same-length c =
-    let start = c .before .before in
-    same-size (start .args .word .now) (start .args .out .now) (c .before .loop .out) (c .before .loop .i) (c .before .loop .inv .1)
+    let args = c .before .before .args in
+    let l = c .before .loop in
+    same-size (args .word .now) (args .out .now) (l .out) (l .i) (l .inv .1)
 
 returns : tie.Need-returns Inv-loop μ-loop
 returns c =
-    let word = c .before .before .args .word .now in
-    (omega arith, c .before .loop .inv .1 ∙ ap (sets (c .before .before .args .out .now) 0) (take-all (c .before .loop .i) word (omega arith)))
+    let args = c .before .before .args in
+    let l = c .before .loop in
+    (omega arith, l .inv .1 ∙ ap (sets (args .out .now) 0) (take-all (l .i) (args .word .now) (omega arith)))
 
 pub put-word-spec : {M : Type 1} → statement M
 put-word-spec =

@@ -1,4 +1,4 @@
--- `clearing::line::text` meets its contract, at each of the answers.
+-- `clearing::line::text`: each arm writes the line of its answer over the start of the buffer, which has room for it.
 -- Assumes nothing.
 use mathlib.Core.Path.{_≡_, refl, sym, ap, _∙_}
 use mathlib.Core.List.{List, _++_}
@@ -15,7 +15,8 @@ use Rattle.clearing.proofs.line.text.Statement.{statement}
 use Rattle.clearing.proofs.line.text.Tie as tie
 
 -- what is written is the line of the answer
-told-line : (o p : Outcome) (out new s : List ℕ) (r : ℕ) → length out ≡ 80 → o ≡ p → textOf p ≡ s → r ≡ length s → new ≡ sets out 0 s → (r ≡ length (textOf o)) × (new ≡ textOf o ++ drop r out)
+told-line : (o p : Outcome) (out new s : List ℕ) (r : ℕ) → length out ≡ 80 → o ≡ p → textOf p ≡ s
+    → r ≡ length s → new ≡ sets out 0 s → (r ≡ length (textOf o)) × (new ≡ textOf o ++ drop r out)
 told-line o p out new s r size e t q w =
     let same : s ≡ textOf o = sym t ∙ sym (ap textOf e) in
     let length-is : r ≡ length (textOf o) = q ∙ ap length same in
@@ -54,8 +55,9 @@ put-word-requires c κs = search needs
 returns : tie.Need-returns
 unfolding textOf
 returns c =
-    let start = c .before .before .before .before .before .before .before in
-    told-line _ _ _ _ _ _ (start .pre) (c .before .before .before .before .before .outcome .given .1) refl (c .put-line .ensures .0) (c .put-line .ensures .1)
+    let known = c .before .before .before .before .before in
+    let written = c .put-line .ensures in
+    told-line _ _ _ _ _ _ (known .before .before .pre) (known .outcome .given .1) refl (written .0) (written .1)
 
 returns-2 : tie.Need-returns-2
 unfolding textOf
@@ -69,8 +71,9 @@ returns-2 c =
 returns-3 : tie.Need-returns-3
 unfolding textOf line fields each
 returns-3 c =
-    let start = c .before .before .before .before .before in
-    told-line _ _ _ _ _ _ (start .pre) (c .before .before .before .enum-told .given .1) refl (c .put-word .ensures .0) (c .put-word .ensures .1)
+    let known = c .before .before .before in
+    let written = c .put-word .ensures in
+    told-line _ _ _ _ _ _ (known .before .before .pre) (known .enum-told .given .1) refl (written .0) (written .1)
 
 pub text-spec : {M : Type 1} → statement M
 text-spec =

@@ -8,7 +8,7 @@ use native.Mathlib.Omega.{arith}
 use borrow.Author.Needs.{needs}
 use lib.Dec.{lit<}
 use Rattle.field.specs.Field.{P}
-use Rattle.field.specs.Montgomery.{reduceWord}
+use Rattle.field.specs.MontgomeryHelpers.{reduceWord}
 use Rattle.field.proofs.Forms.{factor-small, reduce-law}
 use Rattle.field.proofs.montgomery.reduce.Statement.{statement}
 use Rattle.field.proofs.montgomery.reduce.Tie as tie

@@ -4,8 +4,8 @@ use mathlib.Core.Path.{_≡_, sym, ap₂, _∙_, subst}
 use native.Mathlib.Omega.{arith}
 use borrow.Author.Needs.{needs}
 use Rattle.field.specs.Field.{mul}
-use Rattle.field.specs.Montgomery.{Short, element, reduceWord, timesWord}
-use Rattle.field.proofs.Forms.{upper-small, times-element, times-short}
+use Rattle.field.specs.MontgomeryHelpers.{Short, divided, reduceWord, timesWord}
+use Rattle.field.proofs.Forms.{upper-small, divided-times, times-short}
 use Rattle.field.proofs.montgomery.times.Statement.{statement}
 use Rattle.field.proofs.montgomery.times.Tie as tie
 
@@ -28,8 +28,8 @@ returns c =
     let e : c .reduce .result ≡ timesWord (a .args .a) (a .args .b) =
     c .reduce .ensures .0 ∙ ap₂ reduceWord (h .high .ensures) (h .before .low .ensures) in (
       e,
-      subst (λ r. element r ≡ mul (element (a .args .a)) (element (a .args .b))) (sym e)
-          (times-element (a .args .a) (a .args .b) (a .pre .0) (a .pre .1)),
+      subst (λ r. divided r ≡ mul (divided (a .args .a)) (divided (a .args .b))) (sym e)
+          (divided-times (a .args .a) (a .args .b) (a .pre .0) (a .pre .1)),
       subst Short (sym e) (times-short (a .args .a) (a .args .b) (a .pre .0) (a .pre .1)),
     )
 

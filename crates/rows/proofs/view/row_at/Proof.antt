@@ -1,4 +1,4 @@
--- `rows::view::row_at` meets its contract: the part of twelve words from the row's start is the row.
+-- `rows::view::row_at`: the part of twelve words from the row's start is the row.
 -- Assumes nothing.
 use mathlib.Core.Path.{_≡_, ap₂}
 use mathlib.Core.List.{List}
@@ -6,7 +6,7 @@ use Prim.Native.Nat.{ℕ, _+_, _-_, _*_}
 use native.Mathlib.Omega.{arith}
 use lib.ListN.{take, drop}
 use borrow.Author.Needs.{needs}
-use Rattle.constraints.specs.Constraints.{row}
+use Rattle.trace.specs.Trace.{row}
 use Rattle.rows.proofs.view.row_at.Statement.{statement}
 use Rattle.rows.proofs.view.row_at.Tie as tie
 

@@ -1,10 +1,10 @@
--- `rows::view::trace_row` meets its contract: a row of the whole trace is the one that its batch and its number within the batch say.
+-- `rows::view::trace_row`: a row of the whole trace is the one that its batch and its number within the batch say.
 -- Assumes nothing.
 use mathlib.Core.Path.{_≡_, ap, _∙_}
 use Prim.Native.Nat.{_+_, _*_}
 use native.Mathlib.Omega.{arith}
 use borrow.Author.Needs.{needs}
-use Rattle.constraints.specs.Constraints.{row}
+use Rattle.trace.specs.Trace.{row}
 use Rattle.rows.proofs.view.trace_row.Statement.{statement}
 use Rattle.rows.proofs.view.trace_row.Tie as tie
 

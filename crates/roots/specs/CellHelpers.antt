@@ -4,23 +4,24 @@ use mathlib.Core.List.{List}
 use Prim.Native.Nat.{ℕ, _<_}
 use Rattle.lists.specs.Lists.{cell, tab}
 use Rattle.field.specs.Field.{mul, power}
-use Rattle.field.specs.Montgomery.{Short, element, timesWord, enterWord}
+use Rattle.field.specs.MontgomeryHelpers.{Short, divided, timesWord, enterWord}
+use Rattle.numbers.specs.Numbers.{width}
 
 abbrev pub ShortTo : ℕ → List ℕ → Type 0
 ShortTo n v = (j : ℕ) → j < n → Short (cell v j)
 
 -- the elements that twelve words stand for, and words that stand for twelve elements
 unfoldable pub elements : List ℕ → List ℕ
-elements v = tab 12 (λ j. element (cell v j))
+elements v = tab width (λ j. divided (cell v j))
 
 unfoldable pub words : List ℕ → List ℕ
-words s = tab 12 (λ j. enterWord (cell s j))
+words s = tab width (λ j. enterWord (cell s j))
 
 unfoldable pub wordProducts : List ℕ → List ℕ → List ℕ
-wordProducts a b = tab 12 (λ j. timesWord (cell a j) (cell b j))
+wordProducts a b = tab width (λ j. timesWord (cell a j) (cell b j))
 
 unfoldable pub products : List ℕ → List ℕ → List ℕ
-products a b = tab 12 (λ j. mul (cell a j) (cell b j))
+products a b = tab width (λ j. mul (cell a j) (cell b j))
 
 unfoldable pub powers : List ℕ → ℕ → List ℕ
-powers x e = tab 12 (λ j. power (cell x j) e)
+powers x e = tab width (λ j. power (cell x j) e)

@@ -1,28 +1,27 @@
--- `hash::opening`: the cells passed are filled with the sums of the input and K_0.
+-- `hash::plus_initial`: the cells passed are those of the input plus K_0, and twelve of them are the state before
+-- round 0.
 -- Assumes nothing.
-use mathlib.Core.Path.{_≡_, refl, ap, _∙_}
-use Prim.Native.Nat.{_-_, _≤_}
+use mathlib.Core.Path.{refl, ap, _∙_}
+use Prim.Native.Nat.{_-_}
 use native.Mathlib.Omega.{arith}
 use borrow.Author.Needs.{needs}
-use lib.ListN.{length, length-set}
 use Rattle.lists.specs.Lists.{cell}
-use Rattle.lists.proofs.Tab.{filled, filled-none, filled-more}
+use Rattle.lists.proofs.Tab.{Fills, fills-none, fills-more, fills-all}
 use Rattle.field.specs.Field.{add}
 use Rattle.table.specs.Table.{initialConstant}
-use Rattle.hash.specs.Hash.{stateAt}
-use Rattle.hash.proofs.CodeStates.{plus-filled}
-use Rattle.hash.proofs.opening.Statement.{statement}
-use Rattle.hash.proofs.opening.Tie as tie
+use Rattle.hash.specs.Hash.{stateAt, plus}
+use Rattle.hash.proofs.plus_initial.Statement.{statement}
+use Rattle.hash.proofs.plus_initial.Tie as tie
 
 abbrev Inv-loop : tie.InvT-loop
 Inv-loop table input out₀ j₀ out j =
-    (j ≤ 12) × (length out ≡ 12) × (out ≡ filled j (λ i. add (cell input i) (cell (initialConstant table) i)) out₀)
+    Fills 12 (λ i. add (cell input i) (cell (initialConstant table) i)) out₀ j out
 
 abbrev μ-loop : tie.MeasureT-loop
 μ-loop table input out₀ j₀ out j = 12 - j
 
 loop-holds : tie.Need-loop-holds Inv-loop μ-loop
-loop-holds c = (omega arith, refl, filled-none _ _)
+loop-holds c = fills-none refl
 
 initial-constant-requires : tie.Need-initial-constant-requires Inv-loop μ-loop
 initial-constant-requires c κs = search needs
@@ -52,16 +51,15 @@ loop-less c = search needs
 
 loop-again : tie.Need-loop-again Inv-loop μ-loop
 loop-again c =
-    let l = c .before .before .before .loop in
-    let v = c .add .ensures .0 ∙ ap (add _) (c .before .initial-constant .ensures .0) in
-    (omega arith, simp length-set (l .inv .1), filled-more _ (l .j) _ _ (l .out) (omega arith) v (l .inv .2))
+    fills-more (c .before .before .before .loop .inv) (omega arith)
+    (c .add .ensures .0 ∙ ap (add _) (c .before .initial-constant .ensures .0))
 
 returns : tie.Need-returns Inv-loop μ-loop
-unfolding stateAt
-returns c = plus-filled _ _ (c .before .loop .j) (omega arith) (c .before .loop .inv .2)
+unfolding stateAt plus
+returns c = fills-all (c .before .loop .inv) (omega arith)
 
-pub opening-spec : {M : Type 1} → statement M
-opening-spec =
+pub plus-initial-spec : {M : Type 1} → statement M
+plus-initial-spec =
     tie.close
     (tie.spec
     Inv-loop

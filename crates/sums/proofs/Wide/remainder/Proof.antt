@@ -1,4 +1,4 @@
--- `sums::Wide::rest` meets its contract: the upper word is reduced first, and what the estimated quotient leaves is below 6p.
+-- `sums::Wide::remainder` meets its contract: the upper word is reduced first, and what the estimated quotient leaves is below 6p.
 -- Assumes nothing.
 use mathlib.Core.Path.{_≡_, refl, sym, ap, _∙_, subst₂}
 use Prim.Native.Nat.{ℕ, _+_, _*_, _%_, _^_, _<_}
@@ -10,15 +10,15 @@ use borrow.Author.Needs.{needs}
 use Rattle.field.specs.Field.{P}
 use Rattle.field.proofs.Barrett.{unwrapped}
 use Rattle.sums.proofs.Reduction.{less-lt, less-same, wide-in, wide-out, wide-fits, upper-same, folded}
-use Rattle.sums.proofs.Wide.rest.Statement.{statement}
-use Rattle.sums.proofs.Wide.rest.Tie as tie
+use Rattle.sums.proofs.Wide.remainder.Statement.{statement}
+use Rattle.sums.proofs.Wide.remainder.Tie as tie
 
-less-once-requires : tie.Need-less-once-requires
-less-once-requires c κs = search needs
+reduce-once-requires : tie.Need-reduce-once-requires
+reduce-once-requires c κs = search needs
 
 -- the reduced upper word
-upper-low : (c : tie.After-less-once) → c .less-once .result < P
-upper-low c = omega (arith, c .less-once .ensures, less-lt (c .before .args .self .0) P (omega (arith, c .before .pre)))
+upper-low : (c : tie.After-reduce-once) → c .reduce-once .result < P
+upper-low c = omega (arith, c .reduce-once .ensures, less-lt (c .before .args .self .0) P (omega (arith, c .before .pre)))
 
 mul-high : tie.Need-mul-high
 mul-high c = omega (arith, upper-low c)
@@ -30,7 +30,7 @@ high-requires : tie.Need-high-requires
 high-requires c κs = search needs
 
 mul-quotient : tie.Need-mul-quotient
-mul-quotient c = record { fits = wide-fits (c .before .before .less-once .result) (c .before .before .before .args .self .1) (upper-low (c .before .before)) (search needs) (c .high .result) (c .high .ensures) }
+mul-quotient c = record { fits = wide-fits (c .before .before .reduce-once .result) (c .before .before .before .args .self .1) (upper-low (c .before .before)) (search needs) (c .high .result) (c .high .ensures) }
 
 low-requires : tie.Need-low-requires
 low-requires c κs = search needs
@@ -38,24 +38,24 @@ low-requires c κs = search needs
 wrapping-sub-u64-requires : tie.Need-wrapping-sub-u64-requires
 wrapping-sub-u64-requires c κs = search needs
 
-mul-less-once : tie.Need-mul-less-once
-mul-less-once c = search needs
+mul-reduce-once : tie.Need-mul-reduce-once
+mul-reduce-once c = search needs
 
-less-once-requires-2 : tie.Need-less-once-requires-2
-less-once-requires-2 c κs = search needs
+reduce-once-requires-2 : tie.Need-reduce-once-requires-2
+reduce-once-requires-2 c κs = search needs
 
-mul-less-once-2 : tie.Need-mul-less-once-2
-mul-less-once-2 c = search needs
+mul-reduce-once-2 : tie.Need-mul-reduce-once-2
+mul-reduce-once-2 c = search needs
 
-less-once-requires-3 : tie.Need-less-once-requires-3
-less-once-requires-3 c κs = search needs
+reduce-once-requires-3 : tie.Need-reduce-once-requires-3
+reduce-once-requires-3 c κs = search needs
 
-less-once-requires-4 : tie.Need-less-once-requires-4
-less-once-requires-4 c κs = search needs
+reduce-once-requires-4 : tie.Need-reduce-once-requires-4
+reduce-once-requires-4 c κs = search needs
 
 module _ (c : tie.After-wrapping-sub-u64) where
   abbrev up : ℕ
-  up = c .before .before .before .before .less-once .result
+  up = c .before .before .before .before .reduce-once .result
 
   abbrev lo : ℕ
   lo = c .before .before .before .before .before .args .self .1
@@ -83,23 +83,23 @@ returns : tie.Need-returns
 returns c =
     let w = c .before .before .before in
     let hi = w .before .before .before .before .before .args .self .0 in
-    let f = folded (up w * 2 ^ 64 + lo w) (q w) (w .wrapping-sub-u64 .result) _ _ _ (exact w) (left-low w) (c .before .before .less-once2 .ensures) (c .before .less-once3 .ensures) (c .less-once4 .ensures) in
-    (f .0 ∙ upper-same hi (lo w) (up w) (ap (λ x. x % P) (w .before .before .before .before .less-once .ensures) ∙ less-same hi P 1 refl), f .1)
+    let f = folded (up w * 2 ^ 64 + lo w) (q w) (w .wrapping-sub-u64 .result) _ _ _ (exact w) (left-low w) (c .before .before .reduce-once2 .ensures) (c .before .reduce-once3 .ensures) (c .reduce-once4 .ensures) in
+    (f .0 ∙ upper-same hi (lo w) (up w) (ap (λ x. x % P) (w .before .before .before .before .reduce-once .ensures) ∙ less-same hi P 1 refl), f .1)
 
-pub rest-spec : {M : Type 1} → statement M
-rest-spec =
+pub remainder-spec : {M : Type 1} → statement M
+remainder-spec =
     tie.close
     (tie.spec
-    less-once-requires
+    reduce-once-requires
     mul-high
     add-high
     high-requires
     mul-quotient
     low-requires
     wrapping-sub-u64-requires
-    mul-less-once
-    less-once-requires-2
-    mul-less-once-2
-    less-once-requires-3
-    less-once-requires-4
+    mul-reduce-once
+    reduce-once-requires-2
+    mul-reduce-once-2
+    reduce-once-requires-3
+    reduce-once-requires-4
     returns)

@@ -1,17 +1,17 @@
--- Cubes divided by 2^128, the two matrices of a table made ready for them, and the columns of forward that are tested.
+-- Cubes divided by 2^128, the two matrices of a table made ready for them, and the first columns of a state.
 -- Assumes nothing.
 use mathlib.Core.List.{List}
 use Prim.Native.Nat.{ℕ, _*_}
 use lib.Dec.{ltb}
 use Rattle.lists.specs.Lists.{choose, cell, tab}
-use Rattle.field.specs.Montgomery.{element}
-use Rattle.winograd.specs.Winograd.{ready}
+use Rattle.field.specs.MontgomeryHelpers.{divided}
+use Rattle.numbers.specs.Numbers.{width}
+use Rattle.winograd.specs.WinogradHelpers.{ready}
 use Rattle.table.specs.Table.{matrixOf, inverseOf}
-use Rattle.constraints.specs.Constraints.{entering}
 
 -- x^3 / 2^128
-abbrev pub thinCube : ℕ → ℕ
-thinCube x = element (element (x * x) * x)
+abbrev pub montgomeryCube : ℕ → ℕ
+montgomeryCube x = divided (divided (x * x) * x)
 
 -- 2^256 mod p: 2^128 makes up for cubes divided by it, 2^128 for the two divisions by 2^64 (proofs/Scales.antt,
 -- `forward-cell`)
@@ -31,8 +31,4 @@ backReady T = ready (inverseOf T) backScale
 
 -- the first n columns of a state, and zeros
 unfoldable pub columns : ℕ → List ℕ → List ℕ
-columns n s = tab 12 (λ j. choose (ltb j n) (cell s j) 0)
-
--- how many columns of forward are tested at row i: at rows 10 and 20 columns 0 to 3 only
-abbrev pub tested : ℕ → ℕ
-tested i = choose (entering i) 4 12
+columns n s = tab width (λ j. choose (ltb j n) (cell s j) 0)

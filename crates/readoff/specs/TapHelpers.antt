@@ -5,12 +5,13 @@ use mathlib.Core.List.{List}
 use Prim.Native.Nat.{ℕ, _*_, _^_, _≤_, _<_}
 use lib.ListN.{length}
 use Rattle.words.specs.Words.{AllCanonical}
+use Rattle.numbers.specs.Numbers.{traceWords}
 
--- a trace of k batches, whose words are canonical, holds the taps 0 to 3k, and i is one of them
-pub record HasTap (t : List ℕ) (i : ℕ) : Type 0 where
+-- a trace of k batches, whose words are canonical, holds the taps 0 to 3k, and n is one of them
+pub record HasTap (t : List ℕ) (n : ℕ) : Type 0 where
   pub k : ℕ
   pub canonical : AllCanonical t
-  pub size : length t ≡ 384 * k
+  pub size : length t ≡ traceWords k
   pub some : 1 ≤ k
   pub few : k < 2 ^ 32
-  pub inside : i ≤ 3 * k
+  pub inside : n ≤ 3 * k

@@ -7,16 +7,16 @@ use lib.Dec.{ltb}
 use lib.ListN.{length}
 use Rattle.lists.specs.Lists.{choose, cell, tab, sum}
 use Rattle.field.specs.Field.{P}
-use Rattle.field.specs.Montgomery.{element}
+use Rattle.field.specs.MontgomeryHelpers.{divided}
 use Rattle.words.specs.Words.{CanonicalTo}
 
 -- the products of neighbours, 0 and 1, 2 and 3, .., 10 and 11, added up and divided by 2^64
 unfoldable pub neighbours : (ℕ → ℕ) → ℕ
-neighbours x = element (sum 6 (λ j. x (2 * j) * x (2 * j + 1)))
+neighbours x = divided (sum 6 (λ j. x (2 * j) * x (2 * j + 1)))
 
 -- word t of the matrix m, times the scale and divided by 2^64
 unfoldable pub scaled : List ℕ → ℕ → ℕ → ℕ
-scaled m by t = element (cell m t * by)
+scaled m by t = divided (cell m t * by)
 
 -- m made ready: its scaled words, and for each row 2p less its neighbours
 unfoldable pub ready : List ℕ → ℕ → List ℕ

@@ -12,14 +12,15 @@ abbrev pub unitInverse : ℕ
 unitInverse = 288230397626548624
 
 -- v / 2^64
-abbrev pub element : ℕ → ℕ
-element v = (v * unitInverse) % P
+abbrev pub divided : ℕ → ℕ
+divided v = (v * unitInverse) % P
 
 -- 1 / p modulo 2^64, which is 2 - p
 abbrev pub wordInverse : ℕ
 wordInverse = 16140900978596511745
 
--- (upper 2^64 + lower) / 2^64: the upper word less that of the multiple of p with the same lower word, kept above 0 by p
+-- (upper 2^64 + lower) / 2^64: the upper word less that of the multiple of p with the same lower word, plus p so that
+-- it stays above 0
 unfoldable pub reduceWord : ℕ → ℕ → ℕ
 reduceWord upper lower = (upper + P) - lower * wordInverse % 2 ^ 64 * P / 2 ^ 64
 

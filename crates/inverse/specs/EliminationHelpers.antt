@@ -8,11 +8,19 @@ use lib.Dec.{ltb}
 use lib.ListN.{length}
 use Rattle.lists.specs.Lists.{choose, cell, tab}
 use Rattle.field.specs.Field.{Canonical, add, mul}
-use Rattle.matrix.specs.Matrix.{timesColumn, identity, entry}
+use Rattle.numbers.specs.Numbers.{width}
+use Rattle.matrix.specs.Matrix.{matrixWords, timesColumn, identity, entry}
+
+-- how many words: a row with the identity's beside it, and all rows
+abbrev pub doubleWidth : ℕ
+doubleWidth = 24
+
+abbrev pub doubleWords : ℕ
+doubleWords = 288
 
 -- the word in row i and column l
 abbrev pub at : List ℕ → ℕ → ℕ → ℕ
-at w i l = cell w (24 * i + l)
+at w i l = cell w (doubleWidth * i + l)
 
 -- n columns of a, and then the identity
 unfoldable pub beside : ℕ → (ℕ → ℕ → ℕ) → ℕ → ℕ → ℕ
@@ -20,16 +28,16 @@ beside n a i l = choose (ltb l n) (a i l) (identity i (l - n))
 
 -- the rows at the start
 unfoldable pub started : List ℕ → List ℕ
-started m = tab 288 (λ t. beside 12 (entry m) (t / 24) (t % 24))
+started m = tab doubleWords (λ t. beside width (entry m) (t / doubleWidth) (t % doubleWidth))
 
 -- columns 12 to 23
 unfoldable pub rightHalf : List ℕ → List ℕ
-rightHalf w = tab 144 (λ t. at w (t / 12) (12 + t % 12))
+rightHalf w = tab matrixWords (λ t. at w (t / width) (width + t % width))
 
 -- all words are canonical
 pub record Working (w : List ℕ) : Type 0 where
-  pub size : length w ≡ 288
-  pub canonical : (i l : ℕ) → i < 12 → l < 24 → Canonical (at w i l)
+  pub size : length w ≡ doubleWords
+  pub canonical : (i l : ℕ) → i < width → l < doubleWidth → Canonical (at w i l)
 
 -- ---- row operations
 
@@ -37,7 +45,7 @@ pub record Working (w : List ℕ) : Type 0 where
 pub record RowSet (w v : List ℕ) (r k : ℕ) (f : ℕ → ℕ) : Type 0 where
   pub size : length v ≡ length w
   pub done : (l : ℕ) → l < k → at v r l ≡ f l
-  pub rest : (i l : ℕ) → i < 12 → l < 24 → (i ≡ r → l < k → ⊥) → at v i l ≡ at w i l
+  pub rest : (i l : ℕ) → i < width → l < doubleWidth → (i ≡ r → l < k → ⊥) → at v i l ≡ at w i l
 
 -- row r times c
 abbrev pub scaledRow : List ℕ → ℕ → ℕ → ℕ → ℕ
@@ -51,12 +59,12 @@ addedRow w r j c l = add (at w r l) (mul c (at w j l))
 
 -- all rows take the column z of 24 to 0
 abbrev pub Zeros : List ℕ → (ℕ → ℕ) → Type 0
-Zeros w z = (i : ℕ) → i < 12 → timesColumn 24 (at w) z i ≡ 0
+Zeros w z = (i : ℕ) → i < width → timesColumn doubleWidth (at w) z i ≡ 0
 
 -- the columns before j are those of the identity
 pub record Reduced (w : List ℕ) (j : ℕ) : Type 0 where
   pub working : Working w
-  pub ident : (i l : ℕ) → i < 12 → l < j → at w i l ≡ identity i l
+  pub ident : (i l : ℕ) → i < width → l < j → at w i l ≡ identity i l
 
 -- v is reduced to column j, and takes no column to zeros that w did not
 pub record Reduces (w v : List ℕ) (j : ℕ) : Type 0 where
@@ -66,13 +74,13 @@ pub record Reduces (w v : List ℕ) (j : ℕ) : Type 0 where
 -- the first row from j on that has no 0 in column j, or 12
 pub record Pivot (w : List ℕ) (j r : ℕ) : Type 0 where
   pub from : j ≤ r
-  pub to : r ≤ 12
+  pub to : r ≤ width
   pub before : (i : ℕ) → j ≤ i → i < r → at w i j ≡ 0
-  pub found : r < 12 → at w r j ≡ 0 → ⊥
+  pub found : r < width → at w r j ≡ 0 → ⊥
 
 -- no row from j on has a pivot for column j
 abbrev pub NoPivot : List ℕ → ℕ → Type 0
-NoPivot w j = (i : ℕ) → j ≤ i → i < 12 → at w i j ≡ 0
+NoPivot w j = (i : ℕ) → j ≤ i → i < width → at w i j ≡ 0
 
 -- what a step for column j answers and leaves
 abbrev pub Stepped : (w v : List ℕ) → ℕ → Bool → Type 0
@@ -83,11 +91,11 @@ Stepped w v j false = NoPivot w j
 pub record Stuck (w : List ℕ) : Type 0 where
   pub rows : List ℕ
   pub column : ℕ
-  pub within : column < 12
+  pub within : column < width
   pub reduces : Reduces w rows column
   pub none : NoPivot rows column
 
 -- what the elimination answers and leaves
 abbrev pub Eliminated : (w v : List ℕ) → Bool → Type 0
-Eliminated w v true = Reduces w v 12
+Eliminated w v true = Reduces w v width
 Eliminated w v false = Stuck w

@@ -9,5 +9,5 @@ abbrev pub valueOf : Wide → ℕ
 valueOf w = w .0 * 2 ^ 64 + w .1
 
 -- x, less m where it reaches m
-abbrev pub lessOnce : ℕ → ℕ → ℕ
-lessOnce x m = choose (ltb x m) x (x - m)
+abbrev pub reduceOnce : ℕ → ℕ → ℕ
+reduceOnce x m = choose (ltb x m) x (x - m)
