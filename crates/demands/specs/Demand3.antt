@@ -37,8 +37,8 @@ pub record Exact (T t claim : List ℕ) (k : ℕ) : Type 0 where
   pub whole-order : (n : ℕ) → checkAnswer T t claim ≡ Accepted n → (n ≡ 372 * k) × (n ≡ length (tests k))
   -- every other trace is refused with 11, with row and constraint of the first test that fails in that order
   pub refused-by-11 : (checkAnswer T t claim ≡ Accepted (372 * k))
-      ⊎ ((i : ℕ) × (c : ℕ) × (n : ℕ) × (checkAnswer T t claim ≡ Refused (Constraint (record { 0 = i }) c n))
-      × IsFirstFailing T t claim (tests k) i c n)
+      ⊎ ((i : ℕ) × (q : ℕ) × (n : ℕ) × (checkAnswer T t claim ≡ Refused (Constraint (record { 0 = i }) q n))
+      × IsFirstFailing T t claim (tests k) i q n)
 
 -- any accepted table, any permitted k, any trace of k batches and any claim, all of words below p
 pub record Demand3 : Type 0 where
