@@ -18,7 +18,7 @@ use Rattle.refusals.specs.declared.Answer.{Answer}
 use Rattle.refusals.specs.declared.Answer.the-variants.{Accepted}
 use Rattle.refusals.specs.Answers.{unless}
 
--- ---- forward and back
+-- ---- rows, forward and back
 
 -- the round whose middle state row i holds: rows 1 to 10, 11 to 20, 21 to 30 of a batch are rounds 0 to 9
 abbrev pub round : ℕ → ℕ

@@ -19,7 +19,8 @@ units-small : (upper lower : ℕ) → upper < P → lower < 2 ^ 64 → 4 * upper
 units-small upper lower hu hl = omega arith
 
 -- ---- a number of 128 bits whose upper word is below p, and 2^125 / p for the reciprocal: the quotient is twice an estimate
-module _ (upper lower : ℕ) (hu : upper < P) (hl : lower < 2 ^ 64) (h : ℕ) (eh : h ≡ (4 * upper + lower / 4611686018427387904) * 18446743386514809847 / 2 ^ 64) where
+module _ (upper lower : ℕ) (hu : upper < P) (hl : lower < 2 ^ 64) (h : ℕ)
+    (eh : h ≡ (4 * upper + lower / 4611686018427387904) * 18446743386514809847 / 2 ^ 64) where
   u : ℕ
   u = 4 * upper + lower / 4611686018427387904
 
@@ -33,15 +34,18 @@ module _ (upper lower : ℕ) (hu : upper < P) (hl : lower < 2 ^ 64) (h : ℕ) (e
 
   pub wide-in : 2 * h * P ≤ upper * 2 ^ 64 + lower
   unfolding u
-  wide-in = not-over P (2 * 18446743386514809847) (upper * 2 ^ 64 + lower) u (2 * h) (2 ^ 64) (2 ^ 62) 4 refl (lit< tt) (omega (arith, eh)) in-units (lit≤ tt)
+  wide-in = not-over P (2 * 18446743386514809847) (upper * 2 ^ 64 + lower) u (2 * h) (2 ^ 64) (2 ^ 62) 4 refl
+      (lit< tt) (omega (arith, eh)) in-units (lit≤ tt)
 
   -- the quotient is a word
   pub wide-fits : 2 * h < 2 ^ 64
-  wide-fits = lt-of-mul-lt-mul-right P (lt-of-le-of-lt wide-in (subst (λ x. upper * 2 ^ 64 + lower < x) (mul-comm P (2 ^ 64)) (digits-lt hu hl)))
+  wide-fits = lt-of-mul-lt-mul-right P
+      (lt-of-le-of-lt wide-in (subst (λ x. upper * 2 ^ 64 + lower < x) (mul-comm P (2 ^ 64)) (digits-lt hu hl)))
 
   pub wide-out : upper * 2 ^ 64 + lower < 2 * h * P + 6 * P
   unfolding u
-  wide-out = nearly P (2 * 18446743386514809847) (upper * 2 ^ 64 + lower) u (2 * h) (2 ^ 64) (2 ^ 62) 4 refl 2 2 4 (lit< tt) (omega (arith, eh)) past-units (lit≤ tt) room
+  wide-out = nearly P (2 * 18446743386514809847) (upper * 2 ^ 64 + lower) u (2 * h) (2 ^ 64) (2 ^ 62) 4 refl 2 2 4
+      (lit< tt) (omega (arith, eh)) past-units (lit≤ tt) room
     where
       u-low : u ≤ 4 * P
       u-low = units-small upper lower hu hl
@@ -82,7 +86,8 @@ left-alone x m y hx hm hy e h = go (ltb x m) refl
     go false q = omega (arith, ltb-false x m q)
 
 -- a number below 2^64, less 4p and 2p where it reaches them
-pub shortened : (n left a r : ℕ) → left < 2 ^ 64 → left % P ≡ n → a ≡ reduceOnce left (4 * P) → r ≡ reduceOnce a (2 * P) → (r % P ≡ n) × (r < 2 * P)
+pub shortened : (n left a r : ℕ) → left < 2 ^ 64 → left % P ≡ n → a ≡ reduceOnce left (4 * P) → r ≡ reduceOnce a
+    (2 * P) → (r % P ≡ n) × (r < 2 * P)
 shortened n left a r h e ea er = (
   ap (λ x. x % P) er ∙ less-same a (2 * P) 2 refl ∙ ap (λ x. x % P) ea ∙ less-same left (4 * P) 4 refl ∙ e,
   subst (λ x. x < 2 * P) (sym er) (less-lt a (2 * P) (omega (arith, a-low))),
@@ -99,15 +104,18 @@ made-canonical n x r h e er = (sym (mod-eq-of-lt low) ∙ ap (λ y. y % P) er �
     low = subst (λ y. y < P) (sym er) (less-lt x P h)
 
 -- ---- a sum of two words, with its carry
-pub carries : (u s p l h n : ℕ) → s < 2 ^ 64 → p ≡ n % 2 ^ 64 → h ≡ n / 2 ^ 64 → l ≡ (s + p) % 2 ^ 64 → l < p → (u + h + 1) * 2 ^ 64 + l ≡ u * 2 ^ 64 + s + n
+pub carries : (u s p l h n : ℕ) → s < 2 ^ 64 → p ≡ n % 2 ^ 64 → h ≡ n / 2 ^ 64 → l ≡ (s + p) % 2 ^ 64 → l < p →
+    (u + h + 1) * 2 ^ 64 + l ≡ u * 2 ^ 64 + s + n
 carries u s p l h n hs ep eh el lt = omega arith
 
-pub carries-none : (u s p l h n : ℕ) → s < 2 ^ 64 → p ≡ n % 2 ^ 64 → h ≡ n / 2 ^ 64 → l ≡ (s + p) % 2 ^ 64 → p ≤ l → (u + h) * 2 ^ 64 + l ≡ u * 2 ^ 64 + s + n
+pub carries-none : (u s p l h n : ℕ) → s < 2 ^ 64 → p ≡ n % 2 ^ 64 → h ≡ n / 2 ^ 64 → l ≡ (s + p) % 2 ^ 64 → p ≤ l →
+    (u + h) * 2 ^ 64 + l ≡ u * 2 ^ 64 + s + n
 carries-none u s p l h n hs ep eh el le = omega arith
 
 -- the upper word of a product of two canonical words
 pub upper-small : (a b : ℕ) → a < P → b < P → a * b / 2 ^ 64 < 2 ^ 59
-upper-small a b ha hb = shr-lt 59 64 (lt-of-le-of-lt (mul-le-mul {n₂ = 2305843095113039872} {m₂ = 2305843095113039872} (omega arith) (omega arith)) (lit< tt))
+upper-small a b ha hb = shr-lt 59 64 (lt-of-le-of-lt (mul-le-mul {n₂ = 2305843095113039872} {m₂ = 2305843095113039872}
+    (omega arith) (omega arith)) (lit< tt))
 
 -- the upper word reduced first leaves the remainder as it was
 pub upper-same : (hi lo u : ℕ) → u % P ≡ hi % P → (u * 2 ^ 64 + lo) % P ≡ (hi * 2 ^ 64 + lo) % P
@@ -117,7 +125,8 @@ upper-same hi lo u e =
     ∙ sym (add-mod (hi * 2 ^ 64) lo P)
 
 -- what is left of n after q times p, less 4p, 2p and p where it reaches them
-pub folded : (n q left a b r : ℕ) → left + q * P ≡ n → left < 6 * P → a ≡ reduceOnce left (4 * P) → b ≡ reduceOnce a (2 * P) → r ≡ reduceOnce b P → (r ≡ n % P) × (r < P)
+pub folded : (n q left a b r : ℕ) → left + q * P ≡ n → left < 6 * P → a ≡ reduceOnce left (4 * P) → b ≡ reduceOnce a
+    (2 * P) → r ≡ reduceOnce b P → (r ≡ n % P) × (r < P)
 folded n q left a b r e h ea eb er = (sym (mod-eq-of-lt low) ∙ same, low)
   where
     a-low : a < 4 * P

@@ -21,7 +21,8 @@ pub word-scaled : (m : List ℕ) (by t : ℕ) → t < 144 → word m by t ≡ sc
 word-scaled m by t h = rw (lt-ltb t 144 h) refl
 
 pub word-end : (m : List ℕ) (by i : ℕ) → word m by (144 + i) ≡ 2 * P - neighbours (λ j. scaled m by (12 * i + j))
-word-end m by i = rw (le-ltb (144 + i) 144 (omega arith)) (ap (λ k. 2 * P - neighbours (λ j. scaled m by (12 * k + j))) e)
+word-end m by i = rw (le-ltb (144 + i) 144 (omega arith))
+    (ap (λ k. 2 * P - neighbours (λ j. scaled m by (12 * k + j))) e)
   where
     e : 144 + i - 144 ≡ i
     e = omega arith
@@ -40,5 +41,7 @@ ready-is m by =
     record {
       size = length-tab 156 (word m by);
       canonical = λ t h. subst (λ x. x < P) (sym (cell-ready m by t h)) (scaled-lt m by t);
-      ends = λ i h. cell-tab 156 (word m by) (144 + i) (omega arith) ∙ word-end m by i ∙ ap (λ x. 2 * P - x) (neighbours-ext (λ j. scaled m by (12 * i + j)) (λ j. cell (ready m by) (12 * i + j)) (λ j l. sym (cell-ready m by (12 * i + j) (omega arith))));
+      ends = λ i h. cell-tab 156 (word m by) (144 + i) (omega arith) ∙ word-end m by i ∙ ap (λ x. 2 * P - x)
+          (neighbours-ext (λ j. scaled m by (12 * i + j)) (λ j. cell (ready m by) (12 * i + j))
+          (λ j l. sym (cell-ready m by (12 * i + j) (omega arith))));
     }

@@ -60,7 +60,9 @@ pub fn ready(m: &[u64], by: u64) -> [u64; 156]
 // Cell i of the matrix times s, divided by 2^64, plus k; the excess is s's neighbours.
 pub fn cell_plus(ready: &[u64], i: usize, s: &[u64], excess: u64, k: u64) -> u64
     requires { ⌜ IsReady (now ready) × (i < 12) × (length (now s) ≡ 12) × CanonicalTo 12 (now s) × (excess ≡ neighbours (cell (now s))) × Canonical k ⌝ }
-    ensures { λ r. ⌜ (r % P ≡ (divided (sum 12 (λ j. cell (now (ready .entry)) (12 * i + j) * cell (now (s .entry)) j)) + k) % P) × Short r ⌝ }
+    ensures { λ r. ⌜
+        (r % P ≡ (divided (sum 12 (λ j. cell (now (ready .entry)) (12 * i + j) * cell (now (s .entry)) j)) + k) % P)
+        × Short r ⌝ }
 {
     let start = 12 * i;
     // Six, but the compiler shall learn it in the callers, into whose loops it then takes this one.

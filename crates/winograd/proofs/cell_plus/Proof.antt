@@ -16,7 +16,8 @@ use Rattle.winograd.proofs.cell_plus.Statement.{statement}
 use Rattle.winograd.proofs.cell_plus.Tie as tie
 
 abbrev Inv-loop : tie.InvT-loop
-Inv-loop ready i s excess k start pairs sum₀ j₀ sum j = (j ≤ 6) × (valueOf sum ≡ (cell ready (144 + i) - excess + k) * 2 ^ 64 + total j (cross (λ n. cell ready (12 * i + n)) (cell s)))
+Inv-loop ready i s excess k start pairs sum₀ j₀ sum j = (j ≤ 6) × (valueOf sum ≡ (cell ready (144 + i) - excess + k) *
+    2 ^ 64 + total j (cross (λ n. cell ready (12 * i + n)) (cell s)))
 
 abbrev μ-loop : tie.MeasureT-loop
 μ-loop ready i s excess k start pairs sum₀ j₀ sum j = 6 - j
@@ -35,8 +36,10 @@ module _ (a : tie.Start Inv-loop μ-loop) where
   excess-lt : a .args .excess < P
   excess-lt = omega (arith, a .pre .4, neighbours-lt column)
 
-  over : (a .args .excess ≤ end) × ((end - a .args .excess + a .args .k) + (neighbours row + a .args .excess) ≡ a .args .k + P * 2)
-  over = starts end (neighbours row) (a .args .excess) (a .args .k) (a .pre .0 .ends (a .args .i) (a .pre .1)) (neighbours-lt row) excess-lt
+  over : (a .args .excess ≤ end) × ((end - a .args .excess + a .args .k) + (neighbours row + a .args .excess) ≡ a
+      .args .k + P * 2)
+  over = starts end (neighbours row) (a .args .excess) (a .args .k) (a .pre .0 .ends (a .args .i) (a .pre .1))
+      (neighbours-lt row) excess-lt
 
   row-canonical : (n : ℕ) → n < 12 → Canonical (row n)
   row-canonical n h = a .pre .0 .canonical (12 * a .args .i + n) (omega (arith, a .pre .1))
@@ -61,8 +64,11 @@ add-t18 c = let a = c .before .before .before in omega (arith, over a .1, a .pre
 
 loop-holds : tie.Need-loop-holds Inv-loop μ-loop
 loop-holds c =
-    let a = c .before .before .before in
-    (omega arith, sym (ap (λ x. (end a - a .args .excess + a .args .k) * 2 ^ 64 + x) (sum-zero (cross (row a) (column a)))))
+    let a = c .before .before .before in (
+      omega arith,
+      sym (ap (λ x. (end a - a .args .excess + a .args .k) * 2 ^ 64 + x)
+          (sum-zero (cross (row a) (column a)))),
+    )
 
 mul-even : tie.Need-mul-even Inv-loop μ-loop
 mul-even c = omega arith
@@ -80,7 +86,8 @@ mul-plus : tie.Need-mul-plus Inv-loop μ-loop
 mul-plus c = omega arith
 
 shared-slice-read-plus : tie.Need-shared-slice-read-plus Inv-loop μ-loop
-shared-slice-read-plus c = let a = c .before .before .before .before .before .before in omega (arith, a .pre .0 .size, a .pre .1)
+shared-slice-read-plus c = let a = c .before .before .before .before .before .before in omega
+    (arith, a .pre .0 .size, a .pre .1)
 
 mul-plus-2 : tie.Need-mul-plus-2 Inv-loop μ-loop
 mul-plus-2 c = omega arith
@@ -101,7 +108,8 @@ mul-plus-3 : tie.Need-mul-plus-3 Inv-loop μ-loop
 mul-plus-3 c = omega arith
 
 shared-slice-read-plus-3 : tie.Need-shared-slice-read-plus-3 Inv-loop μ-loop
-shared-slice-read-plus-3 c = let a = c .before .before .before .before .before .before .before .before in omega (arith, a .pre .0 .size, a .pre .1)
+shared-slice-read-plus-3 c = let a = c .before .before .before .before .before .before .before .before in omega
+    (arith, a .pre .0 .size, a .pre .1)
 
 mul-plus-4 : tie.Need-mul-plus-4 Inv-loop μ-loop
 mul-plus-4 c = omega arith
@@ -123,9 +131,12 @@ plus-requires c κs =
     omega (
       arith,
       over a .1,
-      cross-room n (l .loop .sum .0) (l .loop .sum .1) (end a - a .args .excess + a .args .k) (row a) (column a) (l .loop .inv .0) (row-canonical a) (a .pre .3) (l .loop .inv .1),
+      cross-room n (l .loop .sum .0) (l .loop .sum .1) (end a - a .args .excess + a .args .k) (row a) (column a)
+          (l .loop .inv .0) (row-canonical a) (a .pre .3) (l .loop .inv .1),
       a .pre .5,
-      upper-small (row a (2 * n) + column a (2 * n + 1)) (row a (2 * n + 1) + column a (2 * n)) (omega (arith, row-canonical a (2 * n) (omega arith), a .pre .3 (2 * n + 1) (omega arith))) (omega (arith, row-canonical a (2 * n + 1) (omega arith), a .pre .3 (2 * n) (omega arith))),
+      upper-small (row a (2 * n) + column a (2 * n + 1)) (row a (2 * n + 1) + column a (2 * n))
+          (omega (arith, row-canonical a (2 * n) (omega arith), a .pre .3 (2 * n + 1) (omega arith)))
+          (omega (arith, row-canonical a (2 * n + 1) (omega arith), a .pre .3 (2 * n) (omega arith))),
     )
 
 add-j : tie.Need-add-j Inv-loop μ-loop
@@ -143,8 +154,11 @@ loop-again c =
     let a = l .before .before .before .before in
     let n = l .loop .j in
     let f : ℕ → ℕ = cross (row a) (column a) in
-    let from = (end a - a .args .excess + a .args .k) * 2 ^ 64 in
-    (omega arith, c .plus .ensures ∙ ap (λ v. v + f n) (l .loop .inv .1) ∙ joined from (total n f) (f n) ∙ ap (λ v. from + v) (sym (sum-suc n f)) ∙ ap (λ k. from + total k f) (sym (add-one n)))
+    let from = (end a - a .args .excess + a .args .k) * 2 ^ 64 in (
+      omega arith,
+      c .plus .ensures ∙ ap (λ v. v + f n) (l .loop .inv .1) ∙ joined from (total n f) (f n) ∙ ap
+          (λ v. from + v) (sym (sum-suc n f)) ∙ ap (λ k. from + total k f) (sym (add-one n)),
+    )
 
 divided-requires : tie.Need-divided-requires Inv-loop μ-loop
 divided-requires c κs =
@@ -153,7 +167,8 @@ divided-requires c κs =
     omega (
       arith,
       over a .1,
-      cross-room (l .loop .j) (l .loop .sum .0) (l .loop .sum .1) (end a - a .args .excess + a .args .k) (row a) (column a) (l .loop .inv .0) (row-canonical a) (a .pre .3) (l .loop .inv .1),
+      cross-room (l .loop .j) (l .loop .sum .0) (l .loop .sum .1) (end a - a .args .excess + a .args .k) (row a)
+          (column a) (l .loop .inv .0) (row-canonical a) (a .pre .3) (l .loop .inv .1),
       a .pre .5,
     )
 
@@ -163,8 +178,11 @@ returns c =
     let a = l .before .before .before .before in
     let e : l .loop .j ≡ 6 = omega arith in (
       c .divided .ensures .0
-          ∙ ap divided (l .loop .inv .1 ∙ ap (λ n. (end a - a .args .excess + a .args .k) * 2 ^ 64 + total n (cross (row a) (column a))) e)
-          ∙ inner (row a) (column a) (end a - a .args .excess + a .args .k) (a .args .k) (ap (λ w. (end a - a .args .excess + a .args .k) + (neighbours (row a) + w)) (sym (a .pre .4)) ∙ over a .1),
+          ∙ ap divided (l .loop .inv .1 ∙ ap (λ n. (end a - a .args .excess + a .args .k) * 2 ^ 64 + total n
+          (cross (row a) (column a))) e)
+          ∙ inner (row a) (column a) (end a - a .args .excess + a .args .k) (a .args .k)
+          (ap (λ w. (end a - a .args .excess + a .args .k) + (neighbours (row a) + w)) (sym (a .pre .4)) ∙ over a
+          .1),
       c .divided .ensures .1,
     )
 

@@ -50,7 +50,13 @@ plus-requires c κs =
     let l = c .before .before .before in
     let a = l .before .before in
     let n = l .loop .j in
-    omega (arith, near-room n (l .loop .sum .0) (l .loop .sum .1) (cell (a .args .s .now)) (l .loop .inv .0) (a .pre .1) (l .loop .inv .1), upper-small (cell (a .args .s .now) (2 * n)) (cell (a .args .s .now) (2 * n + 1)) (a .pre .1 (2 * n) (omega arith)) (a .pre .1 (2 * n + 1) (omega arith)))
+    omega (
+      arith,
+      near-room n (l .loop .sum .0) (l .loop .sum .1) (cell (a .args .s .now)) (l .loop .inv .0)
+          (a .pre .1) (l .loop .inv .1),
+      upper-small (cell (a .args .s .now) (2 * n))
+          (cell (a .args .s .now) (2 * n + 1)) (a .pre .1 (2 * n) (omega arith)) (a .pre .1 (2 * n + 1) (omega arith)),
+    )
 
 add-j : tie.Need-add-j Inv-loop μ-loop
 add-j c = omega arith
@@ -62,14 +68,21 @@ loop-again : tie.Need-loop-again Inv-loop μ-loop
 loop-again c =
     let l = c .before .before .before .before in
     let f : ℕ → ℕ = near (cell (l .before .before .args .s .now)) in
-    let n = l .loop .j in
-    (omega arith, c .plus .ensures ∙ ap (λ v. v + f n) (l .loop .inv .1) ∙ sym (sum-suc n f) ∙ ap (λ k. total k f) (sym (add-one n)))
+    let n = l .loop .j in (
+      omega arith,
+      c .plus .ensures ∙ ap (λ v. v + f n) (l .loop .inv .1) ∙ sym (sum-suc n f) ∙ ap (λ k. total k f)
+          (sym (add-one n)),
+    )
 
 divided-requires : tie.Need-divided-requires Inv-loop μ-loop
 divided-requires c κs =
     let l = c .before in
     let a = l .before .before in
-    omega (arith, near-room (l .loop .j) (l .loop .sum .0) (l .loop .sum .1) (cell (a .args .s .now)) (l .loop .inv .0) (a .pre .1) (l .loop .inv .1))
+    omega (
+      arith,
+      near-room (l .loop .j) (l .loop .sum .0) (l .loop .sum .1) (cell (a .args .s .now))
+          (l .loop .inv .0) (a .pre .1) (l .loop .inv .1),
+    )
 
 reduce-once-requires : tie.Need-reduce-once-requires Inv-loop μ-loop
 reduce-once-requires c κs = search needs
@@ -80,7 +93,10 @@ returns c =
     let d = c .before in
     let l = d .before .before in
     let e : l .loop .j ≡ 6 = omega arith in
-    made-canonical _ (d .divided .result) (c .reduce-once .result) (d .divided .ensures .1) (d .divided .ensures .0 ∙ ap divided (l .loop .inv .1 ∙ ap (λ n. total n (near (cell (l .before .before .args .s .now)))) e)) (c .reduce-once .ensures)
+    made-canonical _ (d .divided .result) (c .reduce-once .result) (d .divided .ensures .1)
+    (d .divided .ensures .0 ∙ ap divided
+    (l .loop .inv .1 ∙ ap (λ n. total n (near (cell (l .before .before .args .s .now)))) e))
+    (c .reduce-once .ensures)
 
 pub neighbours-spec : {M : Type 1} → statement M
 neighbours-spec =

@@ -26,8 +26,13 @@ scale-requires c κs = search needs
 loop-holds : tie.Need-loop-holds Inv-loop μ-loop
 loop-holds c =
     let a = c .before .before in
-    let s = c .scale in
-    (omega arith, s .ensures .0, filled-same 144 (word (a .args .m .now) (a .args .by)) (s .result) (omega (arith, s .ensures .0)) (λ t h. s .ensures .1 t h ∙ sym (word-scaled (a .args .m .now) (a .args .by) t h)))
+    let s = c .scale in (
+      omega arith,
+      s .ensures .0,
+      filled-same 144 (word (a .args .m .now) (a .args .by)) (s .result)
+          (omega (arith, s .ensures .0))
+          (λ t h. s .ensures .1 t h ∙ sym (word-scaled (a .args .m .now) (a .args .by) t h)),
+    )
 
 mul-start : tie.Need-mul-start Inv-loop μ-loop
 mul-start c = omega arith
@@ -51,19 +56,26 @@ part-neighbours-end : tie.Need-part-neighbours-end Inv-loop μ-loop
 part-neighbours-end c = omega arith
 
 -- the row that is read back
-row : (l : tie.At-loop Inv-loop μ-loop) → l .loop .i < 12 → (j : ℕ) → j < 12 → cell (l .loop .out) (12 * l .loop .i + j) ≡ scaled (l .before .before .before .args .m .now) (l .before .before .before .args .by) (12 * l .loop .i + j)
+row : (l : tie.At-loop Inv-loop μ-loop) → l .loop .i < 12 → (j : ℕ) → j < 12 → cell (l .loop .out)
+    (12 * l .loop .i + j) ≡ scaled (l .before .before .before .args .m .now) (l .before .before .before .args .by)
+    (12 * l .loop .i + j)
 row l hi j h =
     let a = l .before .before .before in
     ap (λ x. cell x (12 * l .loop .i + j)) (l .loop .inv .2)
-    ∙ filled-before (144 + l .loop .i) (word (a .args .m .now) (a .args .by)) (l .before .scale .result) (12 * l .loop .i + j) (omega arith)
+    ∙ filled-before (144 + l .loop .i) (word (a .args .m .now) (a .args .by)) (l .before .scale .result)
+    (12 * l .loop .i + j) (omega arith)
     ∙ word-scaled (a .args .m .now) (a .args .by) (12 * l .loop .i + j) (omega arith)
 
 neighbours-requires : tie.Need-neighbours-requires Inv-loop μ-loop
 neighbours-requires c κs =
     let l = c .before .before .before in
     let a = l .before .before .before in
-    let at = 12 * l .loop .i in
-    (length-part (l .loop .out) at (at + 12 - at) (omega (arith, l .loop .inv .1)) ∙ omega arith, λ j h. subst (λ x. x < P) (sym (cell-part (l .loop .out) at (at + 12 - at) j (omega arith) ∙ row l (omega arith) j h)) (scaled-lt (a .args .m .now) (a .args .by) (at + j)))
+    let at = 12 * l .loop .i in (
+      length-part (l .loop .out) at (at + 12 - at) (omega (arith, l .loop .inv .1)) ∙ omega arith,
+      λ j h. subst
+          (λ x. x < P) (sym (cell-part (l .loop .out) at (at + 12 - at) j (omega arith) ∙ row l (omega arith) j h))
+          (scaled-lt (a .args .m .now) (a .args .by) (at + j)),
+    )
 
 sub-out : tie.Need-sub-out Inv-loop μ-loop
 sub-out c = omega (arith, c .neighbours .ensures .1)
@@ -91,12 +103,15 @@ loop-again c =
     let f = word (a .args .m .now) (a .args .by) in
     let old = l .before .scale .result in
     let v : 2 * P - c .neighbours .result ≡ f (144 + i) =
-    ap (λ x. 2 * P - x) (c .neighbours .ensures .0 ∙ neighbours-ext _ (λ j. scaled (a .args .m .now) (a .args .by) (12 * i + j)) (λ j h. cell-part (l .loop .out) (12 * i) (12 * i + 12 - 12 * i) j (omega arith) ∙ row l (omega arith) j h))
+    ap (λ x. 2 * P - x) (c .neighbours .ensures .0 ∙ neighbours-ext _ (λ j. scaled (a .args .m .now) (a .args .by)
+    (12 * i + j)) (λ j h. cell-part (l .loop .out) (12 * i) (12 * i + 12 - 12 * i) j (omega arith) ∙ row l
+    (omega arith) j h))
     ∙ sym (word-end (a .args .m .now) (a .args .by) i) in
     let next : 144 + i + 1 ≡ 144 + (i + 1) = omega arith in (
       omega arith,
       length-set (l .loop .out) (144 + i) (2 * P - c .neighbours .result) ∙ l .loop .inv .1,
-      filled-more f (144 + i) (2 * P - c .neighbours .result) old (l .loop .out) (omega (arith, l .before .scale .ensures .0)) v (l .loop .inv .2) ∙ ap (λ n. filled n f old) next,
+      filled-more f (144 + i) (2 * P - c .neighbours .result) old (l .loop .out)
+          (omega (arith, l .before .scale .ensures .0)) v (l .loop .inv .2) ∙ ap (λ n. filled n f old) next,
     )
 
 returns : tie.Need-returns Inv-loop μ-loop

@@ -52,14 +52,18 @@ loop-less : tie.Need-loop-less Inv-loop μ-loop
 loop-less c = omega arith
 
 -- the word that is stored
-word : (c : tie.After-reduce-once Inv-loop μ-loop) → c .reduce-once .result ≡ scaled (c .before .before .before .before .before .before .args .m .now) (c .before .before .before .before .before .before .args .by) (c .before .before .before .before .loop .t)
+word : (c : tie.After-reduce-once Inv-loop μ-loop) → c .reduce-once .result ≡ scaled
+    (c .before .before .before .before .before .before .args .m .now) (c .before .before .before .before .before
+    .before .args .by) (c .before .before .before .before .loop .t)
 unfolding scaled
 word c =
     let r = c .before in
     let l = r .before .before .before in
     let a = l .before .before in
     let x = cell (a .args .m .now) (l .loop .t) in
-    made-canonical (divided (x * a .args .by)) (r .times .result) (c .reduce-once .result) (r .times .ensures .2) (ap (λ y. y % P) (r .times .ensures .0) ∙ times-divided x (a .args .by) (omega (arith, a .pre .1 (l .loop .t) (omega arith))) (omega (arith, a .pre .2))) (c .reduce-once .ensures) .0
+    made-canonical (divided (x * a .args .by)) (r .times .result) (c .reduce-once .result) (r .times .ensures .2)
+    (ap (λ y. y % P) (r .times .ensures .0) ∙ times-divided x (a .args .by)
+    (omega (arith, a .pre .1 (l .loop .t) (omega arith))) (omega (arith, a .pre .2))) (c .reduce-once .ensures) .0
 
 loop-again : tie.Need-loop-again Inv-loop μ-loop
 loop-again c =
@@ -67,8 +71,12 @@ loop-again c =
     let a = l .before .before in
     let t = l .loop .t in
     let f = scaled (a .args .m .now) (a .args .by) in
-    let v : c .reduce-once .result ≡ f t = word c in
-    (omega arith, length-set (l .loop .out) t (c .reduce-once .result) ∙ l .loop .inv .1, filled-more f t (c .reduce-once .result) _ (l .loop .out) (omega arith) v (l .loop .inv .2))
+    let v : c .reduce-once .result ≡ f t = word c in (
+      omega arith,
+      length-set (l .loop .out) t (c .reduce-once .result) ∙ l .loop .inv .1,
+      filled-more f t
+          (c .reduce-once .result) _ (l .loop .out) (omega arith) v (l .loop .inv .2),
+    )
 
 returns : tie.Need-returns Inv-loop μ-loop
 returns c =

@@ -21,7 +21,9 @@ reduce-once-requires-2 : tie.Need-reduce-once-requires-2
 reduce-once-requires-2 c κs = search needs
 
 returns : tie.Need-returns
-returns c = shortened _ (c .before .before .reduce .result) _ _ (search needs) (c .before .before .reduce .ensures .1) (c .before .reduce-once .ensures) (c .reduce-once2 .ensures)
+returns c = shortened _ (c .before .before .reduce .result) _ _ (search needs) (c .before .before .reduce .ensures .1)
+    (c .before .reduce-once .ensures) (c .reduce-once2 .ensures)
 
 pub divided-spec : {M : Type 1} → statement M
-divided-spec = tie.close (tie.spec reduce-requires mul-reduce-once reduce-once-requires mul-reduce-once-2 reduce-once-requires-2 returns)
+divided-spec = tie.close (tie.spec reduce-requires mul-reduce-once reduce-once-requires mul-reduce-once-2
+    reduce-once-requires-2 returns)

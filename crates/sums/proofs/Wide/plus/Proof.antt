@@ -30,13 +30,17 @@ returns : tie.Need-returns
 returns c =
     let h = c .before .before .before .before in
     let a = h .before .args in
-    carries (a .self .0) (a .self .1) _ _ _ (a .a * a .b) (search needs) (c .before .before .before .low .ensures) (h .high .ensures) (c .before .before .wrapping-add-u64 .ensures) (c .before .if1 .taken)
+    carries (a .self .0) (a .self .1) _ _ _ (a .a * a .b) (search needs) (c .before .before .before .low .ensures)
+    (h .high .ensures) (c .before .before .wrapping-add-u64 .ensures) (c .before .if1 .taken)
 
 returns-2 : tie.Need-returns-2
 returns-2 c =
     let h = c .before .before .before .before in
     let a = h .before .args in
-    carries-none (a .self .0) (a .self .1) _ _ _ (a .a * a .b) (search needs) (c .before .before .before .low .ensures) (h .high .ensures) (c .before .before .wrapping-add-u64 .ensures) (c .before .if1 .left)
+    carries-none (a .self .0) (a .self .1) _ _ _ (a .a * a .b) (search needs)
+    (c .before .before .before .low .ensures) (h .high .ensures) (c .before .before .wrapping-add-u64 .ensures)
+    (c .before .if1 .left)
 
 pub plus-spec : {M : Type 1} → statement M
-plus-spec = tie.close (tie.spec high-requires low-requires wrapping-add-u64-requires add-t9 add-t10 add-t11 returns returns-2)
+plus-spec = tie.close (tie.spec high-requires low-requires wrapping-add-u64-requires add-t9 add-t10 add-t11 returns
+    returns-2)

@@ -18,7 +18,12 @@ reduce-once-requires c κs = search needs
 
 -- the reduced upper word
 upper-low : (c : tie.After-reduce-once) → c .reduce-once .result < P
-upper-low c = omega (arith, c .reduce-once .ensures, less-lt (c .before .args .self .0) P (omega (arith, c .before .pre)))
+upper-low c = omega (
+  arith,
+  c .reduce-once .ensures,
+  less-lt (c .before .args .self .0) P
+      (omega (arith, c .before .pre)),
+)
 
 mul-high : tie.Need-mul-high
 mul-high c = omega (arith, upper-low c)
@@ -30,7 +35,11 @@ high-requires : tie.Need-high-requires
 high-requires c κs = search needs
 
 mul-quotient : tie.Need-mul-quotient
-mul-quotient c = record { fits = wide-fits (c .before .before .reduce-once .result) (c .before .before .before .args .self .1) (upper-low (c .before .before)) (search needs) (c .high .result) (c .high .ensures) }
+mul-quotient c = record {
+  fits = wide-fits (c .before .before .reduce-once .result)
+      (c .before .before .before .args .self .1) (upper-low (c .before .before)) (search needs) (c .high .result)
+      (c .high .ensures);
+}
 
 low-requires : tie.Need-low-requires
 low-requires c κs = search needs
@@ -74,17 +83,26 @@ module _ (c : tie.After-wrapping-sub-u64) where
 
   -- what the subtraction leaves, without its wrap
   exact : c .wrapping-sub-u64 .result + q * P ≡ up * 2 ^ 64 + lo
-  exact = unwrapped (c .wrapping-sub-u64 .result) (q * P) (up * 2 ^ 64 + lo) (omega arith) (wide-in up lo up-low lo-low _ (c .before .before .high .ensures)) (lt-of-lt-of-le (wide-out up lo up-low lo-low _ (c .before .before .high .ensures)) (add-le-add (le-refl (q * P)) (lit≤ tt))) (ap (λ m. (c .wrapping-sub-u64 .result + m) % 2 ^ 64) (sym (c .before .low .ensures)) ∙ c .wrapping-sub-u64 .ensures ∙ sym lower)
+  exact = unwrapped (c .wrapping-sub-u64 .result) (q * P) (up * 2 ^ 64 + lo) (omega arith)
+      (wide-in up lo up-low lo-low _ (c .before .before .high .ensures))
+      (lt-of-lt-of-le (wide-out up lo up-low lo-low _ (c .before .before .high .ensures))
+      (add-le-add (le-refl (q * P)) (lit≤ tt))) (ap (λ m. (c .wrapping-sub-u64 .result + m) % 2 ^ 64)
+      (sym (c .before .low .ensures)) ∙ c .wrapping-sub-u64 .ensures ∙ sym lower)
 
   left-low : c .wrapping-sub-u64 .result < 6 * P
-  left-low = add-lt-cancel-left (q * P) (subst₂ _<_ (sym exact ∙ add-comm (c .wrapping-sub-u64 .result) (q * P)) refl (wide-out up lo up-low lo-low _ (c .before .before .high .ensures)))
+  left-low = add-lt-cancel-left (q * P) (subst₂ _<_ (sym exact ∙ add-comm (c .wrapping-sub-u64 .result) (q * P)) refl
+      (wide-out up lo up-low lo-low _ (c .before .before .high .ensures)))
 
 returns : tie.Need-returns
 returns c =
     let w = c .before .before .before in
     let hi = w .before .before .before .before .before .args .self .0 in
-    let f = folded (up w * 2 ^ 64 + lo w) (q w) (w .wrapping-sub-u64 .result) _ _ _ (exact w) (left-low w) (c .before .before .reduce-once2 .ensures) (c .before .reduce-once3 .ensures) (c .reduce-once4 .ensures) in
-    (f .0 ∙ upper-same hi (lo w) (up w) (ap (λ x. x % P) (w .before .before .before .before .reduce-once .ensures) ∙ less-same hi P 1 refl), f .1)
+    let f = folded (up w * 2 ^ 64 + lo w) (q w) (w .wrapping-sub-u64 .result) _ _ _ (exact w) (left-low w)
+    (c .before .before .reduce-once2 .ensures) (c .before .reduce-once3 .ensures) (c .reduce-once4 .ensures) in (
+      f .0 ∙ upper-same hi (lo w) (up w) (ap (λ x. x % P) (w .before .before .before .before .reduce-once .ensures) ∙
+          less-same hi P 1 refl),
+      f .1,
+    )
 
 pub remainder-spec : {M : Type 1} → statement M
 remainder-spec =
