@@ -1,4 +1,4 @@
-/* Lemoncolumn: the proved operations of document 01, for C.
+/* Lemoncolumn: the proved operations of documents 01 and 02, for C.
  *
  * Link with libexport.a, which `rt staticlib export` writes to target/staticlib/ (x86-64 Linux).
  *
@@ -65,6 +65,13 @@ lemoncolumn_code lemoncolumn_check(const uint64_t *table, size_t table_words, co
 lemoncolumn_code lemoncolumn_read_off(const uint64_t *table, size_t table_words, const uint64_t *trace, size_t trace_words, uint64_t c0,
                                       uint64_t c1, uint64_t c2, uint64_t c3, uint64_t *taps, size_t tap_words);
 
+/* Tests the trace against the claim (c0 .. c3), and replaces tap number `tap` of its list, 0 to 3k, by (w0 .. w3). The trace is
+ * read and written: it becomes that of the altered list. Writes the four words to which that list chains: 1, 2, 4, 7, 15, 8,
+ * 9, 10, 6, 11. */
+lemoncolumn_code lemoncolumn_edit(const uint64_t *table, size_t table_words, uint64_t *trace, size_t trace_words, uint64_t c0, uint64_t c1,
+                                  uint64_t c2, uint64_t c3, size_t tap, uint64_t w0, uint64_t w1, uint64_t w2, uint64_t w3, uint64_t *output,
+                                  size_t output_words);
+
 /* Writes the board file of taps and claim: 5, 8, 9, 6. */
 lemoncolumn_code lemoncolumn_pack(const uint64_t *taps, size_t tap_words, uint64_t c0, uint64_t c1, uint64_t c2, uint64_t c3, uint8_t *file,
                                   size_t file_bytes);
@@ -72,7 +79,7 @@ lemoncolumn_code lemoncolumn_pack(const uint64_t *taps, size_t tap_words, uint64
 /* Writes the taps and the claim of a board file: 12 (below 4 bytes), 13 and 14 of word 0, 12, 8, then 13 and 14 of each element. */
 lemoncolumn_code lemoncolumn_unpack(const uint8_t *file, size_t file_bytes, uint64_t *taps, size_t tap_words, uint64_t *claim, size_t claim_words);
 
-/* What is turned back (document 01). */
+/* What is turned back (document 01, and document 02 from 15 on). */
 enum lemoncolumn_refusal {
     LEMONCOLUMN_ACCEPTED = 0,           /* no refusal */
     LEMONCOLUMN_TABLE_LENGTH = 1,       /* table not 396 words raw, 540 prepared */
@@ -88,7 +95,8 @@ enum lemoncolumn_refusal {
     LEMONCOLUMN_CONSTRAINT = 11,        /* a constraint fails: the row in the whole trace, the constraint, the tests walked */
     LEMONCOLUMN_FILE_LENGTH = 12,       /* file below 4 bytes, or not 144k + 100 */
     LEMONCOLUMN_WRONG_KIND = 13,        /* wrong kind: index of the 32-bit word */
-    LEMONCOLUMN_WRONG_VALUE = 14        /* spare bits or k not permitted: index 0; element not canonical: index of its first 32-bit word */
+    LEMONCOLUMN_WRONG_VALUE = 14,       /* spare bits or k not permitted: index 0; element not canonical: index of its first 32-bit word */
+    LEMONCOLUMN_NO_SUCH_TAP = 15        /* tap number above 3k */
 };
 
 /* Bits 0 to 5: the refusal, 0 for acceptance. */

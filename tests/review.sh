@@ -27,10 +27,10 @@ find crates/*/src -name '*.rt' | sort | while read -r file; do
 done >"$work/functions"
 [ -s "$work/functions" ] || wrong "no public function was found"
 
-# ---- the table of section 6 beside them. Entry points are document 01's operations, the table test, and whatever other
-# languages link
+# ---- the table of section 6 beside them. Entry points are the operations of documents 01 and 02, the table test, and
+# whatever other languages link
 operations="table::test table::prepare hash::hash hash::chain trace::build checker::check readoff::read_off"
-operations="$operations board::pack board::unpack clearing::clear"
+operations="$operations edit::edit board::pack board::unpack clearing::clear"
 awk -F '\t' -v operations=" $operations " '
     function bad(text) { print "tests/review.sh: " name ": " text }
     function apart(text) { text = " " text " "; gsub(/[() ]+/, " ", text); return text }
@@ -83,7 +83,12 @@ awk 'FNR == 1 { fence = 0 } /^```/ { fence = !fence; next }
 # ---- theorems: those of section 1, and where a row of a table ends in the file that has them
 declared='^ *(pub )?(unfoldable |abbrev )?'
 awk 'function each(file, cell) { m = split(cell, word, "`"); for (i = 2; i <= m; i += 2) print file, word[i] }
-    /^\| [123] \|/ { split($0, part, / \| /); each("crates/demands/specs/Demand" substr($0, 3, 1) ".antt", part[3]) }
+    /^\| U?[0-9]+ \| .* \| .* \| / {
+        split($0, part, / \| /)
+        stated = part[1]; sub(/^\| /, "", stated)
+        if (!sub(/^U/, "Request", stated)) stated = "Demand" stated
+        each("crates/demands/specs/" stated ".antt", part[3])
+    }
     /^\|.*\| `crates\/[^`]*\.antt` \|$/ {
         n = split($0, part, / \| /)
         file = part[n]; gsub(/[`| ]/, "", file)
@@ -93,19 +98,27 @@ awk 'function each(file, cell) { m = split(cell, word, "`"); for (i = 2; i <= m;
         [ ! -e "$file" ] || grep -qE "$declared$name :" "$file" || wrong "$file has no $name"
     done
 
-# ---- the demands, to the letter: each statement is closed and stands in specs/, and each theorem is of that type, with
-# no parameter and in no section
+# ---- the demands and the requests, to the letter: each statement is closed and stands in specs/, and each theorem is of
+# that type, with no parameter and in no section
+statements=$(cd crates/demands/specs && echo Demand[0-9]*.antt Request[0-9]*.antt | sed 's/\.antt//g')
 for n in 1 2 3; do
-    stated=crates/demands/specs/Demand$n.antt
-    proved=crates/demands/proofs/Demand$n.antt
-    [ "$(grep -cx "pub record Demand$n : Type 0 where" "$stated")" = 1 ] ||
-        wrong "$stated does not declare 'pub record Demand$n : Type 0 where'"
-    [ "$(grep -cx "pub demand-$n : Demand$n" "$proved")" = 1 ] ||
-        wrong "$proved does not declare 'pub demand-$n : Demand$n'"
-    grep -qE "^use Rattle\.demands\.specs\.Demand$n\.\{(.*, )?Demand$n\}$" "$proved" ||
-        wrong "$proved does not take Demand$n from $stated"
-    ! grep -nE "^ *(pub |abbrev |unfoldable |record |data )*Demand$n( |\$)" "$proved" ||
-        wrong "$proved declares a Demand$n of its own"
+    case " $statements " in *" Demand$n "*) ;; *) wrong "crates/demands/specs has no Demand$n" ;; esac
+done
+for statement in $statements; do
+    stated=crates/demands/specs/$statement.antt
+    proved=crates/demands/proofs/$statement.antt
+    theorem=$(echo "$statement" | sed 's/Demand/demand-/; s/Request/request-/')
+    [ "$(grep -cx "pub record $statement : Type 0 where" "$stated")" = 1 ] ||
+        wrong "$stated does not declare 'pub record $statement : Type 0 where'"
+    [ "$(grep -cx "pub $theorem : $statement" "$proved")" = 1 ] ||
+        wrong "$proved does not declare 'pub $theorem : $statement'"
+    grep -qE "^use Rattle\.demands\.specs\.$statement\.\{(.*, )?$statement\}$" "$proved" ||
+        wrong "$proved does not take $statement from $stated"
+    ! grep -nE "^ *(pub |abbrev |unfoldable |record |data )*$statement( |\$)" "$proved" ||
+        wrong "$proved declares a $statement of its own"
+    for document in README.md "$page"; do
+        grep -qF "\`$theorem" "$document" || wrong "$document does not name $theorem"
+    done
 done
 
 # ---- section 4, a line for each edit: the edit, the fact and where it stands, then the theorems. What the prover said

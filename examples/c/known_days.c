@@ -1,4 +1,5 @@
-/* The known days of document 01, through the library for C. Prints one line for each; known_days.expected has what they must be. */
+/* The known days of document 01, and edits of them, through the library for C. Prints one line for each; known_days.expected has
+ * what they must be. */
 #include "lemoncolumn.h"
 
 #include <inttypes.h>
@@ -66,6 +67,26 @@ static void hashes(const uint64_t *z, const uint64_t *a, const uint64_t *s)
     show("an output of three words", lemoncolumn_hash(z, LEMONCOLUMN_TABLE_WORDS, 0, 0, 0, 0, 0, LEMONCOLUMN_P, 0, 0, out, 3));
 }
 
+static lemoncolumn_code edit(const uint64_t *z, uint64_t *trace, size_t tap, uint64_t w0, uint64_t w1, uint64_t w2, uint64_t w3, uint64_t *out)
+{
+    return lemoncolumn_edit(z, LEMONCOLUMN_TABLE_WORDS, trace, LEMONCOLUMN_TRACE_WORDS(1), 0, 0, 0, 0, tap, w0, w1, w2, w3, out,
+                            LEMONCOLUMN_DIGEST_WORDS);
+}
+
+/* Of the trace whose taps are zeros but w_2, under the claim (0,0,0,0). Under Z a hash answers its first tap, and its rows hold the
+ * roots of its input. */
+static void edits(const uint64_t *z, uint64_t *trace)
+{
+    uint64_t out[LEMONCOLUMN_DIGEST_WORDS];
+    show("w_2 edited to zeros", edit(z, trace, 2, 0, 0, 0, 0, out));
+    show_words("row 11 columns 4 to 7", trace + 12 * 11 + 4);
+    show("w_4 edited", edit(z, trace, 4, 0, 0, 0, 0, out));
+    show("w_0 edited to (8,27,1,0)", edit(z, trace, 0, 8, 27, 1, 0, out));
+    show_words("its output", out);
+    show_words("row 1 columns 0 to 3", trace + 12);
+    show("edited under the old claim", edit(z, trace, 0, 0, 0, 0, 0, out));
+}
+
 static void traces(const uint64_t *z)
 {
     uint64_t trace[LEMONCOLUMN_TRACE_WORDS(1)];
@@ -84,6 +105,7 @@ static void traces(const uint64_t *z)
                lemoncolumn_read_off(z, LEMONCOLUMN_TABLE_WORDS, trace, LEMONCOLUMN_TRACE_WORDS(1), 0, 0, 0, 0, taps,
                                     LEMONCOLUMN_TAP_WORDS(1)));
     show_words("its w_2", taps + 8);
+    edits(z, trace);
 }
 
 static void files(void)
@@ -101,11 +123,11 @@ static void files(void)
     show("word 7 of kind 0", lemoncolumn_unpack(file, sizeof file, taps, LEMONCOLUMN_TAP_WORDS(1), claim, LEMONCOLUMN_DIGEST_WORDS));
 }
 
-/* Document 01's table of refusals, as the header decodes it. */
+/* The refusals of documents 01 and 02, as the header decodes them. */
 static void indices(void)
 {
     printf("refusals with an index:");
-    for (lemoncolumn_code number = LEMONCOLUMN_ACCEPTED; number <= LEMONCOLUMN_WRONG_VALUE; number++)
+    for (lemoncolumn_code number = LEMONCOLUMN_ACCEPTED; number <= LEMONCOLUMN_NO_SUCH_TAP; number++)
         if (lemoncolumn_has_index(number))
             printf(" %" PRIu64, number);
     printf("\n");

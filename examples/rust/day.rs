@@ -19,12 +19,20 @@ fn main() -> Result<(), Refusal> {
     let mut table = [0; TABLE_WORDS];
     prepare(&raw_table(), &mut table)?;
 
-    // The depot: four zero taps, their trace, and the board file.
+    // The depot: four zero taps, and their trace.
     let k = 1;
-    let taps = vec![0; tap_words(k)];
+    let mut taps = vec![0; tap_words(k)];
     let mut trace = vec![0; trace_words(k)];
-    let output = build(&table, &taps, &mut trace)?;
-    println!("output {output:?}");
+    let built = build(&table, &taps, &mut trace)?;
+    println!("output {built:?}");
+
+    // The cash desk corrects tap 0, in the list and in the trace.
+    let new = [5, 6, 7, 9];
+    taps[..4].copy_from_slice(&new);
+    let output = edit(&table, &mut trace, built, 0, new)?;
+    println!("corrected {output:?}");
+
+    // The board file.
     let mut file = vec![0; file_bytes(k)];
     pack(&taps, output, &mut file)?;
 
@@ -36,12 +44,15 @@ fn main() -> Result<(), Refusal> {
     read_off(&table, &trace, claim, &mut read)?;
     println!("the same taps: {}", read == list);
 
-    // A trace that was altered, and a word that is no element.
+    // A trace that was altered, a word that is no element, and a tap past the last.
     trace[12 * 11 + 5] = 1;
     if let Err(refusal) = check(&table, &trace, claim) {
         println!("{refusal}: {refusal:?}");
     }
     if let Err(refusal) = hash(&table, [0, 0, 0, P, 0, 0, 0, 0]) {
+        println!("{refusal}: {refusal:?}");
+    }
+    if let Err(refusal) = edit(&table, &mut trace, claim, 3 * k + 1, new) {
         println!("{refusal}: {refusal:?}");
     }
     Ok(())

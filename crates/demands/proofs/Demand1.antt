@@ -6,18 +6,20 @@ use mathlib.Core.Path.{_≡_, refl, sym, ap, subst, _∙_}
 use mathlib.Core.Bool.{Bool, true, false, _&&_, _||_, true≢false}
 use mathlib.Core.List.{List, [], _∷_, List·Memᴰ}
 use mathlib.Core.Logic.{_⊎_, inl, inr}
-use Prim.Native.Nat.{ℕ, _+_, _*_, _^_, _<_}
+use Prim.Native.Nat.{ℕ, zero, suc, _*_, _^_, _≤_, _<_}
 use native.Mathlib.Omega.{arith}
 use borrow.Author.Tests.{eqb-true, eq-eqb}
 use lib.Dec.{eqb, lit<}
 use lib.ListN.{length}
 use Rattle.lists.proofs.Bools.{or-cases, and-both}
-use Rattle.words.specs.Words.{AllCanonical}
-use Rattle.numbers.specs.Numbers.{mostBatches, isTapLength, tapWordBatches, traceWordBatches}
+use Rattle.numbers.specs.Numbers.{IsPermitted, mostBatches, isTapLength, tapWordBatches, isTraceLength}
+use Rattle.numbers.specs.Numbers.{traceWordBatches}
+use Rattle.numbers.proofs.Laws.{trace-length-sound}
 use Rattle.refusals.specs.Refusals.{told, digest, digestWords}
 use Rattle.refusals.specs.Answers.{Refuses as IsRefusal, digestAfter, testsAfter, leaves}
 use Rattle.refusals.specs.declared.Refusal.{Refusal}
-use Rattle.refusals.specs.declared.Refusal.the-variants.{NoInverse, WrongInverse, TapLength, DestinationLength}
+use Rattle.refusals.specs.declared.Refusal.the-variants.{NoInverse, WrongInverse, TapLength, TraceLength}
+use Rattle.refusals.specs.declared.Refusal.the-variants.{DestinationLength}
 use Rattle.refusals.specs.declared.Answer.{Answer}
 use Rattle.refusals.specs.declared.Answer.the-variants as answer
 use Rattle.refusals.specs.declared.Digest.{Digest}
@@ -26,7 +28,7 @@ use Rattle.table.specs.Table.{Prepares, tableTest}
 use Rattle.table.proofs.Theorems.{prepares-some, prepares-unique, refused-kept}
 use Rattle.hash.specs.Hash as rescue
 use Rattle.hash.specs.Answers.{hashTest, hashAnswer, chainTest, chainAnswer}
-use Rattle.hash.proofs.Inputs.{hash-tap, output-tap}
+use Rattle.hash.proofs.Inputs.{hash-tap}
 use Rattle.hash.proofs.Answers.{ChainInputs, chain-inputs}
 use Rattle.trace.specs.Trace.{trace}
 use Rattle.trace.specs.Answers.{buildAnswer, buildLeaves, buildTest}
@@ -38,23 +40,24 @@ use Rattle.checker.specs.Answers.{checkAnswer, checkTest}
 use Rattle.checker.proofs.Answers.{check-inputs}
 use Rattle.readoff.specs.Answers.{readOffAnswer, readOffLeaves, readOffTest}
 use Rattle.readoff.proofs.Answers.{read-off-inputs}
+use Rattle.edit.specs.Answers.{editAnswer, editLeaves, editTest, alteredTaps}
 use Rattle.board.specs.Board.{packTest, packed, packLeaves, unpackAnswer, unpackTest, tapsIn, claimIn, unpackLeaves}
 use Rattle.board.proofs.Round.{claim-is}
 use Rattle.export.specs.Code.{code as code-of, answerCode, digestCode, testsCode}
 use Rattle.export.specs.Calls.{written, HandsOver, PrepareCall, hashCallTest, hashCall, chainCallTest, chainCall}
-use Rattle.export.specs.Calls.{buildCallTest, buildCall, BuildCall, ReadOffCall, PackCall}
-use Rattle.export.specs.Calls.{unpackCallTest, unpackCall, UnpackCall}
+use Rattle.export.specs.Calls.{buildCallTest, buildCall, BuildCall, ReadOffCall, editCallTest, editCall, EditCall}
+use Rattle.export.specs.Calls.{PackCall, unpackCallTest, unpackCall, UnpackCall}
 use Rattle.export.proofs.Answers.{chain-room, build-room}
 use Rattle.export.proofs.Bits.{RefusalInBits, says, says-accepted}
 use Rattle.export.proofs.Endings as ends
 use Rattle.export.proofs.Endings.{TableCauses}
 use Rattle.export.proofs.Theorems as bits
-use Rattle.demands.specs.Demand1.{Operation, prepare, hash, chain, build, check, read-off, pack, unpack}
+use Rattle.demands.specs.Demand1.{Operation, prepare, hash, chain, build, check, read-off, edit, pack, unpack}
 use Rattle.demands.specs.Demand1.{numbers, callNumbers, OneOf, Refuses, prepare-refuses, hash-refuses}
-use Rattle.demands.specs.Demand1.{chain-refuses, build-refuses, check-refuses, read-off-refuses, pack-refuses}
-use Rattle.demands.specs.Demand1.{unpack-refuses, Answered, accepted, refused, PrepareResult, HashResult}
-use Rattle.demands.specs.Demand1.{ChainResult, BuildResult, CheckResult, ReadOffResult, PackResult, UnpackResult}
-use Rattle.demands.specs.Demand1.{Demand1}
+use Rattle.demands.specs.Demand1.{chain-refuses, build-refuses, check-refuses, read-off-refuses, edit-refuses}
+use Rattle.demands.specs.Demand1.{pack-refuses, unpack-refuses, Answered, accepted, refused, PrepareResult}
+use Rattle.demands.specs.Demand1.{HashResult, ChainResult, BuildResult, CheckResult, ReadOffResult, EditResult}
+use Rattle.demands.specs.Demand1.{PackResult, UnpackResult, Demand1}
 use Rattle.demands.proofs.Returned.{four-words}
 
 -- ---- numbers of a list, by computing
@@ -115,7 +118,7 @@ pack-numbers w claim size =
 
 -- ---- the operations
 numbered : (o : Operation) (r : Refusal) → Refuses o r → OneOf (numbers o) r
-unfolding hashAnswer chainAnswer buildAnswer checkAnswer readOffAnswer unpackAnswer
+unfolding hashAnswer chainAnswer buildAnswer checkAnswer readOffAnswer editAnswer unpackAnswer
 numbered o r (prepare-refuses raw old new q h) = prepare-numbers raw old new (answer.Refused q) h
 numbered o r (hash-refuses T words q e) =
     let ns = numbers hash in
@@ -135,6 +138,12 @@ numbered o r (check-refuses T t claim q e) =
 numbered o r (read-off-refuses T t claim size q e) =
     subst (AnswerEnds (OneOf (numbers read-off))) (tests-refused (readOffTest T t claim size) _ q e)
     (read-off-numbers T t claim size)
+numbered o r (edit-refuses T t claim n new q e) =
+    let ns = numbers edit in
+    subst (AnswerEnds (OneOf ns)) (digest-refused (editTest T t claim n new) _ q e)
+    (ends.edit-ends (OneOf ns) (table-causes ns refl refl refl) T t claim (one-of 7 ns refl) (λ i h. one-of 9 ns refl)
+    (λ k s p i h. one-of 10 ns refl) (λ k p i c m f. one-of 11 ns refl) n new (one-of 15 ns refl)
+    (λ i h. one-of 6 ns refl))
 numbered o r (pack-refuses w claim size q e) =
     subst (AnswerEnds (OneOf (numbers pack))) e (pack-numbers w claim size)
 numbered o r (unpack-refuses file size q e) =
@@ -158,6 +167,7 @@ only-3 chain h = absurd (never chain NoInverse refl h)
 only-3 build h = absurd (never build NoInverse refl h)
 only-3 check h = absurd (never check NoInverse refl h)
 only-3 read-off h = absurd (never read-off NoInverse refl h)
+only-3 edit h = absurd (never edit NoInverse refl h)
 only-3 pack h = absurd (never pack NoInverse refl h)
 only-3 unpack h = absurd (never unpack NoInverse refl h)
 
@@ -231,11 +241,15 @@ hash-call T output output′ w0 w1 w2 w3 w4 w5 w6 w7 code h =
     })
     (output-old t d code output output′ h)
 
--- the output of a list that passed
-chain-words : (T w : List ℕ) (k : ℕ) → length w ≡ 12 * k + 4 → AllCanonical w
-    → digestWords (digest (rescue.chain T w k)) ≡ rescue.chain T w k
+-- the output of one hash or more has four words, whatever it was taken from
+output-size : (T w : List ℕ) (h : ℕ) → 1 ≤ h → length (rescue.outputAt T w h) ≡ 4
+unfolding rescue.outputAt
+output-size T w zero l = absurd (omega arith)
+output-size T w (suc h) l = hash-tap T _ _ .size
+
+chain-words : (T w : List ℕ) (k : ℕ) → IsPermitted k → digestWords (digest (rescue.chain T w k)) ≡ rescue.chain T w k
 unfolding rescue.chain
-chain-words T w k s c = four-words (rescue.outputAt T w (3 * k)) (output-tap T w c (omega arith) (3 * k) .size)
+chain-words T w k p = four-words (rescue.outputAt T w (3 * k)) (output-size T w (3 * k) (omega (arith, p .low)))
 
 chain-call-inputs : (T w : List ℕ) (size : ℕ) → chainCallTest T w size ≡ answer.Accepted
     → ChainInputs T w (tapWordBatches (length w))
@@ -273,7 +287,7 @@ chain-call T w output output′ code h =
       k = k;
       permitted = i .permitted;
       taps = i .size;
-      output-is = output-new t d code output output′ h e ∙ chain-words T w k (i .size) (i .canonical);
+      output-is = output-new t d code output output′ h e ∙ chain-words T w k (i .permitted);
     }))
     (output-old t d code output output′ h)
 
@@ -294,7 +308,7 @@ build-call T w rows rows′ output output′ code h =
       k = k;
       permitted = i .permitted;
       taps = i .taps;
-      output-is = output-new t d code output output′ (h .four) e ∙ chain-words T w k (i .taps) (i .canonical);
+      output-is = output-new t d code output output′ (h .four) e ∙ chain-words T w k (i .permitted);
       rows-are = h .rows ∙ ap (λ x. leaves x (trace T w k) rows) e;
     }))
     (λ r. (h .rows ∙ ap (λ x. leaves x (trace T w k) rows) (r .1), output-old t d code output output′ (h .four) r))
@@ -338,6 +352,43 @@ module _ (T t : List ℕ) (c0 c1 c2 c3 : ℕ) where
       }))
       (λ r. h .list ∙ ap (λ x. leaves x (readTaps T t k) taps) (r .1))
 
+edit-call-inputs : (T t claim : List ℕ) (n : ℕ) (new : List ℕ) (size : ℕ)
+    → editCallTest T t claim n new size ≡ answer.Accepted
+    → let k = traceWordBatches (length t) in (length t ≡ 384 * k) × IsPermitted k
+unfolding editCallTest
+edit-call-inputs T t claim n new size e =
+    let a = both-accepted (tableTest T) _ e in
+    let b = passed (isTraceLength mostBatches (length t)) TraceLength _ (a .1) in
+    trace-length-sound mostBatches (length t) (b .0)
+
+edit-call : (T t t′ output output′ : List ℕ) (c0 c1 c2 c3 n w0 w1 w2 w3 code : ℕ)
+    → EditCall T t (c0 ∷ c1 ∷ c2 ∷ c3 ∷ []) n (w0 ∷ w1 ∷ w2 ∷ w3 ∷ []) code t′ output output′
+    → Answered code (callNumbers edit) (EditResult T t n (w0 ∷ w1 ∷ w2 ∷ w3 ∷ []) t′ output′)
+    ((t′ ≡ t) × (output′ ≡ output))
+unfolding editCall
+edit-call T t t′ output output′ c0 c1 c2 c3 n w0 w1 w2 w3 code h =
+    let claim : List ℕ = c0 ∷ c1 ∷ c2 ∷ c3 ∷ [] in
+    let new : List ℕ = w0 ∷ w1 ∷ w2 ∷ w3 ∷ [] in
+    let ns = callNumbers edit in
+    let k = traceWordBatches (length t) in
+    let w = alteredTaps T t n new in
+    let tested = editCallTest T t claim n new (length output) in
+    let d = digest (rescue.chain T w k) in
+    digest-says code ns (EditResult T t n new t′ output′) ((t′ ≡ t) × (output′ ≡ output)) tested d (h .four .coded)
+    (bits.edit-bits T t claim refl n new (length output) refl)
+    (ends.edit-call-ends (OneOf ns) (table-causes ns refl refl refl) T t claim (one-of 7 ns refl)
+    (λ i l. one-of 9 ns refl) (λ k s p i l. one-of 10 ns refl) (λ k p i c m f. one-of 11 ns refl) n new
+    (one-of 15 ns refl) (λ i l. one-of 6 ns refl) (length output) (one-of 8 ns refl))
+    (λ e. (let i = edit-call-inputs T t claim n new (length output) e in record {
+      none = refl;
+      k = k;
+      permitted = i .1;
+      rows = i .0;
+      output-is = output-new tested d code output output′ (h .four) e ∙ chain-words T w k (i .1);
+      rows-are = h .rows ∙ ap (λ x. leaves x (trace T w k) t) e;
+    }))
+    (λ r. (h .rows ∙ ap (λ x. leaves x (trace T w k) t) (r .1), output-old tested d code output output′ (h .four) r))
+
 pack-call : (w file file′ : List ℕ) (c0 c1 c2 c3 code : ℕ) → PackCall w (c0 ∷ c1 ∷ c2 ∷ c3 ∷ []) file code file′
     → Answered code (callNumbers pack) (PackResult w (c0 ∷ c1 ∷ c2 ∷ c3 ∷ []) file′) (file′ ≡ file)
 unfolding packLeaves
@@ -375,7 +426,7 @@ kept-old : (a : Answer) (r : Refusal) → a ≡ answer.Refused r → (new old : 
 kept-old a r e new old = ap (λ x. leaves x new old) e
 
 pub demand-1 : Demand1
-unfolding buildAnswer buildLeaves readOffAnswer readOffLeaves packLeaves unpackAnswer unpackLeaves
+unfolding buildAnswer buildLeaves readOffAnswer readOffLeaves editAnswer editLeaves packLeaves unpackAnswer unpackLeaves
 demand-1 = record {
   numbered = numbered;
   prepare-never-4 = never-4;
@@ -385,6 +436,7 @@ demand-1 = record {
   prepare-keeps = refused-kept;
   build-keeps = λ T w old r e. kept-old _ r (digest-refused (buildTest T w (length old)) _ r e) _ old;
   read-off-keeps = λ T t claim old r e. kept-old _ r (tests-refused (readOffTest T t claim (length old)) _ r e) _ old;
+  edit-keeps = λ T t claim n new r e. kept-old _ r (digest-refused (editTest T t claim n new) _ r e) _ t;
   pack-keeps = λ w claim old r e. kept-old _ r e _ old;
   unpack-keeps = λ file old r e. kept-old _ r (digest-refused (unpackTest file (length old)) _ r e) _ old;
   prepare-call = prepare-call;
@@ -393,6 +445,7 @@ demand-1 = record {
   build-call = build-call;
   check-call = check-call;
   read-off-call = λ T t taps taps′ c0 c1 c2 c3 code h. read-off-call T t c0 c1 c2 c3 taps taps′ code h;
+  edit-call = edit-call;
   pack-call = pack-call;
   unpack-call = unpack-call;
 }

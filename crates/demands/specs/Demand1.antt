@@ -1,6 +1,6 @@
--- Demand 1 (document 00): the answer to every call is a full result or one of document 01's numbered refusals, for
--- all tables, tap lists, traces and files that can be lent, and a refusal alters no lent buffer. (The contracts have
--- no `requires`, and equate every answer with a definition that has a value for whatever is lent.)
+-- Demand 1 (document 00): the answer to every call is a full result or one of the numbered refusals of documents 01
+-- and 02, for all tables, tap lists, traces and files that can be lent, and a refusal alters no lent buffer. (The
+-- contracts have no `requires`, and equate every answer with a definition that has a value for whatever is lent.)
 -- Assumes nothing.
 use mathlib.Core.Path.{_≡_}
 use mathlib.Core.List.{List, [], _∷_, List·Memᴰ}
@@ -22,13 +22,14 @@ use Rattle.trace.specs.Answers.{buildAnswer, buildLeaves}
 use Rattle.constraints.specs.ReadOff.{readTaps}
 use Rattle.checker.specs.Answers.{checkAnswer}
 use Rattle.readoff.specs.Answers.{readOffAnswer, readOffLeaves}
+use Rattle.edit.specs.Answers.{alteredTaps, editAnswer, editLeaves}
 use Rattle.board.specs.Board.{packTest, packed, packLeaves, unpackAnswer, tapsIn, claimIn, unpackLeaves}
 use Rattle.export.specs.Code.{Says, testsCode}
-use Rattle.export.specs.Calls.{HandsOver, PrepareCall, hashCall, chainCall, BuildCall, ReadOffCall, PackCall}
-use Rattle.export.specs.Calls.{UnpackCall}
+use Rattle.export.specs.Calls.{HandsOver, PrepareCall, hashCall, chainCall, BuildCall, ReadOffCall, EditCall}
+use Rattle.export.specs.Calls.{PackCall, UnpackCall}
 
 -- ---- the operations, and the numbers that each can return, in the order of their tests (document 01, "What is
--- turned back")
+-- turned back"; document 02 for Edit)
 
 pub data Operation : Type 0 where
   prepare : Operation
@@ -37,6 +38,7 @@ pub data Operation : Type 0 where
   build : Operation
   check : Operation
   read-off : Operation
+  edit : Operation
   pack : Operation
   unpack : Operation
 
@@ -47,6 +49,7 @@ numbers chain = 1 ∷ 2 ∷ 4 ∷ 5 ∷ 6 ∷ []
 numbers build = 1 ∷ 2 ∷ 4 ∷ 5 ∷ 8 ∷ 6 ∷ []
 numbers check = 1 ∷ 2 ∷ 4 ∷ 7 ∷ 9 ∷ 10 ∷ 11 ∷ []
 numbers read-off = 1 ∷ 2 ∷ 4 ∷ 7 ∷ 8 ∷ 9 ∷ 10 ∷ 11 ∷ []
+numbers edit = 1 ∷ 2 ∷ 4 ∷ 7 ∷ 15 ∷ 9 ∷ 10 ∷ 6 ∷ 11 ∷ []
 numbers pack = 5 ∷ 8 ∷ 9 ∷ 6 ∷ []
 numbers unpack = 12 ∷ 13 ∷ 14 ∷ 8 ∷ []
 
@@ -58,6 +61,7 @@ callNumbers chain = 1 ∷ 2 ∷ 4 ∷ 5 ∷ 8 ∷ 6 ∷ []
 callNumbers build = numbers build
 callNumbers check = numbers check
 callNumbers read-off = numbers read-off
+callNumbers edit = 1 ∷ 2 ∷ 4 ∷ 7 ∷ 15 ∷ 8 ∷ 9 ∷ 10 ∷ 6 ∷ 11 ∷ []
 callNumbers pack = numbers pack
 callNumbers unpack = numbers unpack
 
@@ -74,6 +78,8 @@ pub data Refuses : Operation → Refusal → Type 0 where
   check-refuses : (T t claim : List ℕ) (r : Refusal) → checkAnswer T t claim ≡ tests.Refused r → Refuses check r
   read-off-refuses : (T t claim : List ℕ) (size : ℕ) (r : Refusal) → readOffAnswer T t claim size ≡ tests.Refused r
       → Refuses read-off r
+  edit-refuses : (T t claim : List ℕ) (n : ℕ) (new : List ℕ) (r : Refusal)
+      → editAnswer T t claim n new ≡ digest.Refused r → Refuses edit r
   pack-refuses : (w claim : List ℕ) (size : ℕ) (r : Refusal) → packTest w claim size ≡ answer.Refused r → Refuses pack r
   unpack-refuses : (file : List ℕ) (size : ℕ) (r : Refusal) → unpackAnswer file size ≡ digest.Refused r
       → Refuses unpack r
@@ -123,6 +129,14 @@ pub record ReadOffResult (T t taps : List ℕ) (tests : ℕ) : Type 0 where
   pub all : tests ≡ 372 * k
   pub taps-are : taps ≡ readTaps T t k
 
+pub record EditResult (T t : List ℕ) (n : ℕ) (new t′ output : List ℕ) (tests : ℕ) : Type 0 where
+  pub none : tests ≡ 0
+  pub k : ℕ
+  pub permitted : IsPermitted k
+  pub rows : length t ≡ traceWords k
+  pub output-is : output ≡ rescue.chain T (alteredTaps T t n new) k
+  pub rows-are : t′ ≡ trace T (alteredTaps T t n new) k
+
 pub record PackResult (w claim file : List ℕ) (tests : ℕ) : Type 0 where
   pub none : tests ≡ 0
   pub file-is : file ≡ packed w claim
@@ -150,6 +164,8 @@ pub record Demand1 : Type 0 where
       → buildLeaves T w old ≡ old
   pub read-off-keeps : (T t claim old : List ℕ) (r : Refusal) → readOffAnswer T t claim (length old) ≡ tests.Refused r
       → readOffLeaves T t claim old ≡ old
+  pub edit-keeps : (T t claim : List ℕ) (n : ℕ) (new : List ℕ) (r : Refusal)
+      → editAnswer T t claim n new ≡ digest.Refused r → editLeaves T t claim n new ≡ t
   pub pack-keeps : (w claim old : List ℕ) (r : Refusal) → packTest w claim (length old) ≡ answer.Refused r
       → packLeaves w claim old ≡ old
   pub unpack-keeps : (file old : List ℕ) (r : Refusal) → unpackAnswer file (length old) ≡ digest.Refused r
@@ -171,6 +187,10 @@ pub record Demand1 : Type 0 where
   pub read-off-call : (T t taps taps′ : List ℕ) (c0 c1 c2 c3 code : ℕ)
       → ReadOffCall T t (c0 ∷ c1 ∷ c2 ∷ c3 ∷ []) code taps taps′
       → Answered code (callNumbers read-off) (ReadOffResult T t taps′) (taps′ ≡ taps)
+  pub edit-call : (T t t′ output output′ : List ℕ) (c0 c1 c2 c3 n w0 w1 w2 w3 code : ℕ)
+      → EditCall T t (c0 ∷ c1 ∷ c2 ∷ c3 ∷ []) n (w0 ∷ w1 ∷ w2 ∷ w3 ∷ []) code t′ output output′
+      → Answered code (callNumbers edit) (EditResult T t n (w0 ∷ w1 ∷ w2 ∷ w3 ∷ []) t′ output′)
+      ((t′ ≡ t) × (output′ ≡ output))
   pub pack-call : (w file file′ : List ℕ) (c0 c1 c2 c3 code : ℕ) → PackCall w (c0 ∷ c1 ∷ c2 ∷ c3 ∷ []) file code file′
       → Answered code (callNumbers pack) (PackResult w (c0 ∷ c1 ∷ c2 ∷ c3 ∷ []) file′) (file′ ≡ file)
   pub unpack-call : (file taps taps′ claim claim′ : List ℕ) (code : ℕ) → UnpackCall file code taps taps′ claim claim′

@@ -66,7 +66,7 @@ module _ (T w : List ℕ) (k : ℕ) (accepted : IsTable T) (size : length w ≡ 
         ∙ stateAt-zero T (hashInput T w h)
 
   -- ---- every input is read off
-  input-back : (h : ℕ) → h < 3 * k → readInput T (trace T w k) h ≡ hashInput T w h
+  pub input-back : (h : ℕ) → h < 3 * k → readInput T (trace T w k) h ≡ hashInput T w h
   unfolding readInput
   input-back h l = go (ℕ-discrete (h % 3) 0)
     where

@@ -6,12 +6,13 @@ use mathlib.Core.List.{List, [], _∷_, _++_}
 use Prim.Native.Nat.{ℕ, _+_, _*_}
 use native.Mathlib.Omega.{arith}
 use borrow.Author.Tests.{eq-eqb, ne-eqb}
+use lib.Dec.{leb}
 use lib.ListN.{length, set, take, drop}
-use Rattle.numbers.specs.Numbers.{mostBatches, isTapLength, tapWordBatches}
+use Rattle.numbers.specs.Numbers.{mostBatches, isTapLength, tapWordBatches, isTraceLength, traceWordBatches}
 use Rattle.refusals.specs.Refusals.{digest}
 use Rattle.refusals.specs.Answers.{unless, after, Refuses, digestAfter, leaves}
 use Rattle.refusals.specs.declared.Refusal.{Refusal}
-use Rattle.refusals.specs.declared.Refusal.the-variants.{TapLength, DestinationLength}
+use Rattle.refusals.specs.declared.Refusal.the-variants.{TapLength, TraceLength, DestinationLength, NoSuchTap}
 use Rattle.refusals.specs.declared.Answer.{Answer}
 use Rattle.refusals.specs.declared.Answer.the-variants as answer
 use Rattle.refusals.specs.declared.Digest.{Digest}
@@ -24,11 +25,13 @@ use Rattle.hash.specs.Hash.{hash, chain}
 use Rattle.hash.specs.Answers.{hashTest, hashAnswer, chainTest, chainAnswer}
 use Rattle.trace.specs.Trace.{trace}
 use Rattle.trace.specs.Answers.{buildTest, buildAnswer, buildLeaves}
+use Rattle.edit.specs.Answers.{editTest, alteredTaps, editAnswer, editLeaves}
 use Rattle.board.specs.Board.{batchesIn, claimIn, tapsIn, unpackTest, unpackAnswer, unpackLeaves}
 use Rattle.board.proofs.Answers.{unpack-accepted}
 use Rattle.export.specs.Code.{code, refusalCode, answerCode, digestCode, testsCode}
 use Rattle.export.specs.Calls.{HandsOver, hashCallTest, hashNoRoom, hashCall, chainCallTest, chainNoRoom}
-use Rattle.export.specs.Calls.{chainCall, buildCallTest, buildCall, unpackCallTest, unpackCall}
+use Rattle.export.specs.Calls.{chainCall, buildCallTest, buildCall, editCallTest, editNoRoom, editCall}
+use Rattle.export.specs.Calls.{unpackCallTest, unpackCall}
 
 -- ---- the code of an answer that was found to be one or the other
 pub answer-accepted : (a : Answer) → a ≡ answer.Accepted → 0 ≡ answerCode a
@@ -116,6 +119,15 @@ module _ (T w : List ℕ) (size : ℕ) where
   unfolding buildCallTest chainNoRoom
   build-short rows e = rw (ne-eqb size 4 e)
 
+module _ (T t claim : List ℕ) (n : ℕ) (new : List ℕ) (size : ℕ) where
+  pub edit-room : size ≡ 4 → editTest T t claim n new ≡ editCallTest T t claim n new size
+  unfolding editTest editCallTest
+  edit-room e = rw (eq-eqb size 4 e)
+
+  pub edit-short : (size ≡ 4 → ⊥) → editCallTest T t claim n new size ≡ editNoRoom T t n
+  unfolding editCallTest editNoRoom
+  edit-short e = rw (ne-eqb size 4 e)
+
 pub hash-no-room-refuses : (T : List ℕ) → Refuses (hashNoRoom T)
 unfolding hashNoRoom
 hash-no-room-refuses T = go (tableTest T)
@@ -132,6 +144,18 @@ chain-no-room-refuses T w = go (tableTest T) (isTapLength mostBatches (length w)
     go (answer.Refused r) b = (r, refl)
     go answer.Accepted true = (DestinationLength, refl)
     go answer.Accepted false = (TapLength, refl)
+
+pub edit-no-room-refuses : (T t : List ℕ) (n : ℕ) → Refuses (editNoRoom T t n)
+unfolding editNoRoom
+edit-no-room-refuses T t n =
+    go (tableTest T) (isTraceLength mostBatches (length t)) (leb n (3 * traceWordBatches (length t)))
+  where
+    go : (a : Answer) (b c : Bool)
+        → Refuses (after a (unless b TraceLength (unless c NoSuchTap (answer.Refused DestinationLength))))
+    go (answer.Refused r) b c = (r, refl)
+    go answer.Accepted true true = (DestinationLength, refl)
+    go answer.Accepted true false = (NoSuchTap, refl)
+    go answer.Accepted false c = (TraceLength, refl)
 
 module _ (file : List ℕ) (taps size : ℕ) where
   pub unpack-room : size ≡ 4 → unpackTest file taps ≡ unpackCallTest file taps size
@@ -184,6 +208,20 @@ module _ (size : ℕ) (four : size ≡ 4) where
   unfolding buildLeaves
   build-left T w old =
       ap (λ t. leaves t (trace T w (tapWordBatches (length w))) old) (build-room T w size (length old) four)
+
+  pub edit-answer : (T t claim : List ℕ) (n : ℕ) (new : List ℕ)
+      → editAnswer T t claim n new ≡ editCall T t claim n new size
+  unfolding editAnswer editCall
+  edit-answer T t claim n new =
+      ap (λ a. digestAfter a (digest (chain T (alteredTaps T t n new) (traceWordBatches (length t)))))
+      (edit-room T t claim n new size four)
+
+  pub edit-left : (T t claim : List ℕ) (n : ℕ) (new : List ℕ) → editLeaves T t claim n new
+      ≡ leaves (editCallTest T t claim n new size) (trace T (alteredTaps T t n new) (traceWordBatches (length t))) t
+  unfolding editLeaves
+  edit-left T t claim n new =
+      ap (λ a. leaves a (trace T (alteredTaps T t n new) (traceWordBatches (length t))) t)
+      (edit-room T t claim n new size four)
 
   pub unpack-answer : (file : List ℕ) (taps : ℕ) → unpackAnswer file taps ≡ unpackCall file taps size
   unfolding unpackAnswer unpackCall

@@ -19,7 +19,7 @@ use Rattle.numbers.proofs.Laws.{tap-length-sound, trace-length-sound}
 use Rattle.refusals.specs.declared.Refusal.{Refusal}
 use Rattle.refusals.specs.declared.Refusal.the-variants.{TableLength, TableWord, NoInverse, WrongInverse, TapLength}
 use Rattle.refusals.specs.declared.Refusal.the-variants.{TapWord, TraceLength, DestinationLength, ClaimWord, TraceWord}
-use Rattle.refusals.specs.declared.Refusal.the-variants.{Constraint, FileLength, WrongKind, WrongValue}
+use Rattle.refusals.specs.declared.Refusal.the-variants.{Constraint, FileLength, WrongKind, WrongValue, NoSuchTap}
 use Rattle.refusals.specs.declared.Answer.{Answer}
 use Rattle.refusals.specs.declared.Answer.the-variants.{Accepted}
 use Rattle.refusals.specs.Answers.{unless, after}
@@ -33,10 +33,11 @@ use Rattle.constraints.specs.FirstFailing.{IsFirstFailing}
 use Rattle.constraints.proofs.WalkLaws.{Ends, passes, stops, walk-ends}
 use Rattle.checker.specs.Answers.{checkTest}
 use Rattle.readoff.specs.Answers.{readOffTest}
+use Rattle.edit.specs.Answers.{editTest}
 use Rattle.elements.specs.Words.{kindOf, wordAt}
 use Rattle.elements.specs.Elements.{elementAt, elementTest, elementsTest}
 use Rattle.board.specs.Board.{mostFileBatches, fileSize, packTest, countIn, spareIn, batchesIn, countTest, unpackTest}
-use Rattle.export.specs.Calls.{hashCallTest, chainCallTest, buildCallTest, unpackCallTest}
+use Rattle.export.specs.Calls.{hashCallTest, chainCallTest, buildCallTest, editCallTest, unpackCallTest}
 
 -- ---- Prepare: 1, 8, 2, 3
 pub prepare-ends : (Q : Refusal → Type 0) → Q TableLength → Q DestinationLength
@@ -74,20 +75,21 @@ module _ (Q : Refusal → Type 0) (causes : TableCauses Q) where
 
   -- ---- Hash: 1, 2, 4, 6; from another language 1, 2, 4, 8, 6
   module _ (T words : List ℕ) (q6 : (i : ℕ) → i < length words → Q (TapWord i)) where
-    words-end : AnswerEnds Q (unless (canonicalWords words) (TapWord (firstBad words)) Accepted)
-    words-end =
-        unless-ends Q (canonicalWords words) (TapWord (firstBad words)) _
-        (λ e. q6 (firstBad words) (bad-test words e)) λ e. tt
+    words-end : (rest : Answer) → AnswerEnds Q rest
+        → AnswerEnds Q (unless (canonicalWords words) (TapWord (firstBad words)) rest)
+    words-end rest r =
+        unless-ends Q (canonicalWords words) (TapWord (firstBad words)) rest
+        (λ e. q6 (firstBad words) (bad-test words e)) λ e. r
 
     pub hash-ends : AnswerEnds Q (hashTest T words)
     unfolding hashTest
-    hash-ends = after-ends Q (tableTest T) _ (table-ends T) (λ e. words-end)
+    hash-ends = after-ends Q (tableTest T) _ (table-ends T) (λ e. words-end Accepted tt)
 
     pub hash-call-ends : (size : ℕ) → Q DestinationLength → AnswerEnds Q (hashCallTest T words size)
     unfolding hashCallTest
     hash-call-ends size q8 =
         after-ends Q (tableTest T) _ (table-ends T) λ e.
-        unless-ends Q (eqb size 4) DestinationLength _ (λ f. q8) λ f. words-end
+        unless-ends Q (eqb size 4) DestinationLength _ (λ f. q8) λ f. words-end Accepted tt
 
   -- ---- Chain: 1, 2, 4, 5, 6, from another language 1, 2, 4, 5, 8, 6; and Build: 1, 2, 4, 5, 8, 6
   module _ (T w : List ℕ) (q5 : Q TapLength)
@@ -101,13 +103,15 @@ module _ (Q : Refusal → Type 0) (causes : TableCauses Q) where
 
     pub chain-ends : AnswerEnds Q (chainTest T w)
     unfolding chainTest
-    chain-ends = after-ends Q (tableTest T) _ (table-ends T) (λ e. taps-end _ (λ q. words-end T w q))
+    chain-ends = after-ends Q (tableTest T) _ (table-ends T) (λ e. taps-end _ (λ q. words-end T w q Accepted tt))
 
     room-ends : Q DestinationLength → (room : Bool)
         → AnswerEnds Q (unless (isTapLength mostBatches (length w)) TapLength
         (unless room DestinationLength
         (unless (canonicalWords w) (TapWord (firstBad w)) Accepted)))
-    room-ends q8 room = taps-end _ (λ q. unless-ends Q room DestinationLength _ (λ f. q8) (λ f. words-end T w q))
+    room-ends q8 room =
+        taps-end _ λ q.
+        unless-ends Q room DestinationLength _ (λ f. q8) λ f. words-end T w q Accepted tt
 
     pub chain-call-ends : (size : ℕ) → Q DestinationLength → AnswerEnds Q (chainCallTest T w size)
     unfolding chainCallTest
@@ -125,7 +129,8 @@ module _ (Q : Refusal → Type 0) (causes : TableCauses Q) where
         after-ends Q (tableTest T) _ (table-ends T) λ e.
         room-ends q8 (eqb size 4 && eqb rows (384 * tapWordBatches (length w)))
 
-  -- ---- Check: 1, 2, 4, 7, 9, 10, 11; and Read-off: 1, 2, 4, 7, 8, 9, 10, 11
+  -- ---- Check: 1, 2, 4, 7, 9, 10, 11; Read-off: 1, 2, 4, 7, 8, 9, 10, 11; and Edit: 1, 2, 4, 7, 15, 9, 10, 6, 11, from
+  -- another language 1, 2, 4, 7, 15, 8, 9, 10, 6, 11
   module _ (T t claim : List ℕ) (q7 : Q TraceLength) (q9 : (i : ℕ) → i < length claim → Q (ClaimWord i))
       (q10 : (k : ℕ) → length t ≡ 384 * k → IsPermitted k → (i : ℕ) → i < length t → Q (TraceWord i))
       (q11 : (k : ℕ) → IsPermitted k → (i c n : ℕ) → IsFirstFailing T t claim (tests k) i c n
@@ -140,17 +145,15 @@ module _ (Q : Refusal → Type 0) (causes : TableCauses Q) where
             let n : place ≡ m = omega arith in
             subst (λ x. Q (Constraint (record { 0 = i }) c x)) n (q11 k p i c place f)
 
-    -- the tests from the claim's words on
-    judged-end : (k : ℕ) → length t ≡ 384 * k → IsPermitted k
+    -- the words of the claim and of the trace
+    judged-end : (k : ℕ) → length t ≡ 384 * k → IsPermitted k → (rest : Answer) → AnswerEnds Q rest
         → AnswerEnds Q (unless (canonicalWords claim) (ClaimWord (firstBad claim))
-        (unless (canonicalWords t) (TraceWord (firstBad t))
-        (constraintTest T t claim k)))
-    judged-end k s p =
+        (unless (canonicalWords t) (TraceWord (firstBad t)) rest))
+    judged-end k s p rest r =
         unless-ends Q (canonicalWords claim) (ClaimWord (firstBad claim)) _
         (λ e. q9 (firstBad claim) (bad-test claim e)) λ e.
-        unless-ends Q (canonicalWords t) (TraceWord (firstBad t)) _
-        (λ f. q10 k s p (firstBad t) (bad-test t f)) λ f.
-        constraints-end k p
+        unless-ends Q (canonicalWords t) (TraceWord (firstBad t)) rest
+        (λ f. q10 k s p (firstBad t) (bad-test t f)) λ f. r
 
     -- the batches of a trace whose length passes
     abbrev k : ℕ
@@ -166,13 +169,36 @@ module _ (Q : Refusal → Type 0) (causes : TableCauses Q) where
 
     pub check-ends : AnswerEnds Q (checkTest T t claim)
     unfolding checkTest
-    check-ends = trace-ends _ λ s p. judged-end k s p
+    check-ends = trace-ends _ λ s p. judged-end k s p _ (constraints-end k p)
 
     pub read-off-ends : (size : ℕ) → Q DestinationLength → AnswerEnds Q (readOffTest T t claim size)
     unfolding readOffTest
     read-off-ends size q8 =
         trace-ends _ λ s p.
-        unless-ends Q (eqb size (12 * k + 4)) DestinationLength _ (λ g. q8) λ g. judged-end k s p
+        unless-ends Q (eqb size (12 * k + 4)) DestinationLength _ (λ g. q8) λ g.
+        judged-end k s p _ (constraints-end k p)
+
+    -- n is the number of the tap, new the new one
+    module _ (n : ℕ) (new : List ℕ) (q15 : Q NoSuchTap) (q6 : (i : ℕ) → i < length new → Q (TapWord i)) where
+      edited-end : length t ≡ 384 * k → IsPermitted k
+          → AnswerEnds Q (unless (canonicalWords claim) (ClaimWord (firstBad claim))
+          (unless (canonicalWords t) (TraceWord (firstBad t))
+          (unless (canonicalWords new) (TapWord (firstBad new))
+          (constraintTest T t claim k))))
+      edited-end s p = judged-end k s p _ (words-end T new q6 _ (constraints-end k p))
+
+      pub edit-ends : AnswerEnds Q (editTest T t claim n new)
+      unfolding editTest
+      edit-ends =
+          trace-ends _ λ s p.
+          unless-ends Q (leb n (3 * k)) NoSuchTap _ (λ g. q15) λ g. edited-end s p
+
+      pub edit-call-ends : (size : ℕ) → Q DestinationLength → AnswerEnds Q (editCallTest T t claim n new size)
+      unfolding editCallTest
+      edit-call-ends size q8 =
+          trace-ends _ λ s p.
+          unless-ends Q (leb n (3 * k)) NoSuchTap _ (λ g. q15) λ g.
+          unless-ends Q (eqb size 4) DestinationLength _ (λ h. q8) λ h. edited-end s p
 
 -- ---- Pack: 5, 8, 9, 6
 pub pack-ends : (Q : Refusal → Type 0) (taps claim : List ℕ) (size : ℕ) → Q TapLength → Q DestinationLength

@@ -19,7 +19,7 @@ use Rattle.table.specs.Table.{Prepares}
 use Rattle.checker.specs.Answers.{checkTest}
 use Rattle.readoff.specs.Answers.{readOffTest}
 use Rattle.board.specs.Board.{packTest, batchesIn}
-use Rattle.export.specs.Calls.{hashCallTest, chainCallTest, buildCallTest, unpackCallTest}
+use Rattle.export.specs.Calls.{hashCallTest, chainCallTest, buildCallTest, editCallTest, unpackCallTest}
 use Rattle.export.proofs.Bits.{InBits, RefusalInBits}
 use Rattle.export.proofs.Endings as ends
 use Rattle.export.proofs.Endings.{TableCauses}
@@ -109,6 +109,13 @@ module _ (T t claim : List ℕ) (four : length claim ≡ 4) where
   read-off-bits size =
       ends.read-off-ends RefusalInBits table-bits T t claim seven (claim-bits claim four) (trace-bits t)
       (failing-bits T t claim) size eight
+
+  pub edit-bits : (n : ℕ) (new : List ℕ) (size : ℕ) → length new ≡ 4
+      → AnswerEnds RefusalInBits (editCallTest T t claim n new size)
+  edit-bits n new size h =
+      ends.edit-call-ends RefusalInBits table-bits T t claim seven (claim-bits claim four) (trace-bits t)
+      (failing-bits T t claim) n new (alone-bits 15 (lit< tt)) (λ i l. indexed-bits 6 i (lit< tt) (omega arith)) size
+      eight
 
 -- 372 × k tests, of an acceptance
 pub tests-bits : (k : ℕ) → IsPermitted k → length (tests k) < 2 ^ 28

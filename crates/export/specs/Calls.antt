@@ -1,7 +1,7 @@
--- What each call from another language answers and leaves (document 01, "What is turned back", for the order of the
--- refusals). Four words that are returned go to a destination like any other: a length other than 4 is refused with
--- 8, where 8 stands in the order. T is the lent table, w a list of taps; size is the length of the destination of
--- four words.
+-- What each call from another language answers and leaves (document 01, "What is turned back", and for Edit document
+-- 02, U1, for the order of the refusals). Four words that are returned go to a destination like any other: a length
+-- other than 4 is refused with 8, where 8 stands in the order. T is the lent table, w a list of taps, t a trace, n the
+-- number of a tap and new the new one; size is the length of the destination of four words.
 -- Assumes nothing.
 use mathlib.Core.Bool.{_&&_}
 use mathlib.Core.List.{List}
@@ -11,9 +11,11 @@ use lib.Dec.{eqb, leb}
 use lib.ListN.{length, take, drop}
 use Rattle.words.specs.Words.{firstBad, canonicalWords}
 use Rattle.numbers.specs.Numbers.{tapWords, traceWords, mostBatches, isTapLength, tapWordBatches}
+use Rattle.numbers.specs.Numbers.{isTraceLength, traceWordBatches}
 use Rattle.refusals.specs.Refusals.{digest, digestWords}
 use Rattle.refusals.specs.Answers.{unless, after, digestAfter, leaves}
-use Rattle.refusals.specs.declared.Refusal.the-variants.{TapLength, TapWord, DestinationLength, FileLength}
+use Rattle.refusals.specs.declared.Refusal.the-variants.{TapLength, TapWord, TraceLength, DestinationLength, ClaimWord}
+use Rattle.refusals.specs.declared.Refusal.the-variants.{TraceWord, FileLength, NoSuchTap}
 use Rattle.refusals.specs.declared.Answer.{Answer}
 use Rattle.refusals.specs.declared.Answer.the-variants as answer
 use Rattle.refusals.specs.declared.DigestAnswer.{DigestAnswer}
@@ -21,7 +23,9 @@ use Rattle.refusals.specs.declared.DigestAnswer.the-variants as four
 use Rattle.table.specs.Table.{tableTest, Prepares}
 use Rattle.hash.specs.Hash.{hash, chain}
 use Rattle.trace.specs.Trace.{trace}
+use Rattle.constraints.specs.Constraints.{constraintTest}
 use Rattle.readoff.specs.Answers.{readOffAnswer, readOffLeaves}
+use Rattle.edit.specs.Answers.{alteredTaps}
 use Rattle.elements.specs.Words.{wordAt}
 use Rattle.elements.specs.Elements.{elementsTest}
 use Rattle.board.specs.Board.{fileSize, elementCount, packTest, packLeaves, batchesIn, claimIn, tapsIn, countTest}
@@ -106,6 +110,37 @@ pub record BuildCall (T w : List ℕ) (code : ℕ) (old new output output′ : L
 pub record ReadOffCall (T t claim : List ℕ) (code : ℕ) (taps taps′ : List ℕ) : Type 0 where
   pub coded : code ≡ testsCode (readOffAnswer T t claim (length taps))
   pub list : taps′ ≡ readOffLeaves T t claim taps
+
+-- Edit: 1, 2, 4, 7, 15, 8, 9, 10, 6, 11
+unfoldable pub editCallTest : List ℕ → List ℕ → List ℕ → ℕ → List ℕ → ℕ → Answer
+editCallTest T t claim n new size =
+    after (tableTest T)
+    (unless (isTraceLength mostBatches (length t)) TraceLength
+    (unless (leb n (3 * traceWordBatches (length t))) NoSuchTap
+    (unless (eqb size 4) DestinationLength
+    (unless (canonicalWords claim) (ClaimWord (firstBad claim))
+    (unless (canonicalWords t) (TraceWord (firstBad t))
+    (unless (canonicalWords new) (TapWord (firstBad new))
+    (constraintTest T t claim (traceWordBatches (length t)))))))))
+
+-- what is left of it where the four words find no room
+unfoldable pub editNoRoom : List ℕ → List ℕ → ℕ → Answer
+editNoRoom T t n =
+    after (tableTest T)
+    (unless (isTraceLength mostBatches (length t)) TraceLength
+    (unless (leb n (3 * traceWordBatches (length t))) NoSuchTap
+    (answer.Refused DestinationLength)))
+
+unfoldable pub editCall : List ℕ → List ℕ → List ℕ → ℕ → List ℕ → ℕ → DigestAnswer
+editCall T t claim n new size =
+    digestAfter (editCallTest T t claim n new size)
+    (digest (chain T (alteredTaps T t n new) (traceWordBatches (length t))))
+
+-- the trace t is lent to be altered, and t′ is what it is afterwards
+pub record EditCall (T t claim : List ℕ) (n : ℕ) (new : List ℕ) (code : ℕ) (t′ output output′ : List ℕ) : Type 0 where
+  pub four : HandsOver (editCall T t claim n new (length output)) code output output′
+  pub rows : t′ ≡ leaves (editCallTest T t claim n new (length output))
+      (trace T (alteredTaps T t n new) (traceWordBatches (length t))) t
 
 -- Pack: 5, 8, 9, 6
 pub record PackCall (taps claim old : List ℕ) (code : ℕ) (new : List ℕ) : Type 0 where

@@ -6,9 +6,11 @@ ghost use lib.ListN.{length};
 ghost use Rattle.checker.specs.Answers.{checkAnswer};
 ghost use Rattle.export.specs.Code.{code, refusalCode, answerCode, digestCode, testsCode};
 ghost use Rattle.export.specs.Calls.{interface, HandsOver, PrepareCall, hashNoRoom, hashCall, chainNoRoom};
-ghost use Rattle.export.specs.Calls.{chainCall, BuildCall, ReadOffCall, PackCall, UnpackCall};
+ghost use Rattle.export.specs.Calls.{chainCall, BuildCall, ReadOffCall, editNoRoom, EditCall, PackCall};
+ghost use Rattle.export.specs.Calls.{UnpackCall};
 use numbers::BatchCount;
 use numbers::MOST_BATCHES;
+use numbers::TapNumber;
 use refusals::Answer;
 use refusals::DigestAnswer;
 use refusals::Refusal;
@@ -217,6 +219,57 @@ pub extern "C" fn lemoncolumn_read_off(
         (now (taps .entry)) (now (taps .exit)) ⌝ }
 {
     tests_code(readoff::read_off(table, trace, [c0, c1, c2, c3], taps))
+}
+
+// What Edit refuses where its output finds no room: 1, 2, 4, 7, 15, 8.
+fn edit_no_room(table: &[u64], trace: &[u64], tap: usize) -> Answer
+    ensures { λ r. ⌜ r ≡ editNoRoom (now (table .entry)) (now (trace .entry)) tap ⌝ }
+{
+    let of_table = table::test(table);
+    let Answer::Accepted = of_table else {
+        return of_table;
+    };
+    let BatchCount::Permitted(k) = numbers::trace_batches(MOST_BATCHES, trace.len()) else {
+        return Answer::Refused(Refusal::TraceLength);
+    };
+    if 3 * k < tap {
+        return Answer::Refused(Refusal::NoSuchTap);
+    }
+    Answer::Refused(Refusal::DestinationLength)
+}
+
+// Edit: 1, 2, 4, 7, 15, 8, 9, 10, 6, 11.
+#[no_mangle]
+pub extern "C" fn lemoncolumn_edit(
+    table: &[u64],
+    trace: &mut [u64],
+    c0: u64,
+    c1: u64,
+    c2: u64,
+    c3: u64,
+    tap: usize,
+    w0: u64,
+    w1: u64,
+    w2: u64,
+    w3: u64,
+    output: &mut [u64],
+) -> u64
+    ensures { λ r. ⌜ EditCall (now (table .entry)) (now (trace .entry)) (c0 ∷ c1 ∷ c2 ∷ c3 ∷ []) tap
+        (w0 ∷ w1 ∷ w2 ∷ w3 ∷ []) r (now (trace .exit)) (now (output .entry)) (now (output .exit)) ⌝ }
+{
+    if output.len() != 4 {
+        return answer_code(edit_no_room(table, trace, tap));
+    }
+    hand_over(
+        edit::edit(
+            table,
+            trace,
+            [c0, c1, c2, c3],
+            TapNumber(tap),
+            [w0, w1, w2, w3],
+        ),
+        output,
+    )
 }
 
 // Pack: 5, 8, 9, 6.

@@ -33,16 +33,12 @@ tap-words w n n₀ h e =
     at : (j m : ℕ) → m ≡ 4 * n + j → cell w m ≡ cell (drop (4 * n) w) j
     at j m q = ap (cell w) q ∙ sym (getD-drop (4 * n) w j 0)
 
--- the input that begins with the first four cells of s, and goes on with w_n
-pub input-words : (s w : List ℕ) (n n₀ : ℕ) →
-    4 ≤ length s →
-    4 * n + 4 ≤ length w →
-    n₀ ≡ 4 * n →
-    cell s 0 ∷ cell s 1 ∷ cell s 2 ∷ cell s 3
-    ∷ cell w n₀ ∷ cell w (n₀ + 1) ∷ cell w (n₀ + 2) ∷ cell w (n₀ + 3) ∷ 0 ∷ 0 ∷ 0 ∷ 0 ∷ []
-    ≡ input (take 4 s) (tap w n)
+-- the input that begins with the first four cells of s, and goes on with the tap b
+pub input-words : (s b : List ℕ) → 4 ≤ length s → length b ≡ 4
+    → cell s 0 ∷ cell s 1 ∷ cell s 2 ∷ cell s 3 ∷ cell b 0 ∷ cell b 1 ∷ cell b 2 ∷ cell b 3 ∷ 0 ∷ 0 ∷ 0 ∷ 0 ∷ []
+    ≡ input (take 4 s) b
 unfolding input
-input-words s w n n₀ hs hw e = ap₂ input (first-four s hs) (tap-words w n n₀ hw e)
+input-words s b p q = ap₂ input (first-four s p) (first-four b (omega arith) ∙ take-all 4 b (omega arith))
 
 -- ---- the walk: the state begins with the last output
 module _ (T w : List ℕ) where

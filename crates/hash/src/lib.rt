@@ -119,25 +119,32 @@ pub fn chain_start(taps: &[u64]) -> [u64; WIDTH]
 }
 
 // The input of a hash: the last output, with which the last state begins, then the next tap and four zeros.
-pub fn input_of(hash: HashNumber, last: [u64; WIDTH], taps: &[u64]) -> [u64; WIDTH]
-    requires { ⌜ (hash .0 < 2 ^ 32) × (4 * hash .0 + 8 ≤ length (now taps)) ⌝ }
-    ensures { λ r. ⌜ r ≡ input (take 4 last) (tap (now (taps .entry)) (hash .0 + 1)) ⌝ }
+pub fn next_input(last: [u64; WIDTH], tap: [u64; 4]) -> [u64; WIDTH]
+    ensures { λ r. ⌜ r ≡ input (take 4 last) tap ⌝ }
 {
-    let at = hash.tap().start();
     [
         last[0],
         last[1],
         last[2],
         last[3],
-        taps[at],
-        taps[at + 1],
-        taps[at + 2],
-        taps[at + 3],
+        tap[0],
+        tap[1],
+        tap[2],
+        tap[3],
         0,
         0,
         0,
         0,
     ]
+}
+
+// The input of that hash of the chain: its tap is the next one of the list.
+pub fn input_of(hash: HashNumber, last: [u64; WIDTH], taps: &[u64]) -> [u64; WIDTH]
+    requires { ⌜ (hash .0 < 2 ^ 32) × (4 * hash .0 + 8 ≤ length (now taps)) ⌝ }
+    ensures { λ r. ⌜ r ≡ input (take 4 last) (tap (now (taps .entry)) (hash .0 + 1)) ⌝ }
+{
+    let at = hash.tap().start();
+    next_input(last, [taps[at], taps[at + 1], taps[at + 2], taps[at + 3]])
 }
 
 // The state that begins with the output of so many hashes.

@@ -47,14 +47,6 @@ impl BatchNumber {
     {
         RowNumber(BATCH_ROWS * self.0 + within)
     }
-
-    // The hash of the chain that is hash `within` of the batch.
-    pub fn hash(self, within: usize) -> HashNumber
-        requires { ⌜ (self .0 < 2 ^ 32) × (within < 3) ⌝ }
-        ensures { λ r. ⌜ r .0 ≡ 3 * self .0 + within ⌝ }
-    {
-        HashNumber(3 * self.0 + within)
-    }
 }
 
 impl RowNumber {
@@ -119,11 +111,13 @@ impl HashNumber {
 }
 
 impl TapNumber {
-    // The hash that takes the tap in, for a tap after tap 0.
+    // The hash that takes the tap in: the first hash takes both tap 0 and tap 1.
     pub fn hash(self) -> HashNumber
-        requires { ⌜ 1 ≤ self .0 ⌝ }
         ensures { λ r. ⌜ r .0 ≡ self .0 - 1 ⌝ }
     {
+        if self.0 == 0 {
+            return HashNumber(0);
+        }
         HashNumber(self.0 - 1)
     }
 

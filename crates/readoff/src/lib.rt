@@ -25,7 +25,7 @@ use refusals::TestsAnswer;
 
 // The input of a hash of the chain: row 0 of the batch for the first of its three hashes, for the others back less K_0
 // at rows 10 and 20.
-fn read_input(inverse: &[u64], table: &[u64], trace: &[u64], hash: HashNumber) -> [u64; WIDTH]
+pub fn read_input(inverse: &[u64], table: &[u64], trace: &[u64], hash: HashNumber) -> [u64; WIDTH]
     requires { ⌜ (now inverse ≡ backReady (now table)) × IsTable (now table) × HasTap (now trace) (hash .0 + 1) ⌝ }
     ensures { λ r. ⌜ r ≡ readInput (now (table .entry)) (now (trace .entry)) (hash .0) ⌝ }
 {
@@ -38,7 +38,7 @@ fn read_input(inverse: &[u64], table: &[u64], trace: &[u64], hash: HashNumber) -
 
 // A tap: columns 0 to 3 of the first row 0 for w_0, columns 4 to 7 of the input of the hash that takes it in for the
 // others.
-fn read_tap(inverse: &[u64], table: &[u64], trace: &[u64], tap: TapNumber) -> [u64; 4]
+pub fn read_tap(inverse: &[u64], table: &[u64], trace: &[u64], tap: TapNumber) -> [u64; 4]
     requires { ⌜ (now inverse ≡ backReady (now table)) × IsTable (now table) × HasTap (now trace) (tap .0) ⌝ }
     ensures { λ r. ⌜ r ≡ tab 4 (λ j. readWord (now (table .entry)) (now (trace .entry)) (4 * tap .0 + j)) ⌝ }
 {

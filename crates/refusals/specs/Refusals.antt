@@ -1,4 +1,4 @@
--- The number of each refusal and the values returned with it (document 01, "What is turned back").
+-- The number of each refusal and the values returned with it (document 01, "What is turned back"; document 02).
 -- Assumes nothing.
 use mathlib.Core.List.{List, [], _∷_}
 use Prim.Native.Nat.{ℕ}
@@ -7,7 +7,7 @@ use Rattle.refusals.specs.declared.Refusal.{Refusal}
 use Rattle.refusals.specs.declared.Refusal.the-variants.{TableLength, TableWord, NoInverse, WrongInverse}
 use Rattle.refusals.specs.declared.Refusal.the-variants.{TapLength, TapWord, TraceLength, DestinationLength}
 use Rattle.refusals.specs.declared.Refusal.the-variants.{ClaimWord, TraceWord, Constraint, FileLength}
-use Rattle.refusals.specs.declared.Refusal.the-variants.{WrongKind, WrongValue}
+use Rattle.refusals.specs.declared.Refusal.the-variants.{WrongKind, WrongValue, NoSuchTap}
 use Rattle.refusals.specs.declared.Particulars.{Particulars}
 use Rattle.refusals.specs.declared.Digest.{Digest}
 
@@ -35,6 +35,7 @@ told (Constraint row constraint tests) =
 told FileLength = alone 12
 told (WrongKind i) = indexed 13 i
 told (WrongValue i) = indexed 14 i
+told NoSuchTap = alone 15
 
 -- the first four cells of a list, as an output or a claim is returned
 abbrev pub digest : List ℕ → Digest

@@ -1,4 +1,4 @@
-// What is turned back (document 01, the section of that name), and the answers that hold it.
+// What is turned back (document 01, the section of that name; document 02), and the answers that hold it.
 ghost use mathlib.Core.Path.{_≡_};
 ghost use Rattle.refusals.specs.Refusals.{alone, indexed, told};
 ghost use Rattle.refusals.specs.Answers.{Refuses};
@@ -24,6 +24,7 @@ pub enum Refusal {
     FileLength,
     WrongKind(usize),
     WrongValue(usize),
+    NoSuchTap,
 }
 
 // What is told of a refusal: its number, and how many values come with it: none, an index (`value`), or row, constraint
@@ -90,6 +91,7 @@ pub fn told(refusal: Refusal) -> Particulars
         Refusal::FileLength => alone(12),
         Refusal::WrongKind(i) => indexed(13, i),
         Refusal::WrongValue(i) => indexed(14, i),
+        Refusal::NoSuchTap => alone(15),
     }
 }
 
@@ -115,7 +117,7 @@ impl Answer {
 // Four words: an output of the hash, or a claim.
 pub struct Digest(pub u64, pub u64, pub u64, pub u64);
 
-// The answer of Hash, Chain, Build and Unpack: four words.
+// The answer of Hash, Chain, Build, Unpack and Edit: four words.
 pub enum DigestAnswer {
     Accepted(Digest),
     Refused(Refusal),

@@ -1,6 +1,6 @@
 pub mod RowKinds
 pub mod TraceCells
 pub mod WrittenRows
-pub mod WrittenBatches
+pub mod WrittenHashes
 pub mod Answers
 pub mod Theorems

@@ -4,10 +4,15 @@ use mathlib.Core.Path.{_≡_, sym, ap, ap₂, _∙_}
 use mathlib.Core.List.{List, [], _++_, append-assoc, append-nil}
 use Prim.Native.Nat.{ℕ, _+_, _*_, _-_, _/_, _%_, _≤_, _<_}
 use native.Mathlib.Omega.{arith}
-use lib.ListN.{length, take, drop, length-append, drop-of-length-le, take-append-drop}
-use lib.Seq.{length-take-le, take-at, drop-append-add, drop-drop}
+use lib.ListN.{length, take, drop, length-append, length-take, length-drop, drop-of-length-le, take-append-drop}
+use lib.Seq.{length-take-le, take-at, drop-at, drop-append-add, drop-drop, getD-take, getD-drop}
 use Rattle.lists.specs.Lists.{cell, tab}
-use Rattle.lists.proofs.Tab.{length-tab, tab-ext, tab-add, tab-cell}
+use Rattle.lists.proofs.Tab.{length-tab, cell-tab, tab-ext, tab-add, tab-cell}
+use Rattle.field.specs.Field.{P}
+use Rattle.words.specs.Words.{AllCanonical}
+use Rattle.words.proofs.Laws.{append-canonical}
+use Rattle.hash.proofs.States.{IsState, cell-lt, state-cell}
+use Rattle.trace.specs.Trace.{row}
 use Rattle.trace.specs.RowHelpers.{withRows}
 
 -- the cells of m rows from row a on
@@ -58,7 +63,7 @@ row-one s r d e =
         let m : i % 12 ≡ i = omega arith in
         ap (cell s) m
 
--- rows after rows
+-- rows after rows; what stands before and behind them stays
 module _ (row : ℕ → List ℕ) (a b : ℕ) (d : List ℕ) (p : a ≤ b) (l : 12 * b ≤ length d) where
   front : List ℕ
   front = take (12 * a) d ++ cells row a (b - a)
@@ -72,6 +77,20 @@ module _ (row : ℕ → List ℕ) (a b : ℕ) (d : List ℕ) (p : a ≤ b) (l : 
         length-take-le (12 * a) d (omega arith),
         length-tab (12 * (b - a)) (λ n. cell (row (a + n / 12)) (n % 12)),
       )
+
+  pub length-rows : length (withRows row a b d) ≡ length d
+  unfolding withRows front
+  length-rows = length-append front (drop (12 * b) d) ∙ omega (arith, length-front, length-drop (12 * b) d)
+
+  pub rows-before : take (12 * a) (withRows row a b d) ≡ take (12 * a) d
+  unfolding withRows
+  rows-before =
+      ap (take (12 * a)) (append-assoc (take (12 * a) d) (cells row a (b - a)) (drop (12 * b) d))
+      ∙ take-at (take (12 * a) d) _ (12 * a) (length-take-le (12 * a) d (omega arith))
+
+  pub rows-behind : drop (12 * b) (withRows row a b d) ≡ drop (12 * b) d
+  unfolding withRows front
+  rows-behind = drop-at front (drop (12 * b) d) (12 * b) length-front
 
   pub rows-join : (c : ℕ) → b ≤ c → withRows row b c (withRows row a b d) ≡ withRows row a c d
   unfolding withRows front
@@ -113,6 +132,47 @@ unfolding withRows
 rows-ext f g a b d h =
     ap (λ x. take (12 * a) d ++ x ++ drop (12 * b) d)
     (tab-ext (12 * (b - a)) _ _ (λ n l. ap (λ r. cell r (n % 12)) (h (a + n / 12) (omega arith) (omega arith))))
+
+-- rows that are written over
+pub rows-over : (f g : ℕ → List ℕ) (a b : ℕ) (d : List ℕ) → a ≤ b → 12 * b ≤ length d
+    → withRows f a b (withRows g a b d) ≡ withRows f a b d
+unfolding withRows
+rows-over f g a b d p l =
+    ap₂ (λ x y. x ++ cells f a (b - a) ++ y) (rows-before g a b d p l) (rows-behind g a b d p l)
+
+-- a row behind them
+pub row-behind : (f : ℕ → List ℕ) (a b : ℕ) (d : List ℕ) → a ≤ b → 12 * b ≤ length d → (i : ℕ) → b ≤ i
+    → row (withRows f a b d) i ≡ row d i
+unfolding row
+row-behind f a b d p l i g =
+    ap (take 12) (sym (split (withRows f a b d)) ∙ ap (drop (12 * i - 12 * b)) (rows-behind f a b d p l) ∙ split d)
+  where
+    e : 12 * b + (12 * i - 12 * b) ≡ 12 * i
+    e = omega arith
+
+    split : (s : List ℕ) → drop (12 * i - 12 * b) (drop (12 * b) s) ≡ drop (12 * i) s
+    split s = drop-drop (12 * i - 12 * b) (12 * b) s ∙ ap (λ n. drop n s) e
+
+-- canonical rows in a canonical destination
+pub rows-canonical : (f : ℕ → List ℕ) (a b : ℕ) (d : List ℕ) → ((i : ℕ) → a ≤ i → i < b → IsState (f i))
+    → AllCanonical d → AllCanonical (withRows f a b d)
+unfolding withRows
+rows-canonical f a b d s c =
+    append-canonical (take (12 * a) d ++ cells f a (b - a)) (drop (12 * b) d)
+    (append-canonical (take (12 * a) d) (cells f a (b - a)) (λ i l. front i (omega (arith, length-take (12 * a) d)))
+    (λ i l. middle i (omega (arith, length-tab (12 * (b - a)) (λ n. cell (f (a + n / 12)) (n % 12))))))
+    (λ i l. omega (arith, getD-drop (12 * b) d i 0, cell-lt d c (12 * b + i)))
+  where
+    front : (i : ℕ) → i < 12 * a → cell (take (12 * a) d) i < P
+    front i l = omega (arith, getD-take (12 * a) d i 0 l, cell-lt d c i)
+
+    middle : (i : ℕ) → i < 12 * (b - a) → cell (cells f a (b - a)) i < P
+    middle i l =
+        omega (
+          arith,
+          cell-tab (12 * (b - a)) (λ n. cell (f (a + n / 12)) (n % 12)) i l,
+          state-cell (s (a + i / 12) (omega arith) (omega arith)) (i % 12),
+        )
 
 -- all rows
 pub rows-all : (row : ℕ → List ℕ) (k : ℕ) (d : List ℕ) → length d ≡ 12 * k

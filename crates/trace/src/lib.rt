@@ -3,16 +3,16 @@ ghost use mathlib.Core.Path.{_≡_};
 ghost use Prim.Native.Nat.{_+_, _*_, _-_, _≤_, _<_, _^_};
 ghost use lib.ListN.{length, take};
 ghost use Rattle.words.specs.Words.{AllCanonical, CanonicalTo};
-ghost use Rattle.numbers.specs.Numbers.{batchRows, tapWords, traceWords, width};
+ghost use Rattle.numbers.specs.Numbers.{firstRow, tapWords, traceWords, width};
 ghost use Rattle.table.specs.Table.{IsTable};
-ghost use Rattle.hash.specs.Hash.{middleState, finalState, outputAt, chain};
-ghost use Rattle.trace.specs.Trace.{hashInput, traceRow, trace};
-ghost use Rattle.trace.specs.RowHelpers.{withRows, Writable};
+ghost use Rattle.hash.specs.Hash.{middleState, finalState, chain};
+ghost use Rattle.trace.specs.Trace.{trace};
+ghost use Rattle.trace.specs.RowHelpers.{withRows, rowsBefore, hashRow};
 ghost use Rattle.trace.specs.Answers.{buildTest, buildAnswer, buildLeaves};
 use numbers::BATCH_TAP_WORDS;
 use numbers::BATCH_WORDS;
 use numbers::BatchCount;
-use numbers::BatchNumber;
+use numbers::HashNumber;
 use numbers::MOST_BATCHES;
 use numbers::RowNumber;
 use numbers::WIDTH;
@@ -69,62 +69,56 @@ fn write_rounds(
     state
 }
 
-// The ten rows of hash `within` of the batch, after a state that begins with the last output. Its final state.
-fn write_hash(
+// Row 0 of the batch, for its first hash: the input. The batch's other inputs have no row.
+fn write_input(destination: &mut [u64], hash: HashNumber, input: [u64; WIDTH])
+    requires { ⌜ (hash .0 < 2 ^ 25) × (width * rowsBefore (hash .0 + 1) ≤ length (now destination)) ⌝ }
+    ensures { λ r. ⌜
+        now (destination .exit)
+        ≡ withRows (λ i. input) (rowsBefore (hash .0)) (firstRow (hash .0)) (now (destination .entry)) ⌝ }
+{
+    if hash.within() != 0 {
+        return;
+    }
+    write_row(destination, hash.batch().row(0), input);
+}
+
+// Row 31 of the batch, for its third hash: the final state. The batch's other final states have no row.
+fn write_final(destination: &mut [u64], hash: HashNumber, state: [u64; WIDTH])
+    requires { ⌜ (hash .0 < 2 ^ 25) × (width * rowsBefore (hash .0 + 1) ≤ length (now destination)) ⌝ }
+    ensures { λ r. ⌜
+        now (destination .exit)
+        ≡ withRows (λ i. state) (firstRow (hash .0) + 10) (rowsBefore (hash .0 + 1)) (now (destination .entry)) ⌝ }
+{
+    if hash.within() != 2 {
+        return;
+    }
+    write_row(destination, hash.batch().row(31), state);
+}
+
+// The rows that the hash fills, from its input. Its final state.
+pub fn write_hash(
     table: &[u64],
-    taps: &[u64],
-    batch: BatchNumber,
-    within: usize,
-    last: [u64; WIDTH],
+    hash: HashNumber,
+    input: [u64; WIDTH],
     destination: &mut [u64],
 ) -> [u64; WIDTH]
     requires { ⌜
-        Writable (now table) (now taps) (batch .0) (now destination) × (within < 3)
-        × (take 4 last ≡ outputAt (now table) (now taps) (3 * batch .0 + within)) ⌝ }
+        IsTable (now table) × CanonicalTo width input × (hash .0 < 2 ^ 25)
+        × (width * rowsBefore (hash .0 + 1) ≤ length (now destination)) ⌝ }
     ensures { λ r. ⌜
-        (r ≡ finalState (now (table .entry))
-        (hashInput (now (table .entry)) (now (taps .entry)) (3 * batch .0 + within)))
+        (r ≡ finalState (now (table .entry)) input)
         × (now (destination .exit)
-        ≡ withRows (traceRow (now (table .entry)) (now (taps .entry)))
-        (batchRows * batch .0 + (10 * within + 1)) (batchRows * batch .0 + (10 * within + 11))
+        ≡ withRows (hashRow (now (table .entry)) input) (rowsBefore (hash .0)) (rowsBefore (hash .0 + 1))
         (now (destination .entry))) ⌝ }
 {
-    let hash = batch.hash(within);
-    let input = hash::input_of(hash, last, taps);
-    write_rounds(table, input, destination, hash.first_row())
+    write_input(destination, hash, input);
+    let state = write_rounds(table, input, destination, hash.first_row());
+    write_final(destination, hash, state);
+    state
 }
 
-// The 32 rows of the batch, after a state that begins with the last output. The final state of its third hash.
-fn write_batch(
-    table: &[u64],
-    taps: &[u64],
-    batch: BatchNumber,
-    last: [u64; WIDTH],
-    destination: &mut [u64],
-) -> [u64; WIDTH]
-    requires { ⌜
-        Writable (now table) (now taps) (batch .0) (now destination)
-        × (take 4 last ≡ outputAt (now table) (now taps) (3 * batch .0)) ⌝ }
-    ensures { λ r. ⌜
-        (r ≡ finalState (now (table .entry)) (hashInput (now (table .entry)) (now (taps .entry)) (3 * batch .0 + 2)))
-        × (now (destination .exit)
-        ≡ withRows (traceRow (now (table .entry)) (now (taps .entry)))
-        (batchRows * batch .0) (batchRows * batch .0 + batchRows) (now (destination .entry))) ⌝ }
-{
-    write_row(
-        destination,
-        batch.row(0),
-        hash::input_of(batch.hash(0), last, taps),
-    );
-    let first = write_hash(table, taps, batch, 0, last, destination);
-    let second = write_hash(table, taps, batch, 1, first, destination);
-    let third = write_hash(table, taps, batch, 2, second, destination);
-    write_row(destination, batch.row(31), third);
-    third
-}
-
-// The batches one after the other. The state that begins with the chain's output.
-fn write_batches(table: &[u64], taps: &[u64], k: usize, destination: &mut [u64]) -> [u64; WIDTH]
+// The hashes one after the other. The state that begins with the chain's output.
+fn write_hashes(table: &[u64], taps: &[u64], k: usize, destination: &mut [u64]) -> [u64; WIDTH]
     requires { ⌜
         IsTable (now table) × AllCanonical (now taps) × (k ≤ 2 ^ 20)
         × (length (now taps) ≡ tapWords k) × (length (now destination) ≡ traceWords k) ⌝ }
@@ -132,9 +126,12 @@ fn write_batches(table: &[u64], taps: &[u64], k: usize, destination: &mut [u64])
         (take 4 r ≡ chain (now (table .entry)) (now (taps .entry)) k)
         × (now (destination .exit) ≡ trace (now (table .entry)) (now (taps .entry)) k) ⌝ }
 {
+    let hashes = 3 * k;
     let mut state = hash::chain_start(taps);
-    for b in 0..k {
-        let next = write_batch(table, taps, BatchNumber(b), state, destination);
+    for h in 0..hashes {
+        let hash = HashNumber(h);
+        let input = hash::input_of(hash, state, taps);
+        let next = write_hash(table, hash, input, destination);
         state = next;
     }
     state
@@ -172,6 +169,6 @@ pub fn build(table: &[u64], taps: &[u64], destination: &mut [u64]) -> DigestAnsw
     let Answer::Accepted = answer else {
         return DigestAnswer::Refused(answer.refusal());
     };
-    let last = write_batches(table, taps, taps.len() / BATCH_TAP_WORDS, destination);
+    let last = write_hashes(table, taps, taps.len() / BATCH_TAP_WORDS, destination);
     DigestAnswer::Accepted(Digest(last[0], last[1], last[2], last[3]))
 }

@@ -4,28 +4,34 @@
 //!     rt staticlib export && rt staticlib probes
 //!     cargo run --release --offline -p bench
 //!
-//! prints the table of README.md, "Speed". A further operation gets its row, with
-//! its goal, in the list of `operations` or in `field`.
+//! prints the tables of README.md, "Speed". A further operation gets its row, with
+//! its goal, in the list of `operations` or in `field`; one that alters what is
+//! lent to it, as Edit does, in `edits`.
 //!
 //! The implementations take turns, many times over, and the shortest time of
 //! each counts, in the thread's own time: what else the machine does lengthens
 //! some turns of each.
 
+mod edits;
 mod field;
 mod operations;
 mod timing;
 
+use operations::Day;
 use timing::Table;
 
 fn main() {
     let mut table = Table::new();
     field::measure(&mut table);
-    let growth = operations::measure(&mut table);
+    let days = [1, 64, 1024].map(Day::new);
+    let growth = operations::measure(&mut table, &days);
+    let edits = edits::measure(&days[2]);
     table.print();
     let growth: Vec<String> = growth
         .iter()
         .map(|(operation, growth)| format!("{growth:.2} ({operation})"))
         .collect();
     let growth = growth.join(", ");
-    println!("\nA batch at k = 1024 takes {growth} times what it takes at k = 64.");
+    println!("\nA batch at k = 1024 takes {growth} times what it takes at k = 64.\n");
+    edits.print();
 }

@@ -9,17 +9,17 @@ use yardstick::{Yardstick, BOTH};
 const SEED: u64 = 20261115;
 
 /// What the operations are given.
-struct Day {
-    k: usize,
-    table: Vec<u64>,
-    taps: Vec<u64>,
-    trace: Vec<u64>,
-    output: [u64; 4],
+pub struct Day {
+    pub k: usize,
+    pub table: Vec<u64>,
+    pub taps: Vec<u64>,
+    pub trace: Vec<u64>,
+    pub output: [u64; 4],
     file: Vec<u8>,
 }
 
 impl Day {
-    fn new(k: usize) -> Day {
+    pub fn new(k: usize) -> Day {
         let mut random = Random::new(SEED);
         let table = dense(&mut random).prepared;
         let taps = random.uniform(lemoncolumn::tap_words(k));
@@ -59,19 +59,18 @@ impl Day {
     }
 }
 
-/// Measures all operations; answers how the time of a batch grows from k = 64
-/// to k = 1024.
-pub fn measure(table: &mut Table) -> Vec<(&'static str, f64)> {
-    let days = [1, 64, 1024].map(Day::new);
+/// Measures all operations on days of k = 1, 64 and 1024; answers how the time of
+/// a batch grows from k = 64 to k = 1024.
+pub fn measure(table: &mut Table, days: &[Day; 3]) -> Vec<(&'static str, f64)> {
     let mut grown = vec![];
     for (name, goal, days, operation) in [
         ("prepare", None, &days[..1], prepare as fn(&Day) -> Vec<Way>),
         ("hash", Some(1.0), &days[..1], hash),
-        ("build", Some(1.0), &days, build),
-        ("check", Some(1.0), &days, check),
-        ("read-off", None, &days, read_off),
-        ("pack", None, &days, pack),
-        ("unpack", None, &days, unpack),
+        ("build", Some(1.0), days, build),
+        ("check", Some(1.0), days, check),
+        ("read-off", None, days, read_off),
+        ("pack", None, days, pack),
+        ("unpack", None, days, unpack),
     ] {
         let ways = days.iter().map(operation);
         if let [_] = days {

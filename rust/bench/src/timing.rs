@@ -129,15 +129,20 @@ impl Row {
             return String::new();
         };
         let missed = |times: &Times| times.of(2).is_some_and(|ratio| ratio > goal);
-        match self.times.iter().any(missed) {
-            true => format!("{goal:.1}, missed"),
-            false => format!("{goal:.1}"),
-        }
+        goal_cell(&format!("{goal:.1}"), self.times.iter().any(missed))
+    }
+}
+
+/// A goal, and whether it is missed.
+pub fn goal_cell(goal: &str, missed: bool) -> String {
+    match missed {
+        true => format!("{goal}, missed"),
+        false => goal.to_string(),
     }
 }
 
 /// Nanoseconds, with a space before each three digits.
-fn nanoseconds(time: f64) -> String {
+pub fn nanoseconds(time: f64) -> String {
     if time < 10.0 {
         return format!("{time:.1}");
     }
@@ -152,7 +157,7 @@ fn nanoseconds(time: f64) -> String {
     spaced
 }
 
-/// The table of README.md, "Speed".
+/// The first table of README.md, "Speed".
 pub struct Table(Vec<Row>);
 
 impl Table {

@@ -22,8 +22,7 @@ pub fn seeds(test: &str) -> impl Iterator<Item = u64> {
 /// Elements on either side of a lent buffer.
 const GUARD: usize = 16;
 
-/// A buffer that is lent, filled with a pattern, between guards that no call
-/// may touch.
+/// A buffer that is lent, between guards that no call may touch.
 pub struct Lent<T> {
     all: Vec<T>,
     before: Vec<T>,
@@ -70,6 +69,14 @@ pub fn words(length: usize) -> Lent<u64> {
     })
 }
 
+/// A buffer that holds these words.
+pub fn holding(content: &[u64]) -> Lent<u64> {
+    let mut lent = words(content.len());
+    lent.copy_from_slice(content);
+    lent.before.clone_from(&lent.all);
+    lent
+}
+
 /// A buffer of bytes.
 pub fn bytes(length: usize) -> Lent<u8> {
     Lent::new(length, |i| (i * 167 + 13) as u8)
@@ -102,6 +109,7 @@ pub fn named(refusal: lemoncolumn::Refusal) -> second::Refusal {
         Proved::FileLength => Second::FileLength,
         Proved::WrongKind { word } => Second::Kind { word },
         Proved::WrongValue { word } => Second::Value { word },
+        Proved::NoSuchTap => Second::NoSuchTap,
     }
 }
 

@@ -1,7 +1,8 @@
 //! The calls as C sees them: a digest's destination that has not four words is
-//! refused with 8, in 8's place of document 01's order, and nothing is written.
+//! refused with 8, in 8's place of the order, and nothing is written. Edit with
+//! its two buffers between guards.
 
-use differential::{named, words, Lent};
+use differential::{holding, named, words, Lent};
 use inputs::*;
 use lemoncolumn::{calls, INTERFACE};
 use second::Refusal;
@@ -14,11 +15,12 @@ fn seeds(test: &str) -> impl Iterator<Item = u64> {
     differential::seeds(test)
 }
 
-/// The refusals that come before 8 (document 01, "What is turned back").
+/// The refusals that come before 8 (document 01, "What is turned back"; document
+/// 02 has 15 there).
 fn before_8(refusal: Option<Refusal>) -> bool {
     matches!(
         refusal.map(Refusal::number),
-        Some(1 | 2 | 4 | 5 | 8 | 12 | 13 | 14)
+        Some(1 | 2 | 4 | 5 | 7 | 8 | 12 | 13 | 14 | 15)
     )
 }
 
@@ -31,14 +33,29 @@ fn expected(refusal: Option<Refusal>) -> Option<Refusal> {
     }
 }
 
-fn answer(code: u64) -> Option<Refusal> {
-    lemoncolumn::decode(code).err().map(named)
+/// What the returned word says: this, and nothing in its other bits (the end of
+/// include/lemoncolumn.h).
+fn says(about: &str, code: u64, refusal: Option<Refusal>) {
+    let said = lemoncolumn::decode(code).err().map(named);
+    assert_eq!(said, refusal, "{about}");
+    let number = refusal.map_or(0, Refusal::number);
+    let (constraint, row, value) = match refusal {
+        Some(Refusal::Constraint {
+            row,
+            constraint,
+            tests,
+        }) => (constraint, row, tests),
+        Some(other) => (0, 0, other.place().first().copied().unwrap_or(0)),
+        None => (0, 0, 0),
+    };
+    let word = number | constraint << 6 | row << 12 | value << 36;
+    assert_eq!(code, word, "{about}: other bits");
 }
 
 const LENGTHS: [usize; 6] = [0, 1, 3, 5, 8, 540];
 
 fn refused(about: &str, code: u64, refusal: Option<Refusal>, lent: &[&Lent<u64>]) {
-    assert_eq!(answer(code), expected(refusal), "{about}");
+    says(about, code, expected(refusal));
     assert!(lent.iter().all(|buffer| buffer.is_untouched()), "{about}");
 }
 
@@ -115,6 +132,65 @@ fn build() {
                 )
             };
             refused(&about, code, case.refusal, &[&trace, &output]);
+        }
+    }
+}
+
+fn call_edit(case: &EditCase, trace: &mut [u64], output: &mut [u64]) -> u64 {
+    let [a, b, c, d] = case.claim;
+    let [e, f, g, h] = case.new;
+    unsafe {
+        calls::lemoncolumn_edit(
+            case.table.as_ptr(),
+            case.table.len(),
+            trace.as_mut_ptr(),
+            trace.len(),
+            a,
+            b,
+            c,
+            d,
+            case.tap,
+            e,
+            f,
+            g,
+            h,
+            output.as_mut_ptr(),
+            output.len(),
+        )
+    }
+}
+
+#[test]
+fn edit() {
+    for seed in seeds("calls, edit") {
+        for (number, case) in edit_cases(seed, 400).into_iter().enumerate() {
+            let length = LENGTHS[number % LENGTHS.len()];
+            let about = format!("seed {seed}: {}, output of {length}", case.name);
+            let mut trace = holding(&case.trace);
+            let mut output = words(length);
+            let code = call_edit(&case, &mut trace, &mut output);
+            refused(&about, code, case.refusal, &[&trace, &output]);
+        }
+    }
+}
+
+#[test]
+fn edit_with_room() {
+    for seed in seeds("calls, edit with room") {
+        for case in edit_cases(seed, 1000) {
+            let about = format!("seed {seed}: {}", case.name);
+            let mut trace = holding(&case.trace);
+            let mut output = words(4);
+            let code = call_edit(&case, &mut trace, &mut output);
+            says(&about, code, case.refusal);
+            let both = [&trace, &output];
+            if case.refusal.is_some() {
+                assert!(both.iter().all(|lent| lent.is_untouched()), "{about}");
+                continue;
+            }
+            assert!(both.iter().all(|lent| lent.is_guarded()), "{about}");
+            assert_eq!(trace[..], case.altered[..], "{about}");
+            assert_eq!(output[..], case.output, "{about}");
         }
     }
 }

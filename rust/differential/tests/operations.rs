@@ -2,7 +2,7 @@
 //! library and the second implementation answer alike and leave every lent
 //! buffer alike, and both answer what the case was made for.
 
-use differential::{bytes, named, same_verdict, seeds, words, Lent};
+use differential::{bytes, holding, named, same_verdict, seeds, words, Lent};
 use inputs::*;
 use std::fmt::Debug;
 
@@ -121,6 +121,26 @@ fn read_off() {
             agree(&about, (answer, &proved), (second, &other), case.refusal);
             if case.refusal.is_none() {
                 assert_eq!(proved[..], case.taps[..], "{about}");
+            }
+        }
+    }
+}
+
+#[test]
+fn edit() {
+    for seed in seeds("edit") {
+        for case in edit_cases(seed, 2000) {
+            let about = format!("seed {seed}: {}", case.name);
+            let mut proved = holding(&case.trace);
+            let mut other = holding(&case.trace);
+            let table = case.table.clone();
+            let answer = lemoncolumn::edit(&table, &mut proved, case.claim, case.tap, case.new);
+            assert_eq!(table, case.table, "{about}");
+            let second = second::edit(&case.table, &mut other, case.claim, case.tap, case.new);
+            agree(&about, (answer, &proved), (second, &other), case.refusal);
+            if case.refusal.is_none() {
+                assert_eq!(answer, Ok(case.output), "{about}");
+                assert_eq!(proved[..], case.altered[..], "{about}");
             }
         }
     }

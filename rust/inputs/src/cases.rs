@@ -63,6 +63,21 @@ pub struct ReadOffCase {
 }
 
 #[derive(Clone, Debug)]
+pub struct EditCase {
+    pub name: String,
+    pub table: Vec<u64>,
+    pub trace: Vec<u64>,
+    pub claim: [u64; 4],
+    pub tap: usize,
+    pub new: [u64; 4],
+    /// For 11 the tests are the failing test's place in the order.
+    pub refusal: Option<Refusal>,
+    /// What is to be left in the trace and returned when nothing is refused.
+    pub altered: Vec<u64>,
+    pub output: [u64; 4],
+}
+
+#[derive(Clone, Debug)]
 pub struct PackCase {
     pub name: String,
     pub taps: Vec<u64>,

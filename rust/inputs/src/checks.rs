@@ -5,7 +5,7 @@ use crate::cases::{
     ReadOffCase,
 };
 use crate::random::Random;
-use crate::tables::{damaged_tables, dense, good, lent, special_tables};
+use crate::tables::{damaged_tables, dense, good, lent, special_tables, Good, LentTable};
 use crate::taps::{list, some_k};
 use crate::traces::{broken, day, failed, faulty_day, honest, rows_of, Day, Fault};
 use second::field::{add, P};
@@ -59,29 +59,40 @@ fn sample_rows(random: &mut Random, constraint: usize, k: usize) -> Vec<usize> {
 
 /// Lengths of traces that are not 384k with k permitted; 1152, 1920 and 786432
 /// are 384k with k = 3, 5 and 2048.
-const LENGTHS: [usize; 12] = [0, 1, 12, 32, 372, 383, 385, 767, 769, 1152, 1920, 786432];
+pub const LENGTHS: [usize; 12] = [0, 1, 12, 32, 372, 383, 385, 767, 769, 1152, 1920, 786432];
 
-/// What of a call is damaged.
-struct Damaged {
-    table: bool,
-    length: bool,
-    destination: bool,
-    claim: bool,
-    word: bool,
-    constraint: bool,
+/// What of a lent day is damaged.
+pub struct Damaged {
+    pub table: bool,
+    pub length: bool,
+    pub claim: bool,
+    pub word: bool,
+    pub constraint: bool,
 }
 
-/// A case of Read-off; without its destination one of Check.
-fn lent_case(random: &mut Random, number: usize, damaged: Damaged) -> ReadOffCase {
+/// A day as lent, with the refusal of each part. `taps` and `good` are those it
+/// was made from.
+pub struct LentDay {
+    pub name: String,
+    pub taps: Vec<u64>,
+    pub good: Good,
+    pub table: LentTable,
+    pub trace: Vec<u64>,
+    pub claim: [u64; 4],
+    pub length: Option<Refusal>,
+    pub claim_word: Option<Refusal>,
+    pub word: Option<Refusal>,
+    pub fails: Option<Refusal>,
+}
+
+pub fn lent_day(random: &mut Random, number: usize, damaged: Damaged) -> LentDay {
     let k = some_k(random);
     let day = if damaged.constraint {
         broken(random, k, number / 8)
     } else {
         honest(random, k)
     };
-    let k = day.trace.len() / 384;
     let table = lent(random, &day.table, damaged.table);
-    let (destination, not_exact) = lent_destination(random, 12 * k + 4, damaged.destination);
     let (claim, claim_word) = lent_claim(random, day.claim, damaged.claim);
     let mut trace = day.trace;
     let mut length = None;
@@ -99,19 +110,44 @@ fn lent_case(random: &mut Random, number: usize, damaged: Damaged) -> ReadOffCas
         name += &format!(", {words} trace words");
     }
     let not_canonical = claim_word.map_or("", |_| "claim not canonical");
-    let fails = day.fails.map(failed);
-    ReadOffCase {
-        name: join(&[
-            &name,
-            &table.name,
-            not_canonical,
-            &format!("into {destination}"),
-        ]),
-        table: table.words,
+    LentDay {
+        name: join(&[&name, &table.name, not_canonical]),
+        taps: day.taps,
+        good: day.table,
+        table,
         trace,
         claim,
+        length,
+        claim_word,
+        word,
+        fails: day.fails.map(failed),
+    }
+}
+
+/// A case of Read-off; without its destination one of Check.
+fn lent_case(
+    random: &mut Random,
+    number: usize,
+    damaged: Damaged,
+    destination: bool,
+) -> ReadOffCase {
+    let day = lent_day(random, number, damaged);
+    let (destination, not_exact) = lent_destination(random, day.taps.len(), destination);
+    let order = [
+        day.table.refusal,
+        day.length,
+        not_exact,
+        day.claim_word,
+        day.word,
+        day.fails,
+    ];
+    ReadOffCase {
+        name: join(&[&day.name, &format!("into {destination}")]),
+        table: day.table.words,
+        trace: day.trace,
+        claim: day.claim,
         destination,
-        refusal: first_of(&[table.refusal, length, not_exact, claim_word, word, fails]),
+        refusal: first_of(&order),
         taps: day.taps,
     }
 }
@@ -227,12 +263,11 @@ pub fn check_cases(seed: u64, n: usize) -> Vec<CheckCase> {
         let damaged = Damaged {
             table: flags[0],
             length: flags[2],
-            destination: false,
             claim: flags[4],
             word: flags[6],
             constraint: flags[1] || flags[3] || flags[5] || flags[7],
         };
-        without_destination(lent_case(&mut random, number, damaged))
+        without_destination(lent_case(&mut random, number, damaged, false))
     };
     let mut cases = check_corners(seed);
     cases.extend((0..n).map(make));
@@ -247,12 +282,11 @@ pub fn read_off_cases(seed: u64, n: usize) -> Vec<ReadOffCase> {
         let damaged = Damaged {
             table: flags[0],
             length: flags[2],
-            destination: flags[3],
             claim: flags[4],
             word: flags[6],
             constraint: flags[1] || flags[5] || flags[7],
         };
-        lent_case(&mut random, number, damaged)
+        lent_case(&mut random, number, damaged, flags[3])
     };
     let mut cases = read_off_corners(seed);
     cases.extend((0..n).map(make));

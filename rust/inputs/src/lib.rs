@@ -1,5 +1,6 @@
 //! Inputs for comparing one implementation with another, damaged input above
-//! all. The modules follow document 01, and each imports only those before it:
+//! all. The modules follow documents 01 and 02, and each imports only those
+//! before it:
 //!
 //! 1. `random`: words from a seed ("The field")
 //! 2. `cases`: a kind of case for each operation ("What is turned back")
@@ -9,6 +10,7 @@
 //! 6. `checks`: Check and Read-off ("The 52 constraints")
 //! 7. `files`: Pack and Unpack ("The board file")
 //! 8. `program`: the line that the program prints (there, "The program reads")
+//! 9. `edits`: Edit (document 02, U1)
 //!
 //! For each operation there is a kind of case and a function that makes its
 //! corner cases and `n` random ones from a seed; the same seed makes the same
@@ -24,6 +26,7 @@
 
 pub mod cases;
 pub mod checks;
+pub mod edits;
 pub mod files;
 pub mod program;
 pub mod random;
@@ -33,6 +36,7 @@ pub mod traces;
 
 pub use cases::*;
 pub use checks::{check_cases, fault_cases, read_off_cases};
+pub use edits::edit_cases;
 pub use files::{pack_cases, unpack_cases};
 pub use program::clear_cases;
 pub use random::Random;

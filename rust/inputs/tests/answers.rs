@@ -1,6 +1,7 @@
 //! Every case of every operation, lent to `second` (and to `yardstick` where it
 //! has the operation): the refusal must be the one the case was made for, a
-//! refused destination must stay as it was, and what is written must be right.
+//! refused call must leave what is lent as it was, and what is written must be
+//! right.
 
 use inputs::traces::with_faults;
 use inputs::*;
@@ -12,11 +13,13 @@ const SEED: u64 = 20261115;
 const OLD: u64 = 0x0123456789abcdef;
 
 /// Counts refusals by number, 0 for accepted, and checks that each has come.
-struct Seen([usize; 15]);
+struct Seen([usize; NUMBERS]);
+/// 0 to 15.
+const NUMBERS: usize = 16;
 
 impl Seen {
     fn new() -> Seen {
-        Seen([0; 15])
+        Seen([0; NUMBERS])
     }
 
     fn note(&mut self, refusal: Option<Refusal>) {
@@ -24,7 +27,7 @@ impl Seen {
     }
 
     fn each(&self, numbers: &[usize], at_least: usize) {
-        let seen: Vec<usize> = (0..15).filter(|&number| self.0[number] > 0).collect();
+        let seen: Vec<usize> = (0..NUMBERS).filter(|&number| self.0[number] > 0).collect();
         let mut expected = numbers.to_vec();
         expected.sort();
         assert_eq!(seen, expected, "seed {SEED}: {:?}", self.0);
@@ -173,6 +176,22 @@ fn read_off() {
         seen.note(case.refusal);
     }
     seen.each(&[0, 1, 2, 4, 7, 8, 9, 10, 11], 10);
+}
+
+#[test]
+fn edit() {
+    let mut seen = Seen::new();
+    for case in edit_cases(SEED, 800) {
+        let mut trace = case.trace.clone();
+        let answer = second::edit(&case.table, &mut trace, case.claim, case.tap, case.new);
+        let expected = match case.refusal {
+            None => (Ok(case.output), case.altered),
+            Some(refusal) => (Err(refusal), case.trace),
+        };
+        assert_eq!((answer, trace), expected, "seed {SEED}: {}", case.name);
+        seen.note(case.refusal);
+    }
+    seen.each(&[0, 1, 2, 4, 6, 7, 9, 10, 11, 15], 10);
 }
 
 #[test]

@@ -76,6 +76,24 @@ extern "C" {
         tap_words: usize,
     ) -> u64;
 
+    pub fn lemoncolumn_edit(
+        table: *const u64,
+        table_words: usize,
+        trace: *mut u64,
+        trace_words: usize,
+        c0: u64,
+        c1: u64,
+        c2: u64,
+        c3: u64,
+        tap: usize,
+        w0: u64,
+        w1: u64,
+        w2: u64,
+        w3: u64,
+        output: *mut u64,
+        output_words: usize,
+    ) -> u64;
+
     pub fn lemoncolumn_pack(
         taps: *const u64,
         tap_words: usize,

@@ -1,4 +1,4 @@
-//! The proved operations of document 01, for Rust.
+//! The proved operations of documents 01 and 02, for Rust.
 //!
 //! Each call answers a full result or a [`Refusal`], and a refused call leaves
 //! every lent buffer as it was. Lengths are tested by the library, so any slice
@@ -155,6 +155,41 @@ pub fn read_off(
         )
     });
     decode(code)
+}
+
+/// Tests a trace against a claim, and replaces tap number `tap` of its list, 0 to
+/// 3k: the lent trace becomes that of the altered list. Answers the output of that
+/// list's chain.
+pub fn edit(
+    table: &[u64],
+    trace: &mut [u64],
+    claim: [u64; 4],
+    tap: usize,
+    new: [u64; 4],
+) -> Result<[u64; 4], Refusal> {
+    let [a, b, c, d] = claim;
+    let [e, f, g, h] = new;
+    let mut output = [0; 4];
+    let code = call(|| unsafe {
+        lemoncolumn_edit(
+            table.as_ptr(),
+            table.len(),
+            trace.as_mut_ptr(),
+            trace.len(),
+            a,
+            b,
+            c,
+            d,
+            tap,
+            e,
+            f,
+            g,
+            h,
+            output.as_mut_ptr(),
+            output.len(),
+        )
+    });
+    accepted(code).map(|()| output)
 }
 
 /// Writes the board file of a list of taps and a claim.

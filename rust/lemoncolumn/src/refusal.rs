@@ -1,9 +1,9 @@
-//! The refusals (document 01, "What is turned back"), read out of the number
-//! that a call returns (crates/export/specs/Code.antt).
+//! The refusals (document 01, "What is turned back"; document 02), read out of
+//! the number that a call returns (crates/export/specs/Code.antt).
 
 use std::fmt;
 
-/// Why a call was refused, with what document 01 returns beside the number.
+/// Why a call was refused, with what is returned beside the number.
 #[derive(Clone, Copy, Debug, PartialEq, Eq)]
 pub enum Refusal {
     /// 1: the table is not 396 words raw, or 540 prepared.
@@ -41,6 +41,8 @@ pub enum Refusal {
     /// 14: spare bits or a k not permitted (index 0), or an element that is not
     /// canonical (its first word).
     WrongValue { word: u64 },
+    /// 15: the tap number is above 3k.
+    NoSuchTap,
 }
 
 /// Reads the number that a call returns: the tests walked, 0 for a call that
@@ -49,7 +51,7 @@ pub enum Refusal {
 ///
 /// # Panics
 ///
-/// Where bits 0 to 5 are above 14, as in no number that a call returns.
+/// Where bits 0 to 5 are above 15, as in no number that a call returns.
 pub fn decode(code: u64) -> Result<u64, Refusal> {
     let constraint = code >> 6 & 0x3f;
     let row = code >> 12 & 0xff_ffff;
@@ -74,6 +76,7 @@ pub fn decode(code: u64) -> Result<u64, Refusal> {
         12 => Refusal::FileLength,
         13 => Refusal::WrongKind { word: value },
         14 => Refusal::WrongValue { word: value },
+        15 => Refusal::NoSuchTap,
         _ => unreachable!("no refusal has this number"),
     })
 }
@@ -84,7 +87,7 @@ pub(crate) fn accepted(code: u64) -> Result<(), Refusal> {
 }
 
 impl Refusal {
-    /// Document 01's number.
+    /// Its number in document 01 or 02.
     pub fn number(self) -> u64 {
         match self {
             Refusal::TableLength => 1,
@@ -101,11 +104,12 @@ impl Refusal {
             Refusal::FileLength => 12,
             Refusal::WrongKind { .. } => 13,
             Refusal::WrongValue { .. } => 14,
+            Refusal::NoSuchTap => 15,
         }
     }
 
-    /// The index or cell that document 01 returns beside the number, if it does:
-    /// for 2, 4, 6, 9, 10, 13 and 14.
+    /// The index or cell that is returned beside the number, if one is: for 2, 4,
+    /// 6, 9, 10, 13 and 14.
     pub fn index(self) -> Option<u64> {
         match self {
             Refusal::TableWord { index }
@@ -120,7 +124,8 @@ impl Refusal {
             | Refusal::TraceLength
             | Refusal::DestinationLength
             | Refusal::Constraint { .. }
-            | Refusal::FileLength => None,
+            | Refusal::FileLength
+            | Refusal::NoSuchTap => None,
         }
     }
 }

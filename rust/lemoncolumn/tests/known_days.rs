@@ -1,4 +1,5 @@
-//! Document 01's known days, through the safe calls.
+//! Document 01's known days, and edits of them worked out by hand, through the
+//! safe calls.
 
 use lemoncolumn::*;
 
@@ -68,6 +69,78 @@ fn traces() {
     let mut taps = [7; 16];
     assert_eq!(read_off(&z, &trace, [0; 4], &mut taps), Ok(372));
     assert_eq!(taps, [0, 0, 0, 0, 0, 0, 0, 0, 0, 1, 0, 0, 0, 0, 0, 0]);
+}
+
+/// Under Z a round is a root and then a cube. So a hash answers its first tap, and
+/// its ten rows hold the roots of its input: rows 1 to 10, 11 to 20 and 21 to 30 have
+/// w_0 in columns 0 to 3, and w_1, w_2 and w_3 in columns 4 to 7. Row 31 is the last
+/// input again. The edit of tap 2 is the known day above.
+#[test]
+fn edits() {
+    let z = table(0, 0);
+    let (first, last) = ([8, 0, 0, 0], [0, 0, 0, P - 1]);
+    for (tap, new, cells, output) in [
+        (
+            0,
+            first,
+            vec![(0..1, 0, 8), (1..31, 0, 2), (31..32, 0, 8)],
+            first,
+        ),
+        (1, [0, 0, 27, 0], vec![(0..1, 6, 27), (1..11, 6, 3)], [0; 4]),
+        (2, [0, 1, 0, 0], vec![(11..21, 5, 1)], [0; 4]),
+        (3, last, vec![(21..32, 7, P - 1)], [0; 4]),
+    ] {
+        let mut expected = [0; 384];
+        for (rows, column, cell) in cells {
+            rows.for_each(|row| expected[12 * row + column] = cell);
+        }
+        let mut trace = [0; 384];
+        assert_eq!(edit(&z, &mut trace, [0; 4], tap, new), Ok(output), "{tap}");
+        assert_eq!(trace, expected, "{tap}");
+        assert_eq!(edit(&z, &mut trace, output, tap, new), Ok(output), "{tap}");
+        assert_eq!(trace, expected, "{tap}: by the same tap");
+        assert_eq!(edit(&z, &mut trace, output, tap, [0; 4]), Ok([0; 4]));
+        assert_eq!(trace, [0; 384], "{tap}: and back");
+    }
+}
+
+/// Under A each of the three hashes adds 1 to cell 0 of w_0. Under S the output is
+/// the last tap.
+#[test]
+fn outputs_of_edits() {
+    let new = [5, 6, 7, 9];
+    let (a, s) = (table(0, 1), table(11, 0));
+    for (table, taps, outputs) in [
+        (
+            a,
+            [0; 16],
+            [[8, 6, 7, 9], [3, 0, 0, 0], [3, 0, 0, 0], [3, 0, 0, 0]],
+        ),
+        (s, [1; 16], [[1; 4], [1; 4], [1; 4], new]),
+    ] {
+        let mut built = [0; 384];
+        let claim = build(&table, &taps, &mut built).expect("built");
+        for (tap, output) in outputs.into_iter().enumerate() {
+            let mut trace = built;
+            let edited = edit(&table, &mut trace, claim, tap, new);
+            assert_eq!(edited, Ok(output), "{tap}");
+        }
+    }
+}
+
+#[test]
+fn refused_edits() {
+    let z = table(0, 0);
+    let mut trace = [0; 384];
+    for tap in [4, 1 << 32, usize::MAX] {
+        let edited = edit(&z, &mut trace, [P; 4], tap, [P; 4]);
+        assert_eq!(edited, Err(Refusal::NoSuchTap), "{tap}");
+    }
+    let edited = edit(&z, &mut trace, [0; 4], 3, [0, 0, P, P]);
+    assert_eq!(edited, Err(Refusal::TapWord { index: 2 }));
+    let edited = edit(&z, &mut trace, [1, 0, 0, 0], 3, [0; 4]);
+    assert!(fails(31, 49)(edited.map(|_| 0)));
+    assert_eq!(trace, [0; 384]);
 }
 
 #[test]

@@ -1,9 +1,10 @@
-//! The decoder of refusals beside document 01's table, "What is turned back".
+//! The decoder of refusals beside document 01's table, "What is turned back", and
+//! document 02.
 
 use lemoncolumn::*;
 
-/// Each number, and whether "Returned" names an index or a cell there.
-const TABLE: [(u64, bool); 14] = [
+/// Each number, and whether an index or a cell is named with it there.
+const TABLE: [(u64, bool); 15] = [
     (1, false),
     (2, true),
     (3, false),
@@ -18,6 +19,7 @@ const TABLE: [(u64, bool); 14] = [
     (12, false),
     (13, true),
     (14, true),
+    (15, false),
 ];
 
 /// The word that a call returns, with something in each of its parts.

@@ -117,7 +117,7 @@ impl Lent<'_> {
     }
 
     /// The walk: how many tests there are, or the first one that fails.
-    fn walk(&self, k: usize) -> Result<u64, Refusal> {
+    pub fn walk(&self, k: usize) -> Result<u64, Refusal> {
         let order = tests(k);
         for (before, &test) in order.iter().enumerate() {
             if !self.holds(test) {
@@ -133,7 +133,7 @@ impl Lent<'_> {
 
     /// The taps: w_0 and w_1 from the first row 0; further ones from columns 4
     /// to 7 of each later row 0, and of back less K_0 at rows 10 and 20.
-    fn taps(&self, k: usize) -> Vec<u64> {
+    pub fn taps(&self, k: usize) -> Vec<u64> {
         let mut taps: Vec<u64> = (0..TAP).map(|column| self.cell(0, column)).collect();
         for batch in 0..k {
             let first = ROWS * batch;
@@ -193,7 +193,7 @@ pub fn read_off(
 }
 
 /// 9, then 10.
-fn test_words(trace: &[u64], claim: [u64; TAP]) -> Result<(), Refusal> {
+pub fn test_words(trace: &[u64], claim: [u64; TAP]) -> Result<(), Refusal> {
     test_claim(claim)?;
     match first_not_canonical(trace) {
         Some(index) => Err(Refusal::TraceWord {

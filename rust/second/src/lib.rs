@@ -1,12 +1,15 @@
-//! A second implementation of document 01, written from the documents alone.
+//! A second implementation of document 01, and of what document 02 adds to it,
+//! written from the documents alone.
 //!
-//! It is plain and slow on purpose: one module for each section of document 01,
-//! the field on `u128`, and a checker that evaluates one test at a time. Each
-//! operation reads its inputs, answers a full result or a refusal, and writes
-//! into the lent destination only when nothing can be refused any more.
+//! It is plain and slow on purpose: one module for each section of document 01
+//! and each operation of document 02, the field on `u128`, and a checker that
+//! evaluates one test at a time. Each operation reads its inputs, answers a full
+//! result or a refusal, and writes into what is lent only when nothing can be
+//! refused any more.
 
 pub mod board;
 pub mod constraints;
+pub mod edit;
 pub mod field;
 pub mod hash;
 pub mod program;
@@ -16,6 +19,7 @@ pub mod trace;
 
 pub use board::{pack, unpack};
 pub use constraints::{check, read_off};
+pub use edit::edit;
 pub use hash::{chain, hash};
 pub use program::clear;
 pub use refusal::Refusal;

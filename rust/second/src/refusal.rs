@@ -1,7 +1,8 @@
-//! The refusals (document 01, "What is turned back").
+//! The refusals (document 01, "What is turned back"; document 02).
 
-/// One case for each cause, in the order of document 01's numbers, with the
-/// values that its column "Returned" names.
+/// One case for each cause, in the order of their numbers, with the values that
+/// document 01's column "Returned" names. Those of document 02 stand alone where
+/// it names none.
 #[derive(Clone, Copy, Debug, PartialEq, Eq)]
 pub enum Refusal {
     /// 1: the table is not 396 words raw, or 540 prepared.
@@ -40,6 +41,8 @@ pub enum Refusal {
     /// 14: spare bits or a k not permitted (index 0), or an element that is not
     /// canonical (its first word).
     Value { word: u64 },
+    /// 15: the tap number is above 3k.
+    NoSuchTap,
 }
 
 impl Refusal {
@@ -60,6 +63,7 @@ impl Refusal {
             Refusal::FileLength => 12,
             Refusal::Kind { .. } => 13,
             Refusal::Value { .. } => 14,
+            Refusal::NoSuchTap => 15,
         }
     }
 
@@ -72,7 +76,8 @@ impl Refusal {
             | Refusal::TapLength
             | Refusal::TraceLength
             | Refusal::DestinationLength
-            | Refusal::FileLength => vec![],
+            | Refusal::FileLength
+            | Refusal::NoSuchTap => vec![],
             Refusal::TableWord { index }
             | Refusal::TapWord { index }
             | Refusal::ClaimWord { index }

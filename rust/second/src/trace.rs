@@ -36,7 +36,7 @@ pub fn build(table: &[u64], taps: &[u64], destination: &mut [u64]) -> Result<[u6
 }
 
 /// The section 3.1 trace of a list, and its chain's output.
-fn trace_of(table: &Table, taps: &[u64], k: usize) -> (Vec<u64>, [u64; TAP]) {
+pub fn trace_of(table: &Table, taps: &[u64], k: usize) -> (Vec<u64>, [u64; TAP]) {
     let mut trace = Vec::with_capacity(trace_words(k));
     let mut last = tap(taps, 0);
     for batch in 0..k {

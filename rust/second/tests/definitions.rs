@@ -1,12 +1,12 @@
-//! The operations against document 01's definitions and 004's Algorithm 1,
-//! written here a second time in another manner: products by doubling, powers
-//! by halving, the hash column by column, the file by division.
+//! The operations against document 01's definitions, 004's Algorithm 1 and
+//! document 02, written here a second time in another manner: products by
+//! doubling, powers by halving, the hash column by column, the file by division.
 
 mod common;
 use common::*;
 use second::constraints::tests;
 use second::field::{self, P};
-use second::{build, chain, check, hash, pack, prepare, read_off, unpack, Refusal};
+use second::{build, chain, check, edit, hash, pack, prepare, read_off, unpack, Refusal};
 
 /// a times b by doubling and adding; nothing exceeds 2p.
 fn times(a: u64, b: u64) -> u64 {
@@ -198,6 +198,65 @@ fn chain_trace_and_read_off() {
         let answer = read_off(&table, &trace, claim, &mut read);
         assert_eq!(answer, Ok(372 * k as u64));
         assert_eq!(read, taps);
+    }
+}
+
+/// "Row 0 for taps 0 and 1; for a later tap i it lies in batch (i - 1) div 3, at
+/// row 0, 11 or 21 as (i - 1) mod 3 is 0, 1 or 2." Counted in the whole trace.
+fn first_touched(tap: usize) -> usize {
+    match tap {
+        0 | 1 => 0,
+        i => 32 * ((i - 1) / 3) + [0, 11, 21][(i - 1) % 3],
+    }
+}
+
+/// Every tap of k = 1, 2, 4, replaced by another.
+#[test]
+fn an_edit_is_a_build_of_the_altered_list() {
+    let mut random = Random(10);
+    for k in [1, 2, 4] {
+        let raw = random_raw(&mut random);
+        let table = prepared(&raw);
+        let mut taps = random.canonicals(12 * k + 4);
+        let (mut trace, last) = section_3_1(&raw, &taps);
+        let mut claim: [u64; 4] = last.try_into().expect("four words");
+        for tap in 0..=3 * k {
+            let new: [u64; 4] = std::array::from_fn(|_| random.canonical());
+            taps[4 * tap..4 * tap + 4].copy_from_slice(&new);
+            let before = trace.clone();
+            claim = edit(&table, &mut trace, claim, tap, new).expect("edits");
+            let (rows, last) = section_3_1(&raw, &taps);
+            assert_eq!(trace, rows, "tap {tap}, k = {k}");
+            assert_eq!(claim[..], last, "tap {tap}, k = {k}");
+            // Earlier rows keep their cells, and the first row touched does not.
+            let touched = (0..32 * k).find(|row| {
+                let cells = 12 * row..12 * (row + 1);
+                trace[cells.clone()] != before[cells]
+            });
+            assert_eq!(touched, Some(first_touched(tap)), "tap {tap}, k = {k}");
+        }
+    }
+}
+
+/// An edit by the same tap changes nothing, and an edit back undoes the first.
+#[test]
+fn edits_there_and_back() {
+    let mut random = Random(11);
+    for k in [1, 2, 8] {
+        let table = prepared(&random_raw(&mut random));
+        let taps = random.canonicals(12 * k + 4);
+        let mut built = vec![7; 384 * k];
+        let claim = build(&table, &taps, &mut built).expect("builds");
+        for (tap, words) in taps.chunks(4).enumerate() {
+            let old = words.try_into().expect("four words");
+            let mut trace = built.clone();
+            assert_eq!(edit(&table, &mut trace, claim, tap, old), Ok(claim));
+            assert_eq!(trace, built, "tap {tap}, k = {k}");
+            let output = edit(&table, &mut trace, claim, tap, [P - 1; 4]).expect("edits");
+            assert_ne!(trace, built, "tap {tap}, k = {k}");
+            assert_eq!(edit(&table, &mut trace, output, tap, old), Ok(claim));
+            assert_eq!(trace, built, "tap {tap}, k = {k}");
+        }
     }
 }
 

@@ -1,10 +1,11 @@
 //! Every line of document 01's "Known days", and the program's lines. The
-//! expected values stand in document 01.
+//! expected values stand in document 01; those of the edits are worked out by hand
+//! from its definitions.
 
 mod common;
 use common::*;
 use second::field::{mul, root, P};
-use second::{build, chain, check, clear, hash, pack, prepare, read_off, unpack, Refusal};
+use second::{build, chain, check, clear, edit, hash, pack, prepare, read_off, unpack, Refusal};
 
 const NO_CLAIM: [u64; 4] = [0; 4];
 
@@ -92,6 +93,60 @@ fn column_5_of_rows_11_to_20() {
     let mut taps = vec![7; 16];
     assert_eq!(read_off(&z(), &trace, NO_CLAIM, &mut taps), Ok(372));
     assert_eq!(taps, [0, 0, 0, 0, 0, 0, 0, 0, 0, 1, 0, 0, 0, 0, 0, 0]);
+}
+
+/// The same day, from the zero trace and back, as an edit of w_2.
+#[test]
+fn column_5_of_rows_11_to_20_by_an_edit() {
+    let cells: Vec<(usize, usize)> = (11..=20).map(|row| (row, 5)).collect();
+    let mut trace = zero_trace_with(&[]);
+    let edited = edit(&z(), &mut trace, NO_CLAIM, 2, [0, 1, 0, 0]);
+    assert_eq!(edited, Ok(NO_CLAIM));
+    assert_eq!(trace, zero_trace_with(&cells));
+    let edited = edit(&z(), &mut trace, NO_CLAIM, 2, [0; 4]);
+    assert_eq!(edited, Ok(NO_CLAIM));
+    assert_eq!(trace, zero_trace_with(&[]));
+}
+
+/// Under Z a round is a root and then a cube, so each state of a hash is its
+/// input: the first batch has (w_0, w_1), (w_0, w_2), (w_0, w_3), the second
+/// (w_0, w_4) and so on. 1 and its root are the same.
+#[test]
+fn edits_under_z() {
+    for (tap, rows, columns) in [
+        (0, 0..64, 0..4),
+        (1, 0..11, 4..8),
+        (2, 11..21, 4..8),
+        (3, 21..32, 4..8),
+        (4, 32..43, 4..8),
+        (5, 43..53, 4..8),
+        (6, 53..64, 4..8),
+    ] {
+        let mut expected = vec![0; 768];
+        for row in rows {
+            expected[12 * row + columns.start..12 * row + columns.end].fill(1);
+        }
+        let output = if tap == 0 { [1; 4] } else { NO_CLAIM };
+        let mut trace = vec![0; 768];
+        let edited = edit(&z(), &mut trace, NO_CLAIM, tap, [1; 4]);
+        assert_eq!(edited, Ok(output), "{tap}");
+        assert_eq!(trace, expected, "{tap}");
+    }
+}
+
+/// Under A each hash adds 1 to cell 0 of w_0. Under S the output is the last tap.
+#[test]
+fn outputs_of_edits_under_a_and_s() {
+    let new = [5, 6, 7, 9];
+    for tap in 0..4 {
+        let mut trace = vec![7; 384];
+        let claim = build(&a(), &[0; 16], &mut trace).expect("builds");
+        let output = if tap == 0 { [8, 6, 7, 9] } else { [3, 0, 0, 0] };
+        assert_eq!(edit(&a(), &mut trace, claim, tap, new), Ok(output));
+        let claim = build(&s(), &[1; 16], &mut trace).expect("builds");
+        let output = if tap == 3 { new } else { [1; 4] };
+        assert_eq!(edit(&s(), &mut trace, claim, tap, new), Ok(output));
+    }
 }
 
 #[test]

@@ -1,12 +1,12 @@
-//! The order of the refusals (document 01, "What is turned back"). Each test
-//! lends a call with everything wrong at once and mends one thing after the
-//! other, in the order of document 01; at each step the next refusal appears,
-//! and no lent destination changes.
+//! The order of the refusals (document 01, "What is turned back"; document 02).
+//! Each test lends a call with everything wrong at once and mends one thing after
+//! the other, in the order of the documents; at each step the next refusal
+//! appears, and nothing that is lent changes.
 
 mod common;
 use common::*;
 use second::field::P;
-use second::{build, chain, check, clear, hash, pack, prepare, read_off, unpack, Refusal};
+use second::{build, chain, check, clear, edit, hash, pack, prepare, read_off, unpack, Refusal};
 
 const TABLE_LENGTH: Refusal = Refusal::TableLength;
 const TABLE_WORD: Refusal = Refusal::TableWord { index: 200 };
@@ -72,6 +72,7 @@ fn numbers_and_places() {
         (Refusal::FileLength, 12, vec![]),
         (Refusal::Kind { word: 5 }, 13, vec![5]),
         (Refusal::Value { word: 7 }, 14, vec![7]),
+        (Refusal::NoSuchTap, 15, vec![]),
     ];
     for (refusal, number, place) in listed {
         assert_eq!(refusal.number(), number);
@@ -167,6 +168,61 @@ fn check_and_read_off_1_2_4_7_8_9_10_11() {
             assert_eq!(check(table, trace, *claim), expected);
         }
     }
+}
+
+/// Here 10 comes before 6. The last tap does not reach the output under A.
+#[test]
+fn edit_1_2_4_7_15_9_10_6_11() {
+    let [length, word, cell, mended] = tables();
+    let [bad_length, bad_claim, bad_word, bad_cell, honest] = traces();
+    let bad_tap = [0, P, 0, P];
+    let tap_word = Refusal::TapWord { index: 1 };
+    let steps = [
+        (&length, &bad_length, 7, bad_tap, Err(TABLE_LENGTH)),
+        (&word, &bad_length, 7, bad_tap, Err(TABLE_WORD)),
+        (&cell, &bad_length, 7, bad_tap, Err(INVERSE_CELL)),
+        (&mended, &bad_length, 7, bad_tap, Err(Refusal::TraceLength)),
+        (&mended, &bad_claim, 7, bad_tap, Err(Refusal::NoSuchTap)),
+        (&mended, &bad_claim, 6, bad_tap, Err(CLAIM_WORD)),
+        (&mended, &bad_word, 6, bad_tap, Err(TRACE_WORD)),
+        (&mended, &bad_cell, 6, bad_tap, Err(tap_word)),
+        (&mended, &bad_cell, 6, [1; 4], Err(FAILED)),
+        (&mended, &honest, 6, [1; 4], Ok([6, 0, 0, 0])),
+    ];
+    for (table, (trace, claim), number, new, expected) in steps {
+        let mut lent = trace.clone();
+        assert_eq!(edit(table, &mut lent, *claim, number, new), expected);
+        assert_eq!(lent == *trace, expected.is_err());
+    }
+}
+
+/// A list of k batches has taps 0 to 3k.
+#[test]
+fn tap_numbers() {
+    for k in [1, 2, 4, 1024] {
+        let mut trace = vec![0; 384 * k];
+        for number in [0, 1, 3 * k - 1, 3 * k] {
+            let answer = edit(&z(), &mut trace, [0; 4], number, [0; 4]);
+            assert_eq!(answer, Ok([0; 4]), "tap {number}, k = {k}");
+        }
+        // 2^62 taps are 2^64 words.
+        for number in [3 * k + 1, 12 * k + 3, 1 << 32, 1 << 62, usize::MAX] {
+            let answer = edit(&z(), &mut trace, [0; 4], number, [0; 4]);
+            assert_eq!(answer, Err(Refusal::NoSuchTap), "tap {number}, k = {k}");
+        }
+    }
+}
+
+/// A trace that is not accepted is refused by an edit that would change nothing
+/// too.
+#[test]
+fn acceptance_is_tested_by_an_edit_that_changes_nothing() {
+    let mut trace = vec![0; 384];
+    let answer = edit(&z(), &mut trace, [0, 1, 0, 0], 0, [0; 4]);
+    assert_eq!(failed_at(answer.map(|_| 0)), (31, 50));
+    trace[12 * 31 + 5] = 1;
+    let answer = edit(&z(), &mut trace, [0; 4], 0, [0; 4]);
+    assert_eq!(failed_at(answer.map(|_| 0)), (30, 38));
 }
 
 /// The product is M times the stored inverse, cells taken row by row. Under S

@@ -87,6 +87,12 @@ enum-known-refusal-8 c = search needs
 indexed-requires-7 : tie.Need-indexed-requires-7
 indexed-requires-7 c κs = search needs
 
+enum-told-7 : tie.Need-enum-told-7
+enum-told-7 c = search needs
+
+alone-requires-7 : tie.Need-alone-requires-7
+alone-requires-7 c κs = search needs
+
 returns : tie.Need-returns
 returns c = c .alone .ensures ∙ sym (ap told (c .before .enum-told .given .1))
 
@@ -129,6 +135,9 @@ returns-13 c = c .indexed6 .ensures ∙ sym (ap told (c .before .before .refusal
 returns-14 : tie.Need-returns-14
 returns-14 c = c .indexed7 .ensures ∙ sym (ap told (c .before .before .refusal8 .given .1))
 
+returns-15 : tie.Need-returns-15
+returns-15 c = c .alone7 .ensures ∙ sym (ap told (c .before .enum-told7 .given .1))
+
 pub told-spec : {M : Type 1} → statement M
 told-spec =
     tie.close
@@ -160,6 +169,8 @@ told-spec =
     indexed-requires-6
     enum-known-refusal-8
     indexed-requires-7
+    enum-told-7
+    alone-requires-7
     returns
     returns-2
     returns-3
@@ -173,4 +184,5 @@ told-spec =
     returns-11
     returns-12
     returns-13
-    returns-14)
+    returns-14
+    returns-15)

@@ -31,8 +31,8 @@ returns c =
     let r = c .refusal .ensures in
     (digest-turned-back e _ r, leaves-old e _ r)
 
-write-batches-requires : tie.Need-write-batches-requires
-write-batches-requires c κs =
+write-hashes-requires : tie.Need-write-hashes-requires
+write-hashes-requires c κs =
     let told = c .before in
     let i = build-inputs _ _ _ (sym (told .before .before .test-build .ensures) ∙ told .enum-told .given .1) in
     (i .table, i .canonical, omega (arith, i .permitted .high), i .taps, i .room)
@@ -59,8 +59,8 @@ returns-2 c =
     let told = w .before .before in
     let e = told .before .before .test-build .ensures in
     let a = told .enum-told .given .1 in (
-      digest-returned e a (digest-take (w .write-batches .result) ∙ ap digest (w .write-batches .ensures .0)),
-      leaves-new e _ a (w .write-batches .ensures .1),
+      digest-returned e a (digest-take (w .write-hashes .result) ∙ ap digest (w .write-hashes .ensures .0)),
+      leaves-new e _ a (w .write-hashes .ensures .1),
     )
 
 pub build-spec : {M : Type 1} → statement M
@@ -72,7 +72,7 @@ build-spec =
     enum-told-2
     refusal-requires
     returns
-    write-batches-requires
+    write-hashes-requires
     array-read-t14
     array-read-t17
     array-read-t20

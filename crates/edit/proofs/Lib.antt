@@ -1,0 +1,4 @@
+pub mod Altered
+pub mod Answers
+pub mod Rewriting
+pub mod Theorems

@@ -1,0 +1,3 @@
+pub mod Edit
+pub mod Answers
+pub mod EditHelpers
