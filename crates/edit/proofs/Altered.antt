@@ -18,14 +18,14 @@ use Rattle.hash.proofs.Inputs.{cell-tap}
 use Rattle.trace.specs.Trace.{hashInput, traceRow}
 use Rattle.trace.specs.RowHelpers.{rowsBefore}
 use Rattle.trace.proofs.RowKinds.{RowKind, start, middle, end, row-kind, row-start, row-middle, row-end}
-use Rattle.edit.specs.Edit.{altered, enteringRow, firstTouched}
+use Rattle.edit.specs.Edit.{altered, touchedRow, firstTouched}
 
 -- ---- the first row touched is the one in which the input of the hash that takes tap n in shows first
-entering-is : (r : ℕ) → r < 3 → enteringRow r ≡ 10 * r + (r + 2) / 3
-entering-is zero h = refl
-entering-is (suc zero) h = refl
-entering-is (suc (suc zero)) h = refl
-entering-is (suc (suc (suc r))) h = absurd (omega arith)
+touched-row-is : (r : ℕ) → r < 3 → touchedRow r ≡ 10 * r + (r + 2) / 3
+touched-row-is zero h = refl
+touched-row-is (suc zero) h = refl
+touched-row-is (suc (suc zero)) h = refl
+touched-row-is (suc (suc (suc r))) h = absurd (omega arith)
 
 pub touched-is : (n : ℕ) → firstTouched n ≡ rowsBefore (n - 1)
 unfolding firstTouched rowsBefore
@@ -34,7 +34,7 @@ touched-is n = go (decLe n 1)
     go : Dec (n ≤ 1) → firstTouched n ≡ rowsBefore (n - 1)
     go (yes h) = rw (le-leb n 1 h) (omega arith)
     go (no h) =
-        let e = entering-is ((n - 1) % 3) (omega arith) in
+        let e = touched-row-is ((n - 1) % 3) (omega arith) in
         rw (lt-leb n 1 (omega arith), e) (omega arith)
 
 module _ (w : List ℕ) (n : ℕ) (new : List ℕ) (four : length new ≡ 4) (inside : 4 * n + 4 ≤ length w) where

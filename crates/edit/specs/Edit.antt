@@ -12,10 +12,10 @@ unfoldable pub altered : List ℕ → ℕ → List ℕ → List ℕ
 altered w n new = take (4 * n) w ++ new ++ drop (4 * n + 4) w
 
 -- row 0, 11 or 21 of a batch, as n is 0, 1 or 2
-abbrev pub enteringRow : ℕ → ℕ
-enteringRow n = choose (eqb n 0) 0 (choose (eqb n 1) 11 21)
+abbrev pub touchedRow : ℕ → ℕ
+touchedRow n = choose (eqb n 0) 0 (choose (eqb n 1) 11 21)
 
 -- row 0 for taps 0 and 1; for a later tap n it lies in batch (n − 1) div 3, at row 0, 11 or 21 as (n − 1) mod 3 is 0,
 -- 1 or 2
 unfoldable pub firstTouched : ℕ → ℕ
-firstTouched n = choose (leb n 1) 0 (batchRows * ((n - 1) / 3) + enteringRow ((n - 1) % 3))
+firstTouched n = choose (leb n 1) 0 (batchRows * ((n - 1) / 3) + touchedRow ((n - 1) % 3))
