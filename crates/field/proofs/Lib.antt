@@ -1,6 +1,8 @@
-pub mod Barrett
-pub mod Forms
 pub mod Modular
+pub mod Steps
+pub mod Folding
+pub mod Gathering
+pub mod Forms
 pub mod Ring
 pub mod Power
 pub mod Divisors

@@ -1,11 +1,7 @@
 -- Montgomery's form: the element that a word stands for, and the product of two words.
 -- Assumes nothing.
-use Prim.Native.Nat.{ℕ, _+_, _*_, _-_, _/_, _%_, _^_, _<_}
+use Prim.Native.Nat.{ℕ, _*_, _%_}
 use Rattle.field.specs.Field.{P}
-
--- below 2p
-abbrev pub Short : ℕ → Type 0
-Short v = v < 2 * P
 
 -- 1 / 2^64 modulo p (proofs/Forms.antt, `inverse-of-unit`)
 abbrev pub unitInverse : ℕ
@@ -15,18 +11,17 @@ unitInverse = 288230397626548624
 abbrev pub divided : ℕ → ℕ
 divided v = (v * unitInverse) % P
 
--- 1 / p modulo 2^64, which is 2 - p
-abbrev pub wordInverse : ℕ
-wordInverse = 16140900978596511745
+-- 2^32
+abbrev pub half : ℕ
+half = 4294967296
 
--- (upper 2^64 + lower) / 2^64: the upper word less that of the multiple of p with the same lower word, plus p so that
--- it stays above 0
-unfoldable pub reduceWord : ℕ → ℕ → ℕ
-reduceWord upper lower = (upper + P) - lower * wordInverse % 2 ^ 64 * P / 2 ^ 64
+-- (p − 1) / 2^32
+abbrev pub quotient : ℕ
+quotient = 536870932
 
 -- a b / 2^64
 unfoldable pub timesWord : ℕ → ℕ → ℕ
-timesWord a b = reduceWord (a * b / 2 ^ 64) (a * b % 2 ^ 64)
+timesWord a b = divided (a * b)
 
 -- 2^128 mod p
 abbrev pub unitSquare : ℕ

@@ -1,9 +1,10 @@
 // The field of p = 2^61 + 20 * 2^32 + 1 elements (document 01, "The field").
 ghost use mathlib.Core.Path.{_≡_};
-ghost use Prim.Native.Nat.{_<_};
+ghost use Prim.Native.Nat.{_^_, _<_};
 ghost use lib.Dec.{ltb};
 ghost use Rattle.field.specs.Field.{P, Canonical, add, sub, neg, mul, square, cube, power, root, inverse};
-ghost use Rattle.field.specs.MontgomeryHelpers.{Short, divided};
+ghost use Rattle.field.specs.Gathering.{appended};
+ghost use Rattle.field.specs.MontgomeryHelpers.{divided, quotient};
 
 pub mod montgomery;
 
@@ -88,8 +89,9 @@ impl Fp {
         requires { ⌜ Canonical (self .0) ⌝ }
         ensures { λ r. ⌜ (r .0 ≡ power (self .0) exponent) × Canonical (r .0) ⌝ }
     {
-        let v = montgomery::enter(self.0);
-        Fp(montgomery::leave(power_times(montgomery::ONE, v, exponent)))
+        let q = montgomery::quotient(self.0);
+        let v = montgomery::enter(self.0, q);
+        Fp(montgomery::leave(power_times(montgomery::ONE, v, exponent, q), q))
     }
 
     pub fn root(self) -> Fp
@@ -108,33 +110,54 @@ impl Fp {
     }
 }
 
-// a * b, by Barrett's method: the quotient by p is estimated from the upper bits of the product, and is at most one too
-// small.
+// The digits in which a factor is gathered, of 21 bits each: three hold every word below 2^63.
+const DIGIT: u64 = 2097152;
+
+const TWO_DIGITS: u64 = DIGIT * DIGIT;
+
+// 2^32 in digits: by so much the upper half of a word counts more.
+const UPPER: u64 = 2048;
+
+// 2^61 in digits: what reaches it is folded.
+const TOP: u64 = 1099511627776;
+
+// 20 * 2^32 + 1, which is p - 2^61: 2^61 is its negative in the field.
+const FOLD: u64 = 85899345921;
+
+// The word moved up by a digit, plus a times the next digit.
+fn append(word: u64, a: u64, digit: u64) -> u64
+    requires { ⌜ Canonical word × Canonical a × (digit < 2 ^ 21) ⌝ }
+    ensures { λ r. ⌜ (r ≡ appended word a digit) × Canonical r ⌝ }
+{
+    let low = a % montgomery::HALF * digit;
+    let upper = a / montgomery::HALF * digit * UPPER + low / DIGIT + word;
+    let kept = upper % TOP * DIGIT + low % DIGIT;
+    let folded = upper / TOP * FOLD;
+    Fp(kept).sub(Fp(folded)).0
+}
+
+// a * b, by the digits of b from the top. After each there is one word below p: a times the digits so far.
 fn product(a: u64, b: u64) -> u64
     requires { ⌜ Canonical a × Canonical b ⌝ }
     ensures { λ r. ⌜ (r ≡ mul a b) × Canonical r ⌝ }
 {
-    let upper = wide::high(4 * a, 4 * b);
-    let quotient = wide::high(upper, RECIPROCAL);
-    let rest = std::num::wrapping_sub_u64(wide::low(a, b), wide::low(quotient, Fp::P));
-    if rest < Fp::P { rest } else { rest - Fp::P }
+    let first = append(0, a, b / TWO_DIGITS);
+    let second = append(first, a, b / DIGIT % DIGIT);
+    append(second, a, b % DIGIT)
 }
-
-// 2^124 / p, rounded down
-const RECIPROCAL: u64 = 9223371693257404923;
 
 // acc * x^e in Montgomery's form. The exponent is halved at each call; the accumulator lets the compiler make a loop of
 // it.
-fn power_times(acc: u64, x: u64, e: u64) -> u64
-    requires { ⌜ Short acc × Short x ⌝ }
-    ensures { λ r. ⌜ (divided r ≡ mul (divided acc) (power (divided x) e)) × Short r ⌝ }
+fn power_times(acc: u64, x: u64, e: u64, q: u32) -> u64
+    requires { ⌜ Canonical acc × Canonical x × (q ≡ quotient) ⌝ }
+    ensures { λ r. ⌜ (divided r ≡ mul (divided acc) (power (divided x) e)) × Canonical r ⌝ }
 {
     if e == 0 {
         return acc;
     }
-    let square = montgomery::times(x, x);
+    let square = montgomery::times(x, x, q);
     if e % 2 == 0 {
-        return power_times(acc, square, e / 2);
+        return power_times(acc, square, e / 2, q);
     }
-    power_times(montgomery::times(acc, x), square, e / 2)
+    power_times(montgomery::times(acc, x, q), square, e / 2, q)
 }

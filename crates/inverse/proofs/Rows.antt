@@ -3,11 +3,12 @@
 use Prim.Native.Nat.{ℕ, _+_, _*_, _%_, _<_}
 use mathlib.Core.Path.{_≡_, refl, sym, ap, _∙_, subst}
 use mathlib.Core.List.{List}
-use native.Mathlib.Nat.{mod-lt, mod-mod, add-mod-mod}
+use native.Mathlib.Nat.{mod-lt, mod-mod, add-zero, add-mod-mod}
 use native.Mathlib.Decide.{ℕ-discrete}
 use native.Mathlib.Omega.{arith}
 use lib.ListN.{length, set, length-set}
 use lib.Seq.{getD-set-same, getD-set-other}
+use Rattle.lists.specs.Lists.{cell}
 use Rattle.field.specs.Field.{P, Canonical, mul}
 use Rattle.field.proofs.Power.{big}
 use Rattle.matrix.specs.Matrix.{timesColumn}
@@ -61,7 +62,10 @@ pub other-canonical : (w v : List ℕ) (r k : ℕ) (f : ℕ → ℕ) → Working
 other-canonical w v r k f hw h i l hi hl ne =
     subst (λ y. y < P) (sym (row-other w v r k f h i l hi hl ne)) (hw .canonical i l hi hl)
 
--- ---- a whole row
+-- ---- a whole row, and the word that it starts with
+pub first-canonical : (w : List ℕ) (r : ℕ) → Working w → r < 12 → Canonical (cell w (24 * r))
+first-canonical w r hw hr = subst (λ y. cell w y < P) (add-zero (24 * r)) (hw .canonical r 0 hr (omega arith))
+
 pub row-working : (w v : List ℕ) (r : ℕ) (f : ℕ → ℕ) → Working w → ((l : ℕ) → l < 24 → Canonical (f l))
     → RowSet w v r 24 f → Working v
 row-working w v r f hw hf h = record { size = h .size ∙ hw .size; canonical = low }

@@ -11,6 +11,7 @@ ghost use Rattle.inverse.specs.EliminationHelpers.{doubleWidth, doubleWo
 ghost use Rattle.inverse.specs.EliminationHelpers.{Working, RowSet, scaledRow};
 ghost use Rattle.inverse.specs.EliminationHelpers.{addedRow, Reduced, Reduces, Pivot, Stepped, Eliminated};
 use field::Fp;
+use field::montgomery;
 use matrix::MATRIX_WORDS;
 use numbers::WIDTH;
 
@@ -19,26 +20,31 @@ const DOUBLE_WIDTH: usize = 2 * WIDTH;
 
 const DOUBLE_WORDS: usize = 2 * MATRIX_WORDS;
 
-// Row r times c.
+// Row r times c, which is brought into Montgomery's form once for the row. The quotient is taken from a word of the row
+// and not from c, since the compiler must not see through it.
 fn scale(w: &mut [u64; DOUBLE_WORDS], r: usize, c: u64)
     requires { ⌜ (r < width) × Canonical c × Working (now w) ⌝ }
     ensures { λ _. ⌜ RowSet (now (w .entry)) (now (w .exit)) r doubleWidth (scaledRow (now (w .entry)) r c) ⌝ }
 {
+    let q = montgomery::quotient(w[DOUBLE_WIDTH * r]);
+    let factor = montgomery::enter(c, q);
     for l in 0..DOUBLE_WIDTH {
         let t = DOUBLE_WIDTH * r + l;
-        w[t] = Fp(c).mul(Fp(w[t])).0;
+        w[t] = montgomery::times(w[t], factor, q);
     }
 }
 
-// Row r plus c times row j.
+// Row r plus c times row j, in the same way: c is a constant in `lift`.
 fn add_row(w: &mut [u64; DOUBLE_WORDS], r: usize, j: usize, c: u64)
     requires { ⌜ (r < width) × (j < width) × (r ≡ j → ⊥) × Canonical c × Working (now w) ⌝ }
     ensures { λ _. ⌜ RowSet (now (w .entry)) (now (w .exit)) r doubleWidth (addedRow (now (w .entry)) r j c) ⌝ }
 {
+    let q = montgomery::quotient(w[DOUBLE_WIDTH * j]);
+    let factor = montgomery::enter(c, q);
     for l in 0..DOUBLE_WIDTH {
         let t = DOUBLE_WIDTH * r + l;
-        let part = Fp(c).mul(Fp(w[DOUBLE_WIDTH * j + l]));
-        w[t] = Fp(w[t]).add(part).0;
+        let part = montgomery::times(w[DOUBLE_WIDTH * j + l], factor, q);
+        w[t] = Fp(w[t]).add(Fp(part)).0;
     }
 }
 

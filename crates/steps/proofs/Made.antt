@@ -2,41 +2,50 @@
 -- Assumes nothing.
 use mathlib.Core.Path.{_≡_, refl, sym, ap, _∙_, subst}
 use mathlib.Core.List.{List}
-use Prim.Native.Nat.{ℕ, _+_, _*_, _%_, _≤_, _<_}
-use native.Mathlib.Nat.{mod-eq-of-lt, add-zero}
+use Prim.Native.Nat.{ℕ, _≤_, _<_}
 use native.Mathlib.Omega.{arith}
 use native.Mathlib.Decide.{decLt}
 use borrow.Author.Tests.{lt-ltb, le-ltb}
 use lib.Dec.{ltb}
 use lib.ListN.{length, replicate, getD-replicate}
-use Rattle.lists.specs.Lists.{choose, cell, tab, sum}
+use Rattle.lists.specs.Lists.{choose, cell, tab}
 use Rattle.lists.proofs.Tab.{length-tab, cell-tab, tab-ext, tab-unique, filled}
 use Rattle.lists.proofs.Tab.{filled-before, filled-after, length-filled}
-use Rattle.field.specs.Field.{P, add, cube}
-use Rattle.field.specs.MontgomeryHelpers.{divided}
-use Rattle.field.proofs.Forms.{divided-lt}
+use Rattle.field.specs.Field.{add, cube}
+use Rattle.field.specs.MontgomeryHelpers.{timesWord}
 use Rattle.matrix.specs.Matrix.{entry, timesColumn, times}
 use Rattle.matrix.proofs.Linear.{times-ext}
 use Rattle.matrix.proofs.States.{cell-times}
-use Rattle.winograd.specs.WinogradHelpers.{IsReady}
-use Rattle.winograd.proofs.ReadyWords.{cell-ready, ready-is}
+use Rattle.mixing.specs.MixingHelpers.{IsReady, readyEntry}
+use Rattle.mixing.proofs.ReadyWords.{is-ready, ready-entry}
 use Rattle.table.specs.Table.{matrixOf, inverseOf, firstStepConstant, secondStepConstant}
 use Rattle.hash.specs.Hash.{cubes, plus, mix, secondStep}
 use Rattle.constraints.specs.Constraints.{minus, backStep}
 use Rattle.steps.specs.StepHelpers.{montgomeryCube, forwardReady, backReady, columns, forwardScale, backScale}
 use Rattle.steps.proofs.Scales.{forward-cell, back-cell}
 
-pub forward-is : (T ready : List ℕ) → ready ≡ forwardReady T → IsReady ready
-unfolding forwardReady
-forward-is T ready e = subst IsReady (sym e) (ready-is (matrixOf T) forwardScale)
+-- the two matrices made ready, and their entries
+module _ (T ready : List ℕ) (e : ready ≡ forwardReady T) where
+  pub forward-is : IsReady ready
+  unfolding forwardReady
+  forward-is = subst IsReady (sym e) (is-ready (matrixOf T) forwardScale)
 
-pub back-is : (T ready : List ℕ) → ready ≡ backReady T → IsReady ready
-unfolding backReady
-back-is T ready e = subst IsReady (sym e) (ready-is (inverseOf T) backScale)
+  forward-entry : (i n : ℕ) → i < 12 → n < 12 → readyEntry ready i n ≡ timesWord (entry (matrixOf T) i n) forwardScale
+  unfolding forwardReady
+  forward-entry i n hi hn = ap (λ r. readyEntry r i n) e ∙ ready-entry (matrixOf T) forwardScale i n hi hn
 
--- row i of a ready matrix times a column, divided by 2^64
-abbrev pub inner : List ℕ → List ℕ → ℕ → ℕ
-inner ready x i = divided (sum 12 (λ j. cell ready (12 * i + j) * cell x j))
+module _ (T ready : List ℕ) (e : ready ≡ backReady T) where
+  pub back-is : IsReady ready
+  unfolding backReady
+  back-is = subst IsReady (sym e) (is-ready (inverseOf T) backScale)
+
+  back-entry : (i n : ℕ) → i < 12 → n < 12 → readyEntry ready i n ≡ timesWord (entry (inverseOf T) i n) backScale
+  unfolding backReady
+  back-entry i n hi hn = ap (λ r. readyEntry r i n) e ∙ ready-entry (inverseOf T) backScale i n hi hn
+
+-- a matrix made ready times a column
+abbrev pub mixedBy : List ℕ → List ℕ → List ℕ
+mixedBy ready x = tab 12 (timesColumn 12 (readyEntry ready) (cell x))
 
 -- ---- the first columns of a state
 pub length-columns : (n : ℕ) (s : List ℕ) → length (columns n s) ≡ 12
@@ -69,50 +78,43 @@ columns-filled n hn f =
 
 -- ---- the second step
 
--- a sum modulo p, from the word that was added
-pub plus-word : (w a : ℕ) {k m : ℕ} → w % P ≡ add a k → k ≡ m → w % P ≡ add a m
-plus-word w a e h = e ∙ ap (add a) h
-
-pub second-made : (T ready s cubed out : List ℕ) (round count : ℕ) → count ≤ 12
-    → ready ≡ forwardReady T → cubed ≡ tab 12 (λ j. montgomeryCube (cell s j))
-    → out ≡ filled count (λ i. add (inner ready cubed i) (cell (secondStepConstant T round) i)) (replicate 12 0)
+pub second-made : (T ready s cubed mixed out : List ℕ) (round count : ℕ) → count ≤ 12
+    → ready ≡ forwardReady T → cubed ≡ tab 12 (λ j. montgomeryCube (cell s j)) → mixed ≡ mixedBy ready cubed
+    → out ≡ filled count (λ i. add (cell mixed i) (cell (secondStepConstant T round) i)) (replicate 12 0)
     → out ≡ columns count (secondStep T round s)
-unfolding secondStep plus mix cubes forwardReady
-second-made T ready s cubed out round count hc er ec e =
+unfolding secondStep plus mix cubes
+second-made T ready s cubed mixed out round count hc er ec em e =
     e
-    ∙ columns-filled count hc (λ i. add (inner ready cubed i) (cell (secondStepConstant T round) i))
+    ∙ columns-filled count hc (λ i. add (cell mixed i) (cell (secondStepConstant T round) i))
     ∙ ap (columns count)
     (tab-ext 12
-    (λ i. add (inner ready cubed i) (cell (secondStepConstant T round) i))
+    (λ i. add (cell mixed i) (cell (secondStepConstant T round) i))
     (λ i. add (cell (mix T (cubes s)) i) (cell (secondStepConstant T round) i))
-    (λ i h. ap (λ x. add x (cell (secondStepConstant T round) i)) (mixed i h)))
+    (λ i h. ap (λ x. add x (cell (secondStepConstant T round) i)) (same i h)))
   where
-    mixed : (i : ℕ) → i < 12 → inner ready cubed i ≡ cell (mix T (cubes s)) i
-    mixed i h =
-        forward-cell (matrixOf T) i (λ j. cell ready (12 * i + j)) (cell cubed)
-        (λ j l. ap (λ x. cell x (12 * i + j)) er ∙ cell-ready (matrixOf T) forwardScale (12 * i + j) (omega arith))
-        (cell s) (λ j l. ap (λ x. cell x j) ec ∙ cell-tab 12 (λ n. montgomeryCube (cell s n)) j l)
+    same : (i : ℕ) → i < 12 → cell mixed i ≡ cell (mix T (cubes s)) i
+    same i h =
+        ap (λ x. cell x i) em
+        ∙ cell-tab 12 (timesColumn 12 (readyEntry ready) (cell cubed)) i h
+        ∙ forward-cell (matrixOf T) i (readyEntry ready) (λ n l. forward-entry T ready er i n h l) (cell cubed) (cell s)
+        (λ n l. ap (λ x. cell x n) ec ∙ cell-tab 12 (λ k. montgomeryCube (cell s k)) n l)
         ∙ times-ext 12 (entry (matrixOf T)) (entry (matrixOf T)) (λ j. cube (cell s j)) (cell (cubes s)) i (λ j l. refl)
         (λ j l. sym (cell-tab 12 (λ n. cube (cell s n)) j l))
         ∙ sym (cell-times (matrixOf T) (cubes s) i h)
 
 -- ---- the first step undone
-
--- the cell that is stored, from a word that is the inner product
-pub back-word : (T ready less : List ℕ) (i y : ℕ) → i < 12 → ready ≡ backReady T
-    → y % P ≡ (inner ready less i + 0) % P
-    → montgomeryCube y ≡ cube (timesColumn 12 (entry (inverseOf T)) (cell less) i)
-unfolding backReady
-back-word T ready less i y h er e =
-    back-cell (inverseOf T) i (λ j. cell ready (12 * i + j)) (cell less)
-    (λ j l. ap (λ x. cell x (12 * i + j)) er ∙ cell-ready (inverseOf T) backScale (12 * i + j) (omega arith)) y
-    (e ∙ ap (λ x. x % P) (add-zero (inner ready less i)) ∙ mod-eq-of-lt (divided-lt _))
-
-pub undone-made : (T s less out : List ℕ) (round : ℕ) → less ≡ minus s (firstStepConstant T round)
-    → out ≡ tab 12 (λ i. cube (timesColumn 12 (entry (inverseOf T)) (cell less) i)) → out ≡ backStep T round s
+pub undone-made : (T ready s less mixed out : List ℕ) (round : ℕ) → ready ≡ backReady T
+    → less ≡ minus s (firstStepConstant T round) → mixed ≡ mixedBy ready less
+    → out ≡ tab 12 (λ j. montgomeryCube (cell mixed j)) → out ≡ backStep T round s
 unfolding backStep cubes
-undone-made T s less out round el e =
+undone-made T ready s less mixed out round er el em e =
     e
-    ∙ tab-ext 12 (λ i. cube (timesColumn 12 (entry (inverseOf T)) (cell less) i))
-    (λ i. cube (cell (times (inverseOf T) less) i)) (λ i h. ap cube (sym (cell-times (inverseOf T) less i h)))
+    ∙ tab-ext 12 (λ j. montgomeryCube (cell mixed j)) (λ i. cube (cell (times (inverseOf T) less) i)) same
     ∙ ap (λ x. cubes (times (inverseOf T) x)) el
+  where
+    same : (i : ℕ) → i < 12 → montgomeryCube (cell mixed i) ≡ cube (cell (times (inverseOf T) less) i)
+    same i h =
+        ap montgomeryCube
+        (ap (λ x. cell x i) em ∙ cell-tab 12 (timesColumn 12 (readyEntry ready) (cell less)) i h)
+        ∙ back-cell (inverseOf T) i (readyEntry ready) (λ n l. back-entry T ready er i n h l) (cell less)
+        ∙ ap cube (sym (cell-times (inverseOf T) less i h))

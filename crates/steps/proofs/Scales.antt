@@ -1,6 +1,6 @@
 -- The scales of the matrices make up for cubes divided by 2^128: modulo p, each power of 2^64 meets its inverse.
 -- Assumes nothing.
-use Prim.Native.Nat.{ℕ, _+_, _*_, _%_, _<_}
+use Prim.Native.Nat.{ℕ, _*_, _%_, _<_}
 use mathlib.Core.Path.{_≡_, refl, sym, ap, ap₂, _∙_}
 use mathlib.Core.List.{List}
 use native.Mathlib.Nat.{mul-one, mod-mod}
@@ -8,11 +8,10 @@ use native.Mathlib.Omega.{arith}
 use Rattle.lists.specs.Lists.{sum}
 use Rattle.lists.proofs.Sum.{sum-mul-r}
 use Rattle.field.specs.Field.{P, cube}
-use Rattle.field.specs.MontgomeryHelpers.{divided, unitInverse}
+use Rattle.field.specs.MontgomeryHelpers.{timesWord, unitInverse}
 use Rattle.field.proofs.Modular.{mul-mod-l, mul-mod-r}
 use Rattle.matrix.specs.Matrix.{entry, timesColumn}
 use Rattle.matrix.proofs.Modulo.{mul-eq, sum-eq}
-use Rattle.winograd.specs.WinogradHelpers.{scaled}
 use Rattle.steps.specs.StepHelpers.{montgomeryCube, forwardScale, backScale}
 
 -- ---- modulo p, where j is the inverse of 2^64
@@ -30,36 +29,31 @@ module _ (p j : ℕ) where
   cube-flat : (x : ℕ) → ((x * x) % p * x) % p ≡ (x * x * x) % p
   cube-flat x = mul-mod-l p (x * x) x
 
-  -- a scale c with c j^4 = 1: a scaled cell times such a cube, divided by 2^64, is the cell times the plain cube
-  module _ (c : ℕ) (inv : (c * (j * j * j * j)) % p ≡ 1) where
+  -- a scale c with c j^3 = 1: a scaled entry times such a cube is the entry times the plain cube
+  module _ (c : ℕ) (inv : (c * (j * j * j)) % p ≡ 1) where
     pub forward-term : (m x : ℕ)
-        → ((m * c * j) % p * (((x * x * j) % p * x * j) % p) * j) % p ≡ (m * (((x * x) % p * x) % p)) % p
+        → ((m * c * j) % p * (((x * x * j) % p * x * j) % p)) % p ≡ (m * (((x * x) % p * x) % p)) % p
     forward-term m x =
-        ap (λ z. z % p) (turned ((m * c * j) % p) (((x * x * j) % p * x * j) % p))
-        ∙ mul-eq p ((m * c * j) % p) (m * c * j) ((((x * x * j) % p * x * j) % p) * j) (x * x * x * (j * j) * j)
-        (mod-mod (m * c * j) p)
-        (mul-eq p (((x * x * j) % p * x * j) % p) (x * x * x * (j * j)) j j (mod-mod _ p ∙ form-flat x) refl)
+        mul-eq p ((m * c * j) % p) (m * c * j) (((x * x * j) % p * x * j) % p) (x * x * x * (j * j))
+        (mod-mod (m * c * j) p) (mod-mod _ p ∙ form-flat x)
         ∙ ap (λ z. z % p) gathered
-        ∙ sym (mul-mod-r p (m * (x * x * x)) (c * (j * j * j * j)))
+        ∙ sym (mul-mod-r p (m * (x * x * x)) (c * (j * j * j)))
         ∙ ap (λ z. (m * (x * x * x) * z) % p) inv
         ∙ ap (λ z. z % p) (mul-one (m * (x * x * x)))
         ∙ sym (mul-eq p m m (((x * x) % p * x) % p) (x * x * x) refl (mod-mod _ p ∙ cube-flat x))
       where
-        turned : (a b : ℕ) → a * b * j ≡ a * (b * j)
-        turned a b = omega arith
-
-        gathered : m * c * j * (x * x * x * (j * j) * j) ≡ m * (x * x * x) * (c * (j * j * j * j))
+        gathered : m * c * j * (x * x * x * (j * j)) ≡ m * (x * x * x) * (c * (j * j * j))
         gathered = omega arith
 
-  -- a scale c with (c j^2)^3 j^2 = 1: such a cube of what is c j^2 times n is the cube of n
-  module _ (c : ℕ) (inv : (c * j * j * (c * j * j) * (c * j * j) * (j * j)) % p ≡ 1) where
-    pub back-cube : (y n : ℕ) → y % p ≡ (n * (c * j * j)) % p
+  -- a scale c with (c j)^3 j^2 = 1: such a cube of what is c j times n is the cube of n
+  module _ (c : ℕ) (inv : (c * j * (c * j) * (c * j) * (j * j)) % p ≡ 1) where
+    pub back-cube : (y n : ℕ) → y % p ≡ (n * (c * j)) % p
         → ((y * y * j) % p * y * j) % p ≡ ((n % p * (n % p)) % p * (n % p)) % p
     back-cube y n e =
         form-flat y
         ∙ mul-eq p (y * y * y) (d * d * d) (j * j) (j * j) (mul-eq p (y * y) (d * d) y d (mul-eq p y d y d e e) e) refl
         ∙ ap (λ z. z % p) gathered
-        ∙ sym (mul-mod-r p (n * n * n) (c * j * j * (c * j * j) * (c * j * j) * (j * j)))
+        ∙ sym (mul-mod-r p (n * n * n) (c * j * (c * j) * (c * j) * (j * j)))
         ∙ ap (λ z. (n * n * n * z) % p) inv
         ∙ ap (λ z. z % p) (mul-one (n * n * n))
         ∙ sym (cube-flat (n % p)
@@ -67,56 +61,39 @@ module _ (p j : ℕ) where
         (mod-mod n p))
       where
         d : ℕ
-        d = n * (c * j * j)
+        d = n * (c * j)
 
-        gathered : d * d * d * (j * j) ≡ n * n * n * (c * j * j * (c * j * j) * (c * j * j) * (j * j))
-        gathered = go (c * j * j)
+        gathered : d * d * d * (j * j) ≡ n * n * n * (c * j * (c * j) * (c * j) * (j * j))
+        gathered = go (c * j)
           where
             go : (f : ℕ) → n * f * (n * f) * (n * f) * (j * j) ≡ n * n * n * (f * f * f * (j * j))
             go f = omega arith
 
-    -- a scaled cell times x, divided by 2^64
-    pub back-term : (m x : ℕ) → ((m * c * j) % p * x * j) % p ≡ (m * x * (c * j * j)) % p
-    back-term m x =
-        ap (λ z. z % p) (turned ((m * c * j) % p)) ∙ mul-mod-l p (m * c * j) (x * j) ∙ ap (λ z. z % p) gathered
+    -- a scaled entry times x
+    pub back-term : (m x : ℕ) → ((m * c * j) % p * x) % p ≡ (m * x * (c * j)) % p
+    back-term m x = mul-mod-l p (m * c * j) x ∙ ap (λ z. z % p) gathered
       where
-        turned : (a : ℕ) → a * x * j ≡ a * (x * j)
-        turned a = omega arith
-
-        gathered : m * c * j * (x * j) ≡ m * x * (c * j * j)
+        gathered : m * c * j * x ≡ m * x * (c * j)
         gathered = omega arith
 
--- ---- rows of a matrix made ready
-pub forward-cell : (m : List ℕ) (i : ℕ) (r x : ℕ → ℕ)
-    → ((n : ℕ) → n < 12 → r n ≡ scaled m forwardScale (12 * i + n)) → (s : ℕ → ℕ)
+-- ---- rows of a matrix made ready: a is the scaled one
+pub forward-cell : (m : List ℕ) (i : ℕ) (a : ℕ → ℕ → ℕ)
+    → ((n : ℕ) → n < 12 → a i n ≡ timesWord (entry m i n) forwardScale) → (x s : ℕ → ℕ)
     → ((n : ℕ) → n < 12 → x n ≡ montgomeryCube (s n))
-    → divided (sum 12 (λ n. r n * x n)) ≡ timesColumn 12 (entry m) (λ n. cube (s n)) i
-unfolding timesColumn scaled
-forward-cell m i r x hr s hx =
-    ap (λ z. z % P) (sym (sum-mul-r 12 unitInverse (λ n. r n * x n)))
-    ∙ sum-eq P 12 (λ n. r n * x n * unitInverse) (λ n. entry m i n * cube (s n))
-    (λ n l. ap₂ (λ a b. (a * b * unitInverse) % P) (hr n l) (hx n l)
+    → timesColumn 12 a x i ≡ timesColumn 12 (entry m) (λ n. cube (s n)) i
+unfolding timesColumn timesWord
+forward-cell m i a ha x s hx =
+    sum-eq P 12 (λ n. a i n * x n) (λ n. entry m i n * cube (s n))
+    (λ n l. ap₂ (λ u v. (u * v) % P) (ha n l) (hx n l)
     ∙ forward-term P unitInverse forwardScale refl (entry m i n) (s n))
 
-pub back-cell : (m : List ℕ) (i : ℕ) (r x : ℕ → ℕ) → ((n : ℕ) → n < 12 → r n ≡ scaled m backScale (12 * i + n))
-    → (y : ℕ) → y % P ≡ divided (sum 12 (λ n. r n * x n)) → montgomeryCube y ≡ cube (timesColumn 12 (entry m) x i)
-unfolding timesColumn scaled
-back-cell m i r x hr y e =
-    back-cube P unitInverse backScale refl y (sum 12 (λ n. entry m i n * x n))
-    (e
-    ∙ ap (λ z. z % P) (sym (sum-mul-r 12 unitInverse (λ n. r n * x n)))
-    ∙ sum-eq P 12 (λ n. r n * x n * unitInverse) (λ n. entry m i n * x n * (backScale * unitInverse * unitInverse))
-    (λ n l. ap (λ a. (a * x n * unitInverse) % P) (hr n l)
-    ∙ back-term P unitInverse backScale refl (entry m i n) (x n))
-    ∙ ap (λ z. z % P) (sum-mul-r 12 (backScale * unitInverse * unitInverse) (λ n. entry m i n * x n)))
-
--- ---- a cube in Montgomery's form from its two products
-pub cube-made : (x square : ℕ) → square % P ≡ divided (x * x) → divided (square * x) ≡ montgomeryCube x
-cube-made x square e =
-    ap (λ z. z % P) (turned square)
-    ∙ sym (mul-mod-l P square (x * unitInverse))
-    ∙ ap (λ z. (z * (x * unitInverse)) % P) e
-    ∙ ap (λ z. z % P) (sym (turned (divided (x * x))))
-  where
-    turned : (a : ℕ) → a * x * unitInverse ≡ a * (x * unitInverse)
-    turned a = omega arith
+pub back-cell : (m : List ℕ) (i : ℕ) (a : ℕ → ℕ → ℕ)
+    → ((n : ℕ) → n < 12 → a i n ≡ timesWord (entry m i n) backScale) → (x : ℕ → ℕ)
+    → montgomeryCube (timesColumn 12 a x i) ≡ cube (timesColumn 12 (entry m) x i)
+unfolding timesColumn timesWord
+back-cell m i a ha x =
+    back-cube P unitInverse backScale refl (sum 12 (λ n. a i n * x n) % P) (sum 12 (λ n. entry m i n * x n))
+    (mod-mod (sum 12 (λ n. a i n * x n)) P
+    ∙ sum-eq P 12 (λ n. a i n * x n) (λ n. entry m i n * x n * (backScale * unitInverse))
+    (λ n l. ap (λ u. (u * x n) % P) (ha n l) ∙ back-term P unitInverse backScale refl (entry m i n) (x n))
+    ∙ ap (λ z. z % P) (sum-mul-r 12 (backScale * unitInverse) (λ n. entry m i n * x n)))

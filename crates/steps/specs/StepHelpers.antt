@@ -6,21 +6,21 @@ use lib.Dec.{ltb}
 use Rattle.lists.specs.Lists.{choose, cell, tab}
 use Rattle.field.specs.MontgomeryHelpers.{divided}
 use Rattle.numbers.specs.Numbers.{width}
-use Rattle.winograd.specs.WinogradHelpers.{ready}
+use Rattle.mixing.specs.MixingHelpers.{ready}
 use Rattle.table.specs.Table.{matrixOf, inverseOf}
 
 -- x^3 / 2^128
 abbrev pub montgomeryCube : ℕ → ℕ
 montgomeryCube x = divided (divided (x * x) * x)
 
--- 2^256 mod p: 2^128 makes up for cubes divided by it, 2^128 for the two divisions by 2^64 (proofs/Scales.antt,
--- `forward-cell`)
+-- 2^192 mod p: 2^128 makes up for cubes divided by it, 2^64 for the division by it when M is made ready
+-- (proofs/Scales.antt, `forward-cell`)
 abbrev pub forwardScale : ℕ
-forwardScale = 700181197168064166
+forwardScale = 2148101911894228676
 
--- the cube root of 2^128, times 2^128, mod p: the cube then makes up for its division (proofs/Scales.antt, `back-cell`)
+-- the cube root of 2^128, times 2^64, mod p: the cube then makes up for its division (proofs/Scales.antt, `back-cell`)
 abbrev pub backScale : ℕ
-backScale = 573374571730495292
+backScale = 655732205038664229
 
 -- M and its inverse made ready with these scales
 unfoldable pub forwardReady : List ℕ → List ℕ

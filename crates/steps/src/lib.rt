@@ -4,8 +4,6 @@
 ghost use mathlib.Core.Path.{_≡_};
 ghost use Prim.Native.Nat.{_<_, _≤_};
 ghost use Rattle.lists.specs.Lists.{cell, tab};
-ghost use Rattle.field.specs.Field.{Canonical};
-ghost use Rattle.field.specs.MontgomeryHelpers.{Short};
 ghost use Rattle.words.specs.Words.{CanonicalTo};
 ghost use Rattle.numbers.specs.Numbers.{width};
 ghost use Rattle.table.specs.Table.{IsTable, initialConstant, firstStepConstant};
@@ -14,31 +12,25 @@ ghost use Rattle.constraints.specs.Constraints.{minus, backStep};
 ghost use Rattle.steps.specs.StepHelpers.{montgomeryCube, forwardReady, backReady, columns};
 use field::Fp;
 use field::montgomery;
+use mixing::READY_WORDS;
 use numbers::WIDTH;
 
-// 2^256 mod p: 2^128 for the cubes, 2^128 for the two divisions.
-const FORWARD: u64 = 700181197168064166;
+// 2^192 mod p: 2^128 for the cubes, 2^64 for the division when M is made ready.
+const FORWARD: u64 = 2148101911894228676;
 
-// The cube root of 2^128, times 2^128, mod p.
-const BACK: u64 = 573374571730495292;
-
-// x^3 / 2^128.
-fn montgomery_cube(x: u64) -> u64
-    requires { ⌜ Short x ⌝ }
-    ensures { λ r. ⌜ (r ≡ montgomeryCube x) × Canonical r ⌝ }
-{
-    let square = montgomery::times(x, x);
-    sums::reduce_once(montgomery::times(square, x), Fp::P)
-}
+// The cube root of 2^128, times 2^64, mod p.
+const BACK: u64 = 655732205038664229;
 
 // The cube of every cell, divided by 2^128.
 fn montgomery_cubes(s: [u64; WIDTH]) -> [u64; WIDTH]
     requires { ⌜ CanonicalTo width s ⌝ }
     ensures { λ r. ⌜ (r ≡ tab width (λ j. montgomeryCube (cell s j))) × CanonicalTo width r ⌝ }
 {
+    let q = montgomery::quotient(s[0]);
     let mut out = [0u64; WIDTH];
     for j in 0..WIDTH {
-        out[j] = montgomery_cube(s[j]);
+        let x = s[j];
+        out[j] = montgomery::times(montgomery::times(x, x, q), x, q);
     }
     out
 }
@@ -70,19 +62,19 @@ fn less_first_step(table: &[u64], round: usize, s: [u64; WIDTH]) -> [u64; WIDTH]
 }
 
 // M made ready for the second steps.
-pub fn forward_ready(table: &[u64]) -> [u64; 156]
+pub fn forward_ready(table: &[u64]) -> [u64; READY_WORDS]
     requires { ⌜ IsTable (now table) ⌝ }
     ensures { λ r. ⌜ r ≡ forwardReady (now (table .entry)) ⌝ }
 {
-    winograd::ready(table::matrix(table), FORWARD)
+    mixing::ready(table::matrix(table), FORWARD)
 }
 
 // The inverse of M made ready for undoing the first steps.
-pub fn back_ready(table: &[u64]) -> [u64; 156]
+pub fn back_ready(table: &[u64]) -> [u64; READY_WORDS]
     requires { ⌜ IsTable (now table) ⌝ }
     ensures { λ r. ⌜ r ≡ backReady (now (table .entry)) ⌝ }
 {
-    winograd::ready(table::inverse(table), BACK)
+    mixing::ready(table::inverse(table), BACK)
 }
 
 // The first `count` columns of the second step of the round: the cells cubed, times M, plus its constant.
@@ -98,13 +90,11 @@ pub fn forward_step(
         × (round < 10) × CanonicalTo width s × (count ≤ width) ⌝ }
     ensures { λ r. ⌜ r ≡ columns count (secondStep (now (table .entry)) round s) ⌝ }
 {
-    let cubed = montgomery_cubes(s);
-    let excess = winograd::neighbours(&cubed);
+    let mixed = mixing::mix(ready, montgomery_cubes(s));
     let mut out = [0u64; WIDTH];
     for i in 0..count {
         let constant = table::second_step_constant(table, round, i);
-        let mixed = winograd::cell_plus(ready, i, &cubed, excess, constant);
-        out[i] = sums::reduce_once(mixed, Fp::P);
+        out[i] = Fp(mixed[i]).add(Fp(constant)).0;
     }
     out
 }
@@ -115,10 +105,5 @@ pub fn back_step(ready: &[u64], table: &[u64], round: usize, s: [u64; WIDTH]) ->
     ensures { λ r. ⌜ r ≡ backStep (now (table .entry)) round s ⌝ }
 {
     let less = less_first_step(table, round, s);
-    let excess = winograd::neighbours(&less);
-    let mut out = [0u64; WIDTH];
-    for i in 0..WIDTH {
-        out[i] = montgomery_cube(winograd::cell_plus(ready, i, &less, excess, 0));
-    }
-    out
+    montgomery_cubes(mixing::mix(ready, less))
 }

@@ -1,1 +1,3 @@
-pub mod Reduction
+pub mod Terms
+pub mod Weights
+pub mod Words

@@ -1,1 +1,2 @@
-pub mod SumHelpers
+pub mod Sums
+pub mod TermHelpers

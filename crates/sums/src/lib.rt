@@ -1,61 +1,78 @@
-// Sums of products of two words, which have 128 bits, reduced by p once.
+// Sums of twelve products, gathered in one word: after each step there is one word below p. A step adds a term and
+// divides the sum by 2^32; what this takes from a term is given to it beforehand, as its weight.
 ghost use mathlib.Core.Path.{_≡_};
-ghost use Prim.Native.Nat.{_+_, _*_, _/_, _%_, _^_, _<_};
+ghost use Prim.Native.Nat.{_*_, _%_, _^_};
+ghost use Rattle.lists.specs.Lists.{cell, tab};
 ghost use Rattle.field.specs.Field.{P, Canonical};
-ghost use Rattle.field.specs.MontgomeryHelpers.{Short, divided};
-ghost use Rattle.sums.specs.SumHelpers.{valueOf, reduceOnce};
+ghost use Rattle.field.specs.Gathering.{gathered};
+ghost use Rattle.field.specs.MontgomeryHelpers.{quotient};
+ghost use Rattle.words.specs.Words.{CanonicalTo};
+ghost use Rattle.numbers.specs.Numbers.{width};
+ghost use Rattle.sums.specs.Sums.{weight};
+ghost use Rattle.sums.specs.TermHelpers.{Term, Loose};
 use field::Fp;
 use field::montgomery;
+use numbers::WIDTH;
 
-// An upper and a lower word.
-pub struct Wide(pub u64, pub u64);
+// 2^31, at which a factor below p is split into digits.
+const SPLIT: u64 = 2147483648;
 
-// 2^125 / p, rounded down
-const RECIPROCAL: u64 = 18446743386514809847;
+// 2^95 mod p: a product with it in Montgomery's form is one with 2^31.
+const SHIFT: u64 = 54958401520256;
 
-impl Wide {
-    pub const ZERO: Wide = Wide(0, 0);
+// 2^(32 (12 - j) + 64) mod p for the term j: a product with it in Montgomery's form is one with the weight.
+const WEIGHTS: [u64; WIDTH] = [
+    1753051999233102296,
+    1521519387365323426,
+    1632284084371951915,
+    22392494501114462,
+    212805760098606723,
+    2082154247776085883,
+    700181197168064166,
+    435856507012335135,
+    2148101911894228676,
+    506268118997512191,
+    2288261904184696897,
+    109916803040512,
+];
 
-    // The sum with a * b.
-    pub fn plus(self, a: u64, b: u64) -> Wide
-        requires { ⌜ self .0 + a * b / 2 ^ 64 + 1 < 2 ^ 64 ⌝ }
-        ensures { λ r. ⌜ valueOf r ≡ valueOf self + a * b ⌝ }
-    {
-        let upper = wide::high(a, b);
-        let part = wide::low(a, b);
-        let lower = std::num::wrapping_add_u64(self.1, part);
-        if lower < part {
-            Wide(self.0 + upper + 1, lower)
-        } else {
-            Wide(self.0 + upper, lower)
-        }
-    }
-
-    // The remainder by p, by Barrett's method: the quotient is estimated from the upper 64 bits, and is less than 6 too small.
-    pub fn remainder(self) -> u64
-        requires { ⌜ self .0 < 2 ^ 62 ⌝ }
-        ensures { λ r. ⌜ (r ≡ valueOf self % P) × Canonical r ⌝ }
-    {
-        let upper = reduce_once(self.0, Fp::P);
-        let quotient = 2 * wide::high(4 * upper + self.1 / 4611686018427387904, RECIPROCAL);
-        let left = std::num::wrapping_sub_u64(self.1, wide::low(quotient, Fp::P));
-        reduce_once(reduce_once(reduce_once(left, 4 * Fp::P), 2 * Fp::P), Fp::P)
-    }
-
-    // The number divided by 2^64, by Montgomery's method, and short.
-    pub fn divided(self) -> u64
-        requires { ⌜ self .0 + P < 2 ^ 64 ⌝ }
-        ensures { λ r. ⌜ (r % P ≡ divided (valueOf self)) × Short r ⌝ }
-    {
-        let left = montgomery::reduce(self.0, self.1);
-        reduce_once(reduce_once(left, 4 * Fp::P), 2 * Fp::P)
-    }
+// Each cell times the weight of its term.
+pub fn weighted(s: [u64; WIDTH], q: u32) -> [u64; WIDTH]
+    requires { ⌜ CanonicalTo width s × (q ≡ quotient) ⌝ }
+    ensures { λ r. ⌜ (r ≡ tab width (λ j. weight j * cell s j % P)) × CanonicalTo width r ⌝ }
+{
+    let mut out = WEIGHTS;
+    cells::multiply(&mut out, s, q);
+    out
 }
 
-// x, less m where it reaches m: the lesser of x and the difference, which wraps where m is not reached. In this form the compiler takes no branch.
-pub fn reduce_once(x: u64, m: u64) -> u64
-    ensures { λ r. ⌜ r ≡ reduceOnce x m ⌝ }
+// Each cell times 2^31.
+pub fn raised(s: [u64; WIDTH], q: u32) -> [u64; WIDTH]
+    requires { ⌜ CanonicalTo width s × (q ≡ quotient) ⌝ }
+    ensures { λ r. ⌜ (r ≡ tab width (λ j. 2 ^ 31 * cell s j % P)) × CanonicalTo width r ⌝ }
 {
-    let less = std::num::wrapping_sub_u64(x, m);
-    if less < x { less } else { x }
+    let mut out = [SHIFT; WIDTH];
+    cells::multiply(&mut out, s, q);
+    out
+}
+
+// (word + low x) / 2^32 but for a multiple of p, where high is 2^31 low: a term of a step that takes a further one.
+pub fn loose_term(word: u64, low: u64, high: u64, x: u64, q: u32) -> u64
+    requires { ⌜ Term word low high x × (q ≡ quotient) ⌝ }
+    ensures { λ r. ⌜ (r % P ≡ gathered word low x) × Loose r ⌝ }
+{
+    let x0 = x % SPLIT;
+    let x1 = x / SPLIT % montgomery::HALF;
+    let t = word + low % montgomery::HALF * x0 + high % montgomery::HALF * x1;
+    let more = low / montgomery::HALF * x0 + high / montgomery::HALF * x1;
+    t / montgomery::HALF + more + Fp::P - t % montgomery::HALF * (q as u64)
+}
+
+// (word + low x) / 2^32: a step with one term, or the last term of a step.
+pub fn term(word: u64, low: u64, high: u64, x: u64, q: u32) -> u64
+    requires { ⌜ Term word low high x × (q ≡ quotient) ⌝ }
+    ensures { λ r. ⌜ (r ≡ gathered word low x) × Canonical r ⌝ }
+{
+    let loose = loose_term(word, low, high, x, q);
+    montgomery::settle(std::num::wrapping_sub_u64(loose, Fp::P))
 }

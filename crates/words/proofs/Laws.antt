@@ -1,18 +1,18 @@
 -- The first word that is not canonical: the scan for it, and that there is none exactly where all are canonical.
 -- Canonical lists joined are canonical.
 -- Assumes nothing.
-use mathlib.Core.Path.{_≡_, sym, _∙_}
+use mathlib.Core.Path.{_≡_, sym, subst, _∙_}
 use mathlib.Core.Bool.{true, false}
 use mathlib.Core.List.{List, [], _∷_, _++_}
 use Prim.Native.Nat.{ℕ, zero, suc, _≤_, _<_}
 use native.Mathlib.Omega.{arith}
 use borrow.Author.Tests.{le-leb, lt-leb, leb-false, leb-true, eq-eqb, ne-eqb, eqb-true, eqb-false}
 use lib.Dec.{leb}
-use lib.ListN.{length}
+use lib.ListN.{length, replicate, getD-replicate}
 use Rattle.lists.specs.Lists.{cell}
 use Rattle.lists.proofs.First.{is-first, first-none, found-at}
 use Rattle.field.specs.Field.{P, Canonical}
-use Rattle.words.specs.Words.{AllCanonical, firstBad, canonicalWords}
+use Rattle.words.specs.Words.{CanonicalTo, AllCanonical, firstBad, canonicalWords}
 
 pub within : (s : List ℕ) → firstBad s ≤ length s
 unfolding firstBad
@@ -41,6 +41,10 @@ all-good s h = sym (first-none (length s) (λ j. leb P (cell s j)) (λ j l. lt-l
 
 pub good-all : (s : List ℕ) → firstBad s ≡ length s → AllCanonical s
 good-all s e i h = good-before s i (omega arith)
+
+-- one canonical word n times
+pub same-canonical : (n v : ℕ) → Canonical v → CanonicalTo n (replicate n v)
+same-canonical n v c i h = subst Canonical (sym (getD-replicate n i v 0 h)) c
 
 -- two lists of canonical words, one after the other
 pub append-canonical : (s t : List ℕ) → AllCanonical s → AllCanonical t → AllCanonical (s ++ t)

@@ -1,6 +1,6 @@
 //! The operations of document 01, on an honest day under a dense table.
 
-use crate::timing::{Table, Way};
+use crate::timing::{Goal, Table, Way};
 use inputs::tables::dense;
 use inputs::Random;
 use std::hint::black_box;
@@ -63,12 +63,16 @@ impl Day {
 /// a batch grows from k = 64 to k = 1024.
 pub fn measure(table: &mut Table, days: &[Day; 3]) -> Vec<(&'static str, f64)> {
     let mut grown = vec![];
+    let of_second = |most| Some(Goal::of_second(most));
+    let of_yardstick = |most| Some(Goal::of_yardstick(most));
+    let on_long_days = |most| Some(Goal::of_yardstick(most).on_long_days());
+    let prepare = prepare as fn(&Day) -> Vec<Way>;
     for (name, goal, days, operation) in [
-        ("prepare", None, &days[..1], prepare as fn(&Day) -> Vec<Way>),
-        ("hash", Some(1.0), &days[..1], hash),
-        ("build", Some(1.0), days, build),
-        ("check", Some(1.0), days, check),
-        ("read-off", None, days, read_off),
+        ("prepare", of_second(1.0), &days[..1], prepare),
+        ("hash", of_yardstick(0.85), &days[..1], hash),
+        ("build", of_yardstick(0.80), days, build),
+        ("check", on_long_days(0.90), days, check),
+        ("read-off", on_long_days(0.95), days, read_off),
         ("pack", None, days, pack),
         ("unpack", None, days, unpack),
     ] {

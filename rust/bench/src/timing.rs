@@ -99,12 +99,47 @@ impl Times {
     }
 }
 
-/// A row: the times of one input, or of each of several, and the goal for the
-/// ratio to (b).
+/// The most that an operation should take, as a ratio to the time of another
+/// implementation, which has this place among the times and this letter, on the
+/// inputs from this number on.
+#[derive(Clone, Copy)]
+pub struct Goal {
+    most: f64,
+    place: usize,
+    letter: char,
+    from: usize,
+}
+
+impl Goal {
+    pub fn of_second(most: f64) -> Goal {
+        Goal {
+            most,
+            place: 1,
+            letter: 'a',
+            from: 0,
+        }
+    }
+
+    pub fn of_yardstick(most: f64) -> Goal {
+        Goal {
+            most,
+            place: 2,
+            letter: 'b',
+            from: 0,
+        }
+    }
+
+    /// Not on the first day, which is so short that the table takes a good part.
+    pub fn on_long_days(self) -> Goal {
+        Goal { from: 1, ..self }
+    }
+}
+
+/// A row: the times of one input, or of each of several, and the goal.
 struct Row {
     name: String,
     times: Vec<Times>,
-    goal: Option<f64>,
+    goal: Option<Goal>,
 }
 
 impl Row {
@@ -128,8 +163,9 @@ impl Row {
         let Some(goal) = self.goal else {
             return String::new();
         };
-        let missed = |times: &Times| times.of(2).is_some_and(|ratio| ratio > goal);
-        goal_cell(&format!("{goal:.1}"), self.times.iter().any(missed))
+        let missed = |times: &Times| times.of(goal.place).is_some_and(|ratio| ratio > goal.most);
+        let cell = format!("{:.2} of ({})", goal.most, goal.letter);
+        goal_cell(&cell, self.times[goal.from..].iter().any(missed))
     }
 }
 
@@ -170,7 +206,7 @@ impl Table {
     pub fn row<'a>(
         &mut self,
         name: &str,
-        goal: Option<f64>,
+        goal: Option<Goal>,
         inputs: impl IntoIterator<Item = Vec<Way<'a>>>,
     ) -> Vec<f64> {
         let measured = inputs.into_iter().map(|mut ways| Times(times(&mut ways)));
@@ -185,7 +221,7 @@ impl Table {
     }
 
     pub fn print(&self) {
-        println!("| What | proved, ns | of (a) | of (b) | goal for (b) | of (c) |");
+        println!("| What | proved, ns | of (a) | of (b) | of (c) | goal |");
         println!("|---|---|---|---|---|---|");
         for row in &self.0 {
             let cells = [
@@ -193,8 +229,8 @@ impl Table {
                 row.cell(|times| nanoseconds(times.0[0])),
                 row.ratio(1),
                 row.ratio(2),
-                row.goal(),
                 row.ratio(3),
+                row.goal(),
             ];
             let line = format!("| {} |", cells.join(" | "));
             println!("{}", line.replace("  ", " "));

@@ -8,17 +8,24 @@ pub struct Random {
     state: [u64; 4],
 }
 
-/// Words below p where carries and shifts go wrong first.
-const CANONICAL_EDGES: [u64; 12] = [
+/// Words below p where carries, shifts and digits go wrong first.
+const CANONICAL_EDGES: [u64; 19] = [
     0,
     1,
     2,
+    (1 << 21) - 1,
+    1 << 21,
     (1 << 30) - 1,
     1 << 30,
+    (1 << 31) - 1,
     1 << 31,
+    (1 << 32) - 1,
     1 << 32,
+    (1 << 42) - 1,
+    1 << 42,
     (1 << 60) - 1,
     1 << 60,
+    (1 << 61) - 1,
     1 << 61,
     P - 2,
     P - 1,

@@ -7,15 +7,18 @@ use mathlib.Core.Logic.{⊎-elim}
 use Prim.Native.Nat.{ℕ, _/_, _%_, _^_, _<_}
 use native.Mathlib.Omega.{arith}
 use lib.ListN.{length}
-use Rattle.roots.specs.CellHelpers.{ShortTo, elements, wordProducts, products, powers}
-use Rattle.roots.proofs.CellLaws.{length-word-products, word-products-short, elements-of-products}
-use Rattle.roots.proofs.CellLaws.{powers-done, powers-even, powers-odd}
+use Rattle.words.specs.Words.{CanonicalTo}
+use Rattle.cells.specs.CellHelpers.{wordProducts}
+use Rattle.cells.proofs.Products.{length-products, products-canonical}
+use Rattle.roots.specs.PowerHelpers.{elements, products, powers}
+use Rattle.roots.proofs.Powers.{elements-of-products, powers-done, powers-even, powers-odd}
 use borrow.Fn.Kinds.{In}
 use borrow.Fn.PlainCycle.{Measures, is, falls, and}
 use Rattle.roots.proofs.powers_times.Reads as powers-times
 use Rattle.roots.proofs.powers_times.Kinds as powers-times-kinds
 use Rattle.roots.proofs.+powers_times.Lts-powers_times as powers-times-lts
-use Rattle.roots.proofs.multiply.Reads as multiply-reads
+use Rattle.cells.proofs.multiply.Reads as multiply-reads
+use Rattle.cells.proofs.square.Reads as square-reads
 use Rattle.roots.proofs.+powers_times.{statement}
 use Rattle.roots.proofs.+powers_times.Tie.{close}
 
@@ -37,40 +40,41 @@ powers-times-below t =
 -- what is left to do where the accumulator is b is what was to do where it was a
 record Passed (a x : List ℕ) (e : ℕ) (b : List ℕ) : Type 0 where
   size : length b ≡ 12
-  short : ShortTo 12 b
+  canonical : CanonicalTo 12 b
   same : products (elements b) (powers (products (elements x) (elements x)) (e / 2))
       ≡ products (elements a) (powers (elements x) e)
 
-odd-passed : (a x : List ℕ) (e : ℕ) (b : List ℕ) → ShortTo 12 a → ShortTo 12 x → e < 2 ^ 64 → e % 2 ≡ 1
-    → b ≡ wordProducts a x → Passed a x e b
-odd-passed a x e b ha hx h z q =
+odd-passed : (a x : List ℕ) (e : ℕ) (b : List ℕ) → e < 2 ^ 64 → e % 2 ≡ 1 → b ≡ wordProducts a x → Passed a x e b
+odd-passed a x e b h z q =
     subst (Passed a x e) (sym q) (record {
-      size = length-word-products a x;
-      short = word-products-short a x ha hx;
-      same = ap (λ p. products p (powers (products (elements x) (elements x)) (e / 2))) (elements-of-products a x ha hx)
+      size = length-products a x;
+      canonical = products-canonical a x;
+      same = ap (λ p. products p (powers (products (elements x) (elements x)) (e / 2))) (elements-of-products a x)
           ∙ powers-odd (elements a) (elements x) e h z;
     })
 
-even-passed : (a x : List ℕ) (e : ℕ) (b : List ℕ) → length a ≡ 12 → ShortTo 12 a → e < 2 ^ 64 → e % 2 ≡ 0 → b ≡ a
+even-passed : (a x : List ℕ) (e : ℕ) (b : List ℕ) → length a ≡ 12 → CanonicalTo 12 a → e < 2 ^ 64 → e % 2 ≡ 0 → b ≡ a
     → Passed a x e b
 even-passed a x e b l ha h z q =
-    subst (Passed a x e) (sym q) (record { size = l; short = ha; same = powers-even (elements a) (elements x) e h z })
+    subst (Passed a x e) (sym q)
+    (record { size = l; canonical = ha; same = powers-even (elements a) (elements x) e h z })
 
 passed : (t : ℕ) (c : powers-times-lts.Joined2 (
   multiply-reads.Asked,
   multiply-reads.Learnt,
+  square-reads.Asked,
+  square-reads.Learnt,
   powers-times-below t,
   powers-times.Post,
 ) (powers-times-at t) powers-times.Post) →
-    let a = c .before .before .before .args in
+    let a = c .before .before .args in
     Passed (a .acc .now) (a .x .now) (a .e) (c .if2 .acc)
 passed t c =
-    let a = c .before .before .before in
+    let a = c .before .before in
     let e = a .args .e in
     let h : e < 2 ^ 64 = omega arith in
     ⊎-elim
-    (λ w. odd-passed (a .args .acc .now) (a .args .x .now) e _ (a .pre .1 .1) (a .pre .1 .3) h (w .0 .taken)
-    (w .3 ∙ w .2 .ensures))
+    (λ w. odd-passed (a .args .acc .now) (a .args .x .now) e _ h (w .0 .taken) (w .4 ∙ w .3 .ensures))
     (λ w. even-passed (a .args .acc .now) (a .args .x .now) e _ (a .pre .1 .0) (a .pre .1 .1) h
     (omega (arith, w .0 .left)) (w .1))
     (c .if2 .came)
@@ -78,6 +82,8 @@ passed t c =
 powers-times-returns : (t : ℕ) → powers-times-lts.Need-returns (
   multiply-reads.Asked,
   multiply-reads.Learnt,
+  square-reads.Asked,
+  square-reads.Learnt,
   powers-times-below t,
   powers-times.Post,
 ) (powers-times-at t) powers-times.Post
@@ -87,72 +93,84 @@ powers-times-returns t c =
           ∙ ap (λ e. products (elements (a .args .acc .now)) (powers (elements (a .args .x .now)) e))
           (sym (c .if1 .taken)),
       a .pre .1 .1,
+      a .pre .1 .0,
     )
 
 powers-times-multiply-requires : (t : ℕ) → powers-times-lts.Need-multiply-requires (
   multiply-reads.Asked,
   multiply-reads.Learnt,
+  square-reads.Asked,
+  square-reads.Learnt,
   powers-times-below t,
   powers-times.Post,
 ) (powers-times-at t) powers-times.Post
 powers-times-multiply-requires t c κs =
     let p = c .before .before .before .before .pre .1 in
-    (p .0, p .1, p .3)
+    (p .0, p .1, p .3, p .4)
 
-powers-times-multiply-requires-2 : (t : ℕ) → powers-times-lts.Need-multiply-requires-2 (
+powers-times-square-requires : (t : ℕ) → powers-times-lts.Need-square-requires (
   multiply-reads.Asked,
   multiply-reads.Learnt,
+  square-reads.Asked,
+  square-reads.Learnt,
   powers-times-below t,
   powers-times.Post,
 ) (powers-times-at t) powers-times.Post
-powers-times-multiply-requires-2 t c κs =
-    let p = c .before .before .before .before .pre .1 in
-    (p .2, p .3, p .3)
+powers-times-square-requires t c κs =
+    let p = c .before .before .before .pre .1 in
+    (p .2, p .3, p .4)
 
 powers-times-powers-times-requires : (t : ℕ) → powers-times-lts.Need-powers-times-requires (
   multiply-reads.Asked,
   multiply-reads.Learnt,
+  square-reads.Asked,
+  square-reads.Learnt,
   powers-times-below t,
   powers-times.Post,
 ) (powers-times-at t) powers-times.Post
 powers-times-powers-times-requires t c κs =
     let joined = c .before .before .before .before in
-    let start = joined .before .before .before in
+    let start = joined .before .before in
     let q = passed t joined in
-    let squared = c .before .before .multiply2 .ensures in
+    let squared = c .before .before .square .ensures in
     let x = start .args .x .now in (
       omega arith,
       (
         q .size,
-        q .short,
-        ap length squared ∙ length-word-products x x,
-        subst (ShortTo 12) (sym squared) (word-products-short x x (start .pre .1 .3) (start .pre .1 .3)),
+        q .canonical,
+        ap length squared ∙ length-products x x,
+        subst (CanonicalTo 12) (sym squared) (products-canonical x x),
+        start .pre .1 .4,
       ),
     )
 
 powers-times-returns-2 : (t : ℕ) → powers-times-lts.Need-returns-2 (
   multiply-reads.Asked,
   multiply-reads.Learnt,
+  square-reads.Asked,
+  square-reads.Learnt,
   powers-times-below t,
   powers-times.Post,
 ) (powers-times-at t) powers-times.Post
 powers-times-returns-2 t c =
     let squared = c .before .before .before in
     let joined = squared .before .before in
-    let start = joined .before .before .before in
+    let start = joined .before .before in
     let x = start .args .x .now in (
       c .powers-times .ensures .0
           ∙ ap (λ y. products (elements (joined .if2 .acc)) (powers y (start .args .e / 2)))
-          (ap elements (squared .multiply2 .ensures)
-          ∙ elements-of-products x x (start .pre .1 .3) (start .pre .1 .3))
+          (ap elements (squared .square .ensures) ∙ elements-of-products x x)
           ∙ passed t joined .same,
       c .powers-times .ensures .1,
+      c .powers-times .ensures .2,
     )
 
 pub +powers-times-spec : {M : Type 1} → statement M
 +powers-times-spec = close μ-powers-times λ t. powers-times-lts.spec (
   multiply-reads.Asked,
   multiply-reads.Learnt,
+  square-reads.Asked,
+  square-reads.Learnt,
   powers-times-below t,
   powers-times.Post,
 )
@@ -160,6 +178,6 @@ pub +powers-times-spec : {M : Type 1} → statement M
     powers-times.Post
     (powers-times-returns t)
     (powers-times-multiply-requires t)
-    (powers-times-multiply-requires-2 t)
+    (powers-times-square-requires t)
     (powers-times-powers-times-requires t)
     (powers-times-returns-2 t)

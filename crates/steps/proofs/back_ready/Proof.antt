@@ -6,7 +6,7 @@ use native.Mathlib.Omega.{arith}
 use borrow.Author.Needs.{needs}
 use lib.ListN.{length}
 use Rattle.words.specs.Words.{AllCanonical}
-use Rattle.winograd.specs.WinogradHelpers.{ready}
+use Rattle.mixing.specs.MixingHelpers.{ready}
 use Rattle.table.proofs.Theorems.{inverse-length, inverse-canonical}
 use Rattle.steps.specs.StepHelpers.{backScale, backReady}
 use Rattle.steps.proofs.back_ready.Statement.{statement}

@@ -5,7 +5,7 @@ use native.Mathlib.Omega.{arith}
 use borrow.Author.Needs.{needs}
 use lib.ListN.{length}
 use Rattle.words.specs.Words.{AllCanonical}
-use Rattle.winograd.specs.WinogradHelpers.{ready}
+use Rattle.mixing.specs.MixingHelpers.{ready}
 use Rattle.table.proofs.Theorems.{matrix-length, matrix-canonical}
 use Rattle.steps.specs.StepHelpers.{forwardScale, forwardReady}
 use Rattle.steps.proofs.forward_ready.Statement.{statement}

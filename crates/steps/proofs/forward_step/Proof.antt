@@ -6,47 +6,33 @@ use mathlib.Core.List.{List}
 use Prim.Native.Nat.{ℕ, _-_, _≤_}
 use native.Mathlib.Omega.{arith}
 use borrow.Author.Needs.{needs}
-use lib.ListN.{length, replicate}
+use lib.ListN.{replicate}
 use Rattle.lists.specs.Lists.{cell}
-use Rattle.lists.proofs.Tab.{filled, Fills, fills-none, fills-more, length-tab}
+use Rattle.lists.proofs.Tab.{filled, Fills, fills-none, fills-more}
 use Rattle.field.specs.Field.{add}
-use Rattle.sums.proofs.Reduction.{made-canonical}
 use Rattle.table.specs.Table.{secondStepConstant}
-use Rattle.steps.proofs.Made.{inner, forward-is, plus-word, second-made}
+use Rattle.steps.proofs.Made.{forward-is, second-made}
 use Rattle.steps.proofs.forward_step.Statement.{statement}
 use Rattle.steps.proofs.forward_step.Tie as tie
 
 -- what the loop stores in column n
-abbrev sums : List ℕ → List ℕ → ℕ → List ℕ → ℕ → ℕ
-sums ready table round cubed n = add (inner ready cubed n) (cell (secondStepConstant table round) n)
+abbrev plus-constant : List ℕ → ℕ → List ℕ → ℕ → ℕ
+plus-constant table round mixed n = add (cell mixed n) (cell (secondStepConstant table round) n)
 
 abbrev Inv-loop : tie.InvT-loop
-Inv-loop ready table round count cubed excess out₀ i₀ out i =
-    (i ≤ count) × Fills 12 (sums ready table round cubed) out₀ i out
+Inv-loop ready table round count mixed out₀ i₀ out i =
+    (i ≤ count) × Fills 12 (plus-constant table round mixed) out₀ i out
 
 abbrev μ-loop : tie.MeasureT-loop
-μ-loop ready table round count cubed excess out₀ i₀ out i = count - i
-
--- the cubes, and the function's entry, from the loop's head
-abbrev cubes-of : tie.At-loop Inv-loop μ-loop → tie.After-montgomery-cubes Inv-loop μ-loop
-cubes-of head = head .before .before .before
-
-abbrev entry : tie.At-loop Inv-loop μ-loop → tie.Start Inv-loop μ-loop
-entry head = cubes-of head .before .before .before
+μ-loop ready table round count mixed out₀ i₀ out i = count - i
 
 montgomery-cubes-requires : tie.Need-montgomery-cubes-requires Inv-loop μ-loop
 montgomery-cubes-requires c κs = search needs
 
-slice-aggregate-neighbours : tie.Need-slice-aggregate-neighbours Inv-loop μ-loop
-slice-aggregate-neighbours c = omega arith
-
-length-of : (c : tie.After-cubed Inv-loop μ-loop) → length (c .before .montgomery-cubes .result) ≡ 12
-length-of c = ap length (c .before .montgomery-cubes .ensures .0) ∙ length-tab 12 _
-
-neighbours-requires : tie.Need-neighbours-requires Inv-loop μ-loop
-neighbours-requires c κs =
-    let q = c .before .montgomery-cubes in
-    (length-of c, q .ensures .1)
+mix-requires : tie.Need-mix-requires Inv-loop μ-loop
+mix-requires c κs =
+    let start = c .before .before .before in
+    (forward-is (start .args .table .now) (start .args .ready .now) (start .pre .1), c .montgomery-cubes .ensures .1)
 
 loop-holds : tie.Need-loop-holds Inv-loop μ-loop
 loop-holds c = (omega arith, fills-none refl)
@@ -54,24 +40,16 @@ loop-holds c = (omega arith, fills-none refl)
 second-step-constant-requires : tie.Need-second-step-constant-requires Inv-loop μ-loop
 second-step-constant-requires c κs = search needs
 
-slice-aggregate-cell-plus : tie.Need-slice-aggregate-cell-plus Inv-loop μ-loop
-slice-aggregate-cell-plus c = omega arith
+mul-t14 : tie.Need-mul-t14 Inv-loop μ-loop
+mul-t14 c = search needs
 
-cell-plus-requires : tie.Need-cell-plus-requires Inv-loop μ-loop
-cell-plus-requires c κs =
-    let head = c .before .before .before in
-    let cubed = head .before .before in
-    let start = entry head in (
-      forward-is (start .args .table .now) (start .args .ready .now) (start .pre .1),
-      omega arith,
-      length-of cubed,
-      cubed .before .montgomery-cubes .ensures .1,
-      head .before .neighbours .ensures .0,
-      c .before .second-step-constant .ensures .1,
-    )
+array-read-t17 : tie.Need-array-read-t17 Inv-loop μ-loop
+array-read-t17 c = omega arith
 
-reduce-once-requires : tie.Need-reduce-once-requires Inv-loop μ-loop
-reduce-once-requires c κs = search needs
+add-requires : tie.Need-add-requires Inv-loop μ-loop
+add-requires c κs =
+    let head = c .before .before in
+    (head .before .mix .ensures .1 (head .loop .i) (omega arith), c .second-step-constant .ensures .1)
 
 mul-out : tie.Need-mul-out Inv-loop μ-loop
 mul-out c = omega arith
@@ -87,32 +65,27 @@ loop-less c = omega arith
 
 loop-again : tie.Need-loop-again Inv-loop μ-loop
 loop-again c =
-    let word = c .before .cell-plus in
-    let added = c .before .before .before in
-    let constant = added .second-step-constant in
-    let head = added .before .before in
-    let cubed = cubes-of head .montgomery-cubes .result in
-    let start = entry head .args in
-    let sum =
-    plus-word (word .result) (inner (start .ready .now) cubed (head .loop .i)) (word .ensures .0)
-    (constant .ensures .0) in (
+    let constant = c .before in
+    let head = constant .before .before in
+    let mixed = head .before .mix .result in (
       omega arith,
       fills-more (head .loop .inv .1) (omega arith)
-          (made-canonical _ (word .result) (c .reduce-once .result) (word .ensures .1) sum (c .reduce-once .ensures)
-          .0),
+          (c .add .ensures .0 ∙ ap (add (cell mixed (head .loop .i))) (constant .second-step-constant .ensures .0)),
     )
 
 returns : tie.Need-returns Inv-loop μ-loop
 returns c =
     let loop = c .before .loop in
-    let cubes = cubes-of (c .before) .montgomery-cubes in
-    let start = entry (c .before) in
+    let mixed = c .before .before in
+    let cubed = mixed .before in
+    let start = cubed .before .before .before in
     let a = start .args in
     let e : loop .i ≡ a .count = omega arith in
-    second-made (a .table .now) (a .ready .now) (a .s) (cubes .result) (loop .out) (a .round) (a .count)
-    (start .pre .4) (start .pre .1) (cubes .ensures .0)
+    second-made (a .table .now) (a .ready .now) (a .s) (cubed .montgomery-cubes .result) (mixed .mix .result)
+    (loop .out) (a .round) (a .count) (start .pre .4) (start .pre .1) (cubed .montgomery-cubes .ensures .0)
+    (mixed .mix .ensures .0)
     (loop .inv .1 .so-far
-    ∙ ap (λ n. filled n (sums (a .ready .now) (a .table .now) (a .round) (cubes .result)) (replicate 12 0)) e)
+    ∙ ap (λ n. filled n (plus-constant (a .table .now) (a .round) (mixed .mix .result)) (replicate 12 0)) e)
 
 pub forward-step-spec : {M : Type 1} → statement M
 forward-step-spec =
@@ -121,13 +94,12 @@ forward-step-spec =
     Inv-loop
     μ-loop
     montgomery-cubes-requires
-    slice-aggregate-neighbours
-    neighbours-requires
+    mix-requires
     loop-holds
     second-step-constant-requires
-    slice-aggregate-cell-plus
-    cell-plus-requires
-    reduce-once-requires
+    mul-t14
+    array-read-t17
+    add-requires
     mul-out
     array-write-out
     add-i

@@ -1,36 +1,57 @@
--- `steps::montgomery_cubes`: the cells passed are filled with the cubes divided by 2^128.
+-- `steps::montgomery_cubes`: the cells passed are filled with the cubes, which two products in Montgomery's form leave
+-- divided by 2^128.
 -- Assumes nothing.
-use mathlib.Core.Path.{refl, sym, ap, _∙_, subst}
-use Prim.Native.Nat.{_-_}
+use mathlib.Core.Path.{_≡_, refl, sym, ap, _∙_, subst}
+use Prim.Native.Nat.{ℕ, _-_}
 use native.Mathlib.Omega.{arith}
 use borrow.Author.Needs.{needs}
 use Rattle.lists.specs.Lists.{cell}
 use Rattle.lists.proofs.Tab.{Fills, fills-none, fills-more, fills-all, cell-tab}
 use Rattle.field.specs.Field.{Canonical}
+use Rattle.field.specs.MontgomeryHelpers.{timesWord}
 use Rattle.field.proofs.Forms.{divided-lt}
 use Rattle.steps.specs.StepHelpers.{montgomeryCube}
 use Rattle.steps.proofs.montgomery_cubes.Statement.{statement}
 use Rattle.steps.proofs.montgomery_cubes.Tie as tie
 
+-- the two products
+cube-made : (x square r : ℕ) → square ≡ timesWord x x → r ≡ timesWord square x → r ≡ montgomeryCube x
+unfolding timesWord
+cube-made x square r e f = f ∙ ap (λ s. timesWord s x) e
+
 abbrev Inv-loop : tie.InvT-loop
-Inv-loop s out₀ j₀ out j = Fills 12 (λ i. montgomeryCube (cell s i)) out₀ j out
+Inv-loop s q out₀ j₀ out j = Fills 12 (λ i. montgomeryCube (cell s i)) out₀ j out
 
 abbrev μ-loop : tie.MeasureT-loop
-μ-loop s out₀ j₀ out j = 12 - j
+μ-loop s q out₀ j₀ out j = 12 - j
+
+array-read-quotient : tie.Need-array-read-quotient Inv-loop μ-loop
+array-read-quotient c = search needs
+
+quotient-requires : tie.Need-quotient-requires Inv-loop μ-loop
+quotient-requires c κs = c .pre 0 (omega arith)
 
 loop-holds : tie.Need-loop-holds Inv-loop μ-loop
 loop-holds c = fills-none refl
 
-mul-montgomery-cube : tie.Need-mul-montgomery-cube Inv-loop μ-loop
-mul-montgomery-cube c = search needs
+mul-x : tie.Need-mul-x Inv-loop μ-loop
+mul-x c = search needs
 
-array-read-montgomery-cube : tie.Need-array-read-montgomery-cube Inv-loop μ-loop
-array-read-montgomery-cube c = search needs
+array-read-x : tie.Need-array-read-x Inv-loop μ-loop
+array-read-x c = search needs
 
-montgomery-cube-requires : tie.Need-montgomery-cube-requires Inv-loop μ-loop
-montgomery-cube-requires c κs =
-    let l = c .before in
-    omega (arith, l .before .pre (l .loop .j) (omega arith))
+times-requires : tie.Need-times-requires Inv-loop μ-loop
+times-requires c κs =
+    let head = c .before in
+    let start = head .before .before in
+    let here = start .pre (head .loop .j) (omega arith) in
+    (here, here, head .before .quotient .ensures)
+
+times-requires-2 : tie.Need-times-requires-2 Inv-loop μ-loop
+times-requires-2 c κs =
+    let head = c .before .before in
+    let start = head .before .before in
+    (c .times .ensures .2, start .pre (head .loop .j) (omega arith), head .before .quotient .ensures)
 
 mul-out : tie.Need-mul-out Inv-loop μ-loop
 mul-out c = search needs
@@ -45,7 +66,10 @@ loop-less : tie.Need-loop-less Inv-loop μ-loop
 loop-less c = search needs
 
 loop-again : tie.Need-loop-again Inv-loop μ-loop
-loop-again c = fills-more (c .before .before .loop .inv) (omega arith) (c .montgomery-cube .ensures .0)
+loop-again c =
+    let square = c .before in
+    fills-more (square .before .before .loop .inv) (omega arith)
+    (cube-made _ (square .times .result) (c .times2 .result) (square .times .ensures .0) (c .times2 .ensures .0))
 
 returns : tie.Need-returns Inv-loop μ-loop
 returns c =
@@ -58,10 +82,13 @@ montgomery-cubes-spec =
     (tie.spec
     Inv-loop
     μ-loop
+    array-read-quotient
+    quotient-requires
     loop-holds
-    mul-montgomery-cube
-    array-read-montgomery-cube
-    montgomery-cube-requires
+    mul-x
+    array-read-x
+    times-requires
+    times-requires-2
     mul-out
     array-write-out
     add-j

@@ -1,37 +1,37 @@
--- `field::montgomery::times`: the product's two words are reduced; the result stands for the product, and is below 2p.
+-- `field::montgomery::times`: after each digit there is one word, and two digits gather the whole.
 -- Assumes nothing.
-use mathlib.Core.Path.{_≡_, sym, ap₂, _∙_, subst}
+use mathlib.Core.Path.{_≡_, _∙_}
 use native.Mathlib.Omega.{arith}
 use borrow.Author.Needs.{needs}
-use Rattle.field.specs.Field.{mul}
-use Rattle.field.specs.MontgomeryHelpers.{Short, divided, reduceWord, timesWord}
-use Rattle.field.proofs.Forms.{upper-small, divided-times, times-short}
+use Rattle.field.specs.Gathering.{formWord}
+use Rattle.field.specs.MontgomeryHelpers.{timesWord}
+use Rattle.field.proofs.Gathering.{first-word, second-word, whole-form}
+use Rattle.field.proofs.Forms.{times-divided}
 use Rattle.field.proofs.montgomery.times.Statement.{statement}
 use Rattle.field.proofs.montgomery.times.Tie as tie
 
-low-requires : tie.Need-low-requires
-low-requires c κs = search needs
+gather-requires : tie.Need-gather-requires
+gather-requires c κs = search needs
 
-high-requires : tie.Need-high-requires
-high-requires c κs = search needs
+gather-requires-2 : tie.Need-gather-requires-2
+gather-requires-2 c κs = search needs
 
-reduce-requires : tie.Need-reduce-requires
-reduce-requires c κs =
-    let a = c .before .before in
-    omega (arith, c .high .ensures, upper-small (a .args .a) (a .args .b) (a .pre .0) (a .pre .1))
+-- the word after each digit
+first : (c : tie.After-gather) → c .gather .result ≡ formWord (c .before .args .a) (c .before .args .b) 1
+first c = first-word (c .before .args .a) (c .before .args .b) (omega arith) _ (c .gather .ensures .0)
+
+second : (c : tie.After-gather2)
+    → c .gather2 .result ≡ formWord (c .before .before .args .a) (c .before .before .args .b) 2
+second c =
+    let start = c .before .before .args in
+    second-word (start .a) (start .b) (omega arith) _ _ (first (c .before)) (c .gather2 .ensures .0)
 
 returns : tie.Need-returns
-unfolding timesWord
 returns c =
-    let h = c .before in
-    let a = h .before .before in
-    let e : c .reduce .result ≡ timesWord (a .args .a) (a .args .b) =
-    c .reduce .ensures .0 ∙ ap₂ reduceWord (h .high .ensures) (h .before .low .ensures) in (
-      e,
-      subst (λ r. divided r ≡ mul (divided (a .args .a)) (divided (a .args .b))) (sym e)
-          (divided-times (a .args .a) (a .args .b) (a .pre .0) (a .pre .1)),
-      subst Short (sym e) (times-short (a .args .a) (a .args .b) (a .pre .0) (a .pre .1)),
-    )
+    let start = c .before .before .args in
+    let e : c .gather2 .result ≡ timesWord (start .a) (start .b) =
+    second c ∙ whole-form (start .a) (start .b) (omega arith) in
+    (e, times-divided (start .a) (start .b) (c .gather2 .result) e, c .gather2 .ensures .1)
 
 pub times-spec : {M : Type 1} → statement M
-times-spec = tie.close (tie.spec low-requires high-requires reduce-requires returns)
+times-spec = tie.close (tie.spec gather-requires gather-requires-2 returns)

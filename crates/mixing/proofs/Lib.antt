@@ -1,0 +1,2 @@
+pub mod Unweighting
+pub mod ReadyWords

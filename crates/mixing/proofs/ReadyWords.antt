@@ -1,0 +1,153 @@
+-- The words of a matrix made ready: how they are stored, column by column, and what they are.
+-- Assumes nothing.
+use mathlib.Core.Path.{_≡_, refl, sym, ap, ap₂, _∙_, subst}
+use mathlib.Core.List.{List, _++_}
+use Prim.Native.Nat.{ℕ, suc, _+_, _*_, _-_, _/_, _%_, _^_, _<_}
+use native.Mathlib.Omega.{arith}
+use borrow.Author.Tests.{lt-ltb, le-ltb}
+use lib.ListN.{length, replicate}
+use lib.Seq.{sets}
+use Rattle.lists.specs.Lists.{choose, cell, tab}
+use Rattle.lists.proofs.Tab.{length-tab, cell-tab, tab-ext, tab-add}
+use Rattle.lists.proofs.Stores.{sets-append, sets-all}
+use Rattle.field.specs.Field.{P}
+use Rattle.field.specs.Gathering.{halfInverse, gathered}
+use Rattle.field.specs.MontgomeryHelpers.{timesWord}
+use Rattle.field.proofs.Forms.{times-lt}
+use Rattle.sums.specs.Sums.{weight}
+use Rattle.matrix.specs.Matrix.{entry}
+use Rattle.matrix.proofs.RowWords.{rowWords, next-gathered}
+use Rattle.mixing.specs.MixingHelpers.{weightedEntry, columnWord, ready, IsReady, readyEntry}
+use Rattle.mixing.proofs.Unweighting.{weighted-again, scale-unweighted}
+
+-- ---- runs of stores that go on where the last ended
+stored : (z out : List ℕ) (n : ℕ) (f g : ℕ → ℕ) → out ≡ sets z 0 (tab n f) → ((i : ℕ) → i < 12 → g i ≡ f (n + i))
+    → sets out n (tab 12 g) ≡ sets z 0 (tab (n + 12) f)
+stored z out n f g e h =
+    ap₂ (λ l k. sets l k (tab 12 g)) e place
+    ∙ sets-append z 0 (tab n f) (tab 12 g)
+    ∙ ap (sets z 0) (ap (λ l. tab n f ++ l) (tab-ext 12 g (λ i. f (n + i)) h) ∙ sym (tab-add n 12 f))
+  where
+    place : n ≡ 0 + length (tab n f)
+    place = omega (arith, length-tab n f)
+
+module _ (m : List ℕ) (scale : ℕ) where
+  word : ℕ → ℕ
+  word t = columnWord m scale (t / 24) (t % 24)
+
+  -- the words of column j
+  at : (j k : ℕ) → k < 24 → word (24 * j + k) ≡ columnWord m scale j k
+  unfolding word
+  at j k h = ap₂ (columnWord m scale) quotient rest
+    where
+      quotient : (24 * j + k) / 24 ≡ j
+      quotient = omega arith
+
+      rest : (24 * j + k) % 24 ≡ k
+      rest = omega arith
+
+  lower : (j i : ℕ) → i < 12 → word (24 * j + i) ≡ weightedEntry m scale i j
+  lower j i h =
+      at j i (omega arith)
+      ∙ ap (λ b. choose b (weightedEntry m scale i j) (2 ^ 31 * weightedEntry m scale (i - 12) j % P)) (lt-ltb i 12 h)
+
+  upper : (j i : ℕ) → i < 12 → word (24 * j + 12 + i) ≡ 2 ^ 31 * weightedEntry m scale i j % P
+  upper j i h =
+      ap word place
+      ∙ at j (12 + i) (omega arith)
+      ∙ ap
+      (λ b. choose b (weightedEntry m scale (12 + i) j) (2 ^ 31 * weightedEntry m scale (12 + i - 12) j % P))
+      (le-ltb (12 + i) 12 (omega arith))
+      ∙ ap (λ k. 2 ^ 31 * weightedEntry m scale k j % P) back
+    where
+      place : 24 * j + 12 + i ≡ 24 * j + (12 + i)
+      place = omega arith
+
+      back : 12 + i - 12 ≡ i
+      back = omega arith
+
+  -- ---- how they are stored
+  -- the words of the first j columns, and zeros
+  pub storedTo : ℕ → List ℕ
+  storedTo j = sets (replicate 288 0) 0 (tab (24 * j) word)
+
+  pub none-stored : replicate 288 0 ≡ storedTo 0
+  unfolding storedTo tab
+  none-stored = refl
+
+  pub next-stored : (j : ℕ) (out low high : List ℕ) → out ≡ storedTo j
+      → ((i : ℕ) → i < 12 → cell low i ≡ weightedEntry m scale i j)
+      → ((i : ℕ) → i < 12 → cell high i ≡ 2 ^ 31 * weightedEntry m scale i j % P)
+      → sets (sets out (24 * j) (tab 12 (cell low))) (24 * j + 12) (tab 12 (cell high)) ≡ storedTo (j + 1)
+  unfolding storedTo
+  next-stored j out low high e hl hh =
+      stored z _ (24 * j + 12) word (cell high)
+      (stored z out (24 * j) word (cell low) e (λ i h. hl i h ∙ sym (lower j i h)))
+      (λ i h. hh i h ∙ sym (upper j i h))
+      ∙ ap (λ n. sets z 0 (tab n word)) place
+    where
+      z : List ℕ
+      z = replicate 288 0
+
+      place : 24 * j + 12 + 12 ≡ 24 * (j + 1)
+      place = omega arith
+
+  pub all-stored : storedTo 12 ≡ ready m scale
+  unfolding storedTo word ready
+  all-stored = sets-all (replicate 288 0) (tab 288 word) (length-tab 288 word)
+
+  -- ---- what they are
+  cell-word : (t : ℕ) → t < 288 → cell (ready m scale) t ≡ word t
+  unfolding word ready
+  cell-word t h = cell-tab 288 word t h
+
+  cell-low : (i j : ℕ) → i < 12 → j < 12 → cell (ready m scale) (24 * j + i) ≡ weightedEntry m scale i j
+  cell-low i j hi hj = cell-word (24 * j + i) (omega arith) ∙ lower j i hi
+
+  pub is-ready : IsReady (ready m scale)
+  unfolding ready word
+  is-ready = record {
+    size = length-tab 288 word;
+    canonical = λ i j hi hj. subst (λ v. v < P) (sym (cell-low i j hi hj)) (times-lt _ _);
+    raised = λ i j hi hj. cell-word (24 * j + 12 + i) (omega arith)
+        ∙ upper j i hi
+        ∙ sym (ap (λ v. 2 ^ 31 * v % P) (cell-low i j hi hj));
+  }
+
+  -- without the weights, each entry times the scale
+  pub ready-entry : (i j : ℕ) → i < 12 → j < 12 → readyEntry (ready m scale) i j ≡ timesWord (entry m i j) scale
+  unfolding readyEntry
+  ready-entry i j hi hj =
+      ap (λ v. v * halfInverse ^ (12 - j) % P) (cell-low i j hi hj) ∙ scale-unweighted j (entry m i j) scale
+
+-- ---- two terms a step: the words after both
+module _ (r s : List ℕ) where
+  term-with : (j i : ℕ) → (cell r (24 * j + i) * cell s j) % P ≡ (weight j * (readyEntry r i j * cell s j)) % P
+  unfolding readyEntry
+  term-with j i = sym (weighted-again j (cell r (24 * j + i)) (cell s j))
+
+  pub two-gathered : (j : ℕ) (words : List ℕ) → words ≡ rowWords (readyEntry r) (cell s) j
+      → tab 12 (λ i. gathered (gathered (cell words i) (cell r (24 * j + i)) (cell s j)) (cell r (24 * (j + 1) + i))
+      (cell s (j + 1)))
+      ≡ rowWords (readyEntry r) (cell s) (j + 2)
+  two-gathered j words e =
+      tab-ext 12 _ (λ i. gathered (cell between i) (cell r (24 * (j + 1) + i)) (cell s (j + 1)))
+      (λ i h. ap (λ word. gathered word (cell r (24 * (j + 1) + i)) (cell s (j + 1)))
+      (sym (cell-tab 12 (λ l. gathered (cell words l) (cell r (24 * j + l)) (cell s j)) i h)))
+      ∙ next-gathered (readyEntry r) (cell s) (j + 1) between (first ∙ ap (rowWords (readyEntry r) (cell s)) one)
+      (λ i. cell r (24 * (j + 1) + i)) (λ i. cell s (j + 1)) (λ i h. term-with (j + 1) i)
+      ∙ ap (rowWords (readyEntry r) (cell s)) two
+    where
+      between : List ℕ
+      between = tab 12 (λ i. gathered (cell words i) (cell r (24 * j + i)) (cell s j))
+
+      first : between ≡ rowWords (readyEntry r) (cell s) (suc j)
+      first =
+          next-gathered (readyEntry r) (cell s) j words e (λ i. cell r (24 * j + i)) (λ i. cell s j)
+          (λ i h. term-with j i)
+
+      one : suc j ≡ j + 1
+      one = omega arith
+
+      two : suc (j + 1) ≡ j + 2
+      two = omega arith

@@ -1,0 +1,48 @@
+#!/bin/sh
+# Reads the machine code of the library that tests/library.sh built, where the products are computed: the hot loops are
+# still vector code, which a later edit could lose unseen, since the compiler decides it; and none of these functions
+# makes a product of 128 bits (document 02, U2). Prints what is wrong, and fails if anything is.
+set -eu
+cd "$(dirname "$0")/.."
+
+# FUNCTION COUNT: a function of the archive with such loops, and how many vector multiplications (pmuludq, two of 32
+# bits each) it has with the kit of kit.txt. More is as good; an edit that needs fewer says so here.
+loops='
+hash::first_step 23
+inverse::add_row 6
+lemoncolumn_prepare 6
+matrix::times 19
+mixing::mix 10
+mixing::ready 20
+steps::montgomery_cubes 11
+'
+# Functions that multiply words; `mul` with one operand leaves 128 bits. The others have it where they divide a length
+# or a row number by a constant.
+products='hash::first_step hash::second_step inverse::add_row matrix::times mixing::mix mixing::ready
+    steps::montgomery_cubes'
+
+work=$(mktemp -d)
+trap 'rm -rf "$work"' EXIT
+objdump -d --no-show-raw-insn target/staticlib/libexport.a >"$work/code"
+
+awk -v loops="$loops" -v products="$(echo $products)" '
+    function bad(text) { print "tests/vectors.sh: " text; failed = 1 }
+    /^[0-9a-f]+ <.*>:$/ { name = $2; gsub(/[<>:]+$|^</, "", name); there[name] = 1 }
+    $2 == "pmuludq" { vector[name]++ }
+    $2 == "mul" || ($2 == "imul" && NF == 3 && $3 !~ /,/) { whole[name]++ }
+    END {
+        n = split(loops, word)
+        for (i = 1; i < n; i += 2) {
+            name = word[i]
+            if (!there[name]) bad(name " is no function of the archive")
+            else if (vector[name] < word[i + 1])
+                bad(name " has " vector[name] + 0 " vector multiplications, and had " word[i + 1])
+        }
+        n = split(products, word)
+        for (i = 1; i <= n; i++) {
+            if (!there[word[i]]) bad(word[i] " is no function of the archive")
+            if (whole[word[i]]) bad(word[i] " makes a product of 128 bits")
+        }
+        exit failed
+    }' "$work/code" >&2
+echo "tests/vectors.sh: the hot loops are vector code, and no product of words has 128 bits"
