@@ -54,7 +54,7 @@ settled x n r hx h hn en er = go (x / 4611686018427387904) refl
     go (suc (suc (suc (suc k)))) q = absurd (omega arith)
 
 -- y less w, by a difference that wraps
-pub unwrapped : (x y w : ℕ) → x < 2 ^ 64 → y < P → w < P → (x + w) % 2 ^ 64 ≡ y → (x + P) % 2 ^ 64 ≡ y + (P - w)
+pub unwrapped : (x y w : ℕ) → x < 2 ^ 64 → y < 2 * P → w < P → (x + w) % 2 ^ 64 ≡ y → (x + P) % 2 ^ 64 ≡ y + (P - w)
 unwrapped x y w hx hy hw e = omega arith
 
 pub above-zero : (y w : ℕ) → y < P → y + (P - w) < 2 * P

@@ -20,7 +20,7 @@ mul-step-2 : tie.Need-mul-step-2
 mul-step-2 c = omega (arith, bounds c .high)
 
 step-requires : tie.Need-step-requires
-step-requires c κs = (bounds c .small, c .pre .3)
+step-requires c κs = (omega (arith, bounds c .small), c .pre .3)
 
 returns : tie.Need-returns
 returns c =

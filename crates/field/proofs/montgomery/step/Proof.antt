@@ -32,13 +32,14 @@ module _ (c : tie.After-wrapping-sub-u64) where
 
   difference : (c .wrapping-sub-u64 .result + P) % 2 ^ 64 ≡ y + (P - w)
   difference =
-      unwrapped (c .wrapping-sub-u64 .result) y w (omega arith) (start .pre .0) (omega arith)
+      unwrapped (c .wrapping-sub-u64 .result) y w (omega arith) (omega (arith, start .pre .0)) (omega arith)
       (ap (λ z. (c .wrapping-sub-u64 .result + z) % 2 ^ 64)
       (sym (low-product (start .args .t) (start .args .q) (start .pre .1)))
       ∙ c .wrapping-sub-u64 .ensures)
 
 settle-requires : tie.Need-settle-requires
-settle-requires c κs = subst (λ z. z < 2 * P) (sym (difference c)) (above-zero (y c) (w c) (start c .pre .0))
+settle-requires c κs =
+    subst (λ z. z < 2 * P) (sym (difference c)) (above-zero (y c) (w c) (omega (arith, start c .pre .0)))
 
 returns : tie.Need-returns
 returns c =
