@@ -22,8 +22,10 @@ extern "C" {
  * that, so a caller compares the number with the library's at its start, and makes no other call where they differ:
  *
  *     if (lemoncolumn_interface() != LEMONCOLUMN_INTERFACE)
- *         return 1; */
-#define LEMONCOLUMN_INTERFACE 1
+ *         return 1;
+ *
+ * From 2 on lemoncolumn_hash writes twelve words; in 1 it wrote the first four of them. */
+#define LEMONCOLUMN_INTERFACE 2
 
 /* The number of the library that is linked. This call stays as it is, whatever the number. */
 uint64_t lemoncolumn_interface(void);
@@ -34,7 +36,8 @@ uint64_t lemoncolumn_interface(void);
 /* Lengths, in words; that of the board file in bytes. */
 #define LEMONCOLUMN_RAW_WORDS 396                              /* M row by row, then K_0 to K_20 */
 #define LEMONCOLUMN_TABLE_WORDS 540                            /* M, its inverse, then K_0 to K_20 */
-#define LEMONCOLUMN_DIGEST_WORDS 4                             /* an output, or a claim */
+#define LEMONCOLUMN_DIGEST_WORDS 4                             /* the output of a chain, or a claim */
+#define LEMONCOLUMN_STATE_WORDS 12                             /* the final state of a hash */
 #define LEMONCOLUMN_TAP_WORDS(k) ((size_t)12 * (k) + 4)        /* 3k + 1 taps */
 #define LEMONCOLUMN_TRACE_WORDS(k) ((size_t)384 * (k))         /* 32 rows of 12 cells a batch */
 #define LEMONCOLUMN_FILE_BYTES(k) ((size_t)144 * (k) + 100)
@@ -45,7 +48,8 @@ typedef uint64_t lemoncolumn_code;
 /* Writes the prepared table. Refusals, in the order in which they are tested: 1, 8, 2, 3. */
 lemoncolumn_code lemoncolumn_prepare(const uint64_t *raw, size_t raw_words, uint64_t *table, size_t table_words);
 
-/* Hashes the taps (w0 .. w3) and (w4 .. w7) into four words: 1, 2, 4, 8, 6. */
+/* Hashes the taps (w0 .. w3) and (w4 .. w7), and writes the final state, twelve words: 1, 2, 4, 8, 6. Its first four are the hash,
+ * with which chain, build and edit go on. */
 lemoncolumn_code lemoncolumn_hash(const uint64_t *table, size_t table_words, uint64_t w0, uint64_t w1, uint64_t w2, uint64_t w3, uint64_t w4,
                                   uint64_t w5, uint64_t w6, uint64_t w7, uint64_t *output, size_t output_words);
 

@@ -1,5 +1,5 @@
-/* The known days of document 01, and edits of them, through the library for C. Prints one line for each; known_days.expected has
- * what they must be. */
+/* The known days of document 01, their hashes with all twelve cells, and edits of them, through the library for C. Prints one line
+ * for each; known_days.expected has what they must be. */
 #include "lemoncolumn.h"
 
 #include <inttypes.h>
@@ -36,9 +36,24 @@ static void show_tests(const char *day, lemoncolumn_code code)
         show_refusal(code);
 }
 
+static void show_line(const char *day, const uint64_t *words, int count)
+{
+    printf("%s:", day);
+    for (int i = 0; i < count; i++)
+        printf(" %" PRIu64, words[i]);
+    printf("\n");
+}
+
+/* Four words: an output, or a tap. */
 static void show_words(const char *day, const uint64_t *words)
 {
-    printf("%s: %" PRIu64 " %" PRIu64 " %" PRIu64 " %" PRIu64 "\n", day, words[0], words[1], words[2], words[3]);
+    show_line(day, words, LEMONCOLUMN_DIGEST_WORDS);
+}
+
+/* The final state of a hash. */
+static void show_state(const char *day, const uint64_t *state)
+{
+    show_line(day, state, LEMONCOLUMN_STATE_WORDS);
 }
 
 /* A table whose M has ones at column (i + shift) mod 12 of row i, and K_0[0] = first; all other constants are zero. */
@@ -51,20 +66,33 @@ static lemoncolumn_code prepare(int shift, uint64_t first, uint64_t *table)
     return lemoncolumn_prepare(raw, LEMONCOLUMN_RAW_WORDS, table, LEMONCOLUMN_TABLE_WORDS);
 }
 
+/* S moves each cell one up at every step, and there are twenty: (a, b, four zeros) ends as (b, four zeros, a). */
 static void hashes(const uint64_t *z, const uint64_t *a, const uint64_t *s)
 {
+    uint64_t state[LEMONCOLUMN_STATE_WORDS] = {0};
+    lemoncolumn_hash(z, LEMONCOLUMN_TABLE_WORDS, 8, 27, 1, 0, 0, 0, 0, 0, state, LEMONCOLUMN_STATE_WORDS);
+    show_state("Z, (8,27,1,0) and zeros", state);
+    lemoncolumn_hash(a, LEMONCOLUMN_TABLE_WORDS, 0, 0, 0, 0, 0, 0, 0, 0, state, LEMONCOLUMN_STATE_WORDS);
+    show_state("A, zeros", state);
+    lemoncolumn_hash(s, LEMONCOLUMN_TABLE_WORDS, 1, 2, 3, 4, 5, 6, 7, 9, state, LEMONCOLUMN_STATE_WORDS);
+    show_state("S, (1,2,3,4) and (5,6,7,9)", state);
+    show("p among the words",
+         lemoncolumn_hash(z, LEMONCOLUMN_TABLE_WORDS, 0, 0, 0, 0, 0, LEMONCOLUMN_P, 0, 0, state, LEMONCOLUMN_STATE_WORDS));
+    show("a hash into four words",
+         lemoncolumn_hash(z, LEMONCOLUMN_TABLE_WORDS, 0, 0, 0, 0, 0, LEMONCOLUMN_P, 0, 0, state, LEMONCOLUMN_DIGEST_WORDS));
+}
+
+/* A chain hands out cells 0 to 3 of its last final state. */
+static void chains(const uint64_t *a)
+{
     uint64_t out[LEMONCOLUMN_DIGEST_WORDS] = {0};
+    uint64_t state[LEMONCOLUMN_STATE_WORDS];
     uint64_t taps[LEMONCOLUMN_TAP_WORDS(1)] = {0};
-    lemoncolumn_hash(z, LEMONCOLUMN_TABLE_WORDS, 8, 27, 1, 0, 0, 0, 0, 0, out, LEMONCOLUMN_DIGEST_WORDS);
-    show_words("Z, (8,27,1,0) and zeros", out);
-    lemoncolumn_hash(a, LEMONCOLUMN_TABLE_WORDS, 0, 0, 0, 0, 0, 0, 0, 0, out, LEMONCOLUMN_DIGEST_WORDS);
-    show_words("A, zeros", out);
-    lemoncolumn_hash(s, LEMONCOLUMN_TABLE_WORDS, 1, 2, 3, 4, 5, 6, 7, 9, out, LEMONCOLUMN_DIGEST_WORDS);
-    show_words("S, any and (5,6,7,9)", out);
-    lemoncolumn_chain(a, LEMONCOLUMN_TABLE_WORDS, taps, LEMONCOLUMN_TAP_WORDS(1), out, LEMONCOLUMN_DIGEST_WORDS);
+    show("a chain into four words",
+         lemoncolumn_chain(a, LEMONCOLUMN_TABLE_WORDS, taps, LEMONCOLUMN_TAP_WORDS(1), out, LEMONCOLUMN_DIGEST_WORDS));
     show_words("A, four zero taps", out);
-    show("p among the words", lemoncolumn_hash(z, LEMONCOLUMN_TABLE_WORDS, 0, 0, 0, 0, 0, LEMONCOLUMN_P, 0, 0, out, LEMONCOLUMN_DIGEST_WORDS));
-    show("an output of three words", lemoncolumn_hash(z, LEMONCOLUMN_TABLE_WORDS, 0, 0, 0, 0, 0, LEMONCOLUMN_P, 0, 0, out, 3));
+    show("a chain into twelve words",
+         lemoncolumn_chain(a, LEMONCOLUMN_TABLE_WORDS, taps, LEMONCOLUMN_TAP_WORDS(1), state, LEMONCOLUMN_STATE_WORDS));
 }
 
 static lemoncolumn_code edit(const uint64_t *z, uint64_t *trace, size_t tap, uint64_t w0, uint64_t w1, uint64_t w2, uint64_t w3, uint64_t *out)
@@ -73,8 +101,8 @@ static lemoncolumn_code edit(const uint64_t *z, uint64_t *trace, size_t tap, uin
                             LEMONCOLUMN_DIGEST_WORDS);
 }
 
-/* Of the trace whose taps are zeros but w_2, under the claim (0,0,0,0). Under Z a hash answers its first tap, and its rows hold the
- * roots of its input. */
+/* Of the trace whose taps are zeros but w_2, under the claim (0,0,0,0). Under Z the final state of a hash is its input, so that
+ * its first tap goes on, and its rows hold the roots of its input. */
 static void edits(const uint64_t *z, uint64_t *trace)
 {
     uint64_t out[LEMONCOLUMN_DIGEST_WORDS];
@@ -147,6 +175,7 @@ int main(void)
     show("S", prepare(11, 0, s));
     show("zero M", lemoncolumn_prepare(nothing, LEMONCOLUMN_RAW_WORDS, z, LEMONCOLUMN_TABLE_WORDS));
     hashes(z, a, s);
+    chains(a);
     traces(z);
     files();
     indices();

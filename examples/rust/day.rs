@@ -15,6 +15,20 @@ fn raw_table() -> [u64; RAW_WORDS] {
     raw
 }
 
+/// The final state of the last hash of a list. Cells 0 to 3 of a final state are the
+/// first tap of the next hash.
+fn final_state(table: &[u64], taps: &[u64]) -> Result<[u64; STATE_WORDS], Refusal> {
+    let mut state = [0; STATE_WORDS];
+    state[..4].copy_from_slice(&taps[..4]);
+    for tap in taps[4..].chunks_exact(4) {
+        let mut words = [0; 8];
+        words[..4].copy_from_slice(&state[..4]);
+        words[4..].copy_from_slice(tap);
+        state = hash(table, words)?;
+    }
+    Ok(state)
+}
+
 fn main() -> Result<(), Refusal> {
     let mut table = [0; TABLE_WORDS];
     prepare(&raw_table(), &mut table)?;
@@ -23,14 +37,16 @@ fn main() -> Result<(), Refusal> {
     let k = 1;
     let mut taps = vec![0; tap_words(k)];
     let mut trace = vec![0; trace_words(k)];
-    let built = build(&table, &taps, &mut trace)?;
-    println!("output {built:?}");
+    let mut output = build(&table, &taps, &mut trace)?;
+    println!("output {output:?}");
 
-    // The cash desk corrects tap 0, in the list and in the trace.
-    let new = [5, 6, 7, 9];
-    taps[..4].copy_from_slice(&new);
-    let output = edit(&table, &mut trace, built, 0, new)?;
-    println!("corrected {output:?}");
+    // The cash desk corrects the first tap and the last, in the list and in the trace.
+    // Under this table the last one does not reach the output.
+    for (tap, new) in [(0, [5, 6, 7, 9]), (3 * k, [1, 2, 3, 4])] {
+        taps[4 * tap..4 * tap + 4].copy_from_slice(&new);
+        output = edit(&table, &mut trace, output, tap, new)?;
+        println!("corrected {output:?}");
+    }
 
     // The board file.
     let mut file = vec![0; file_bytes(k)];
@@ -44,6 +60,12 @@ fn main() -> Result<(), Refusal> {
     read_off(&table, &trace, claim, &mut read)?;
     println!("the same taps: {}", read == list);
 
+    // The final state, which the last tap does reach, is the last row of the trace.
+    let state = final_state(&table, &list)?;
+    println!("final state {state:?}");
+    let last_row = &trace[trace_words(k) - STATE_WORDS..];
+    println!("the same final state: {}", state == last_row);
+
     // A trace that was altered, a word that is no element, and a tap past the last.
     trace[12 * 11 + 5] = 1;
     if let Err(refusal) = check(&table, &trace, claim) {
@@ -52,7 +74,7 @@ fn main() -> Result<(), Refusal> {
     if let Err(refusal) = hash(&table, [0, 0, 0, P, 0, 0, 0, 0]) {
         println!("{refusal}: {refusal:?}");
     }
-    if let Err(refusal) = edit(&table, &mut trace, claim, 3 * k + 1, new) {
+    if let Err(refusal) = edit(&table, &mut trace, claim, 3 * k + 1, [0; 4]) {
         println!("{refusal}: {refusal:?}");
     }
     Ok(())

@@ -15,19 +15,21 @@ use Rattle.lists.proofs.Bools.{or-cases, and-both}
 use Rattle.numbers.specs.Numbers.{IsPermitted, mostBatches, isTapLength, tapWordBatches, isTraceLength}
 use Rattle.numbers.specs.Numbers.{traceWordBatches}
 use Rattle.numbers.proofs.Laws.{trace-length-sound}
-use Rattle.refusals.specs.Refusals.{told, digest, digestWords}
-use Rattle.refusals.specs.Answers.{Refuses as IsRefusal, digestAfter, testsAfter, leaves}
+use Rattle.refusals.specs.Refusals.{told, digest, digestWords, state}
+use Rattle.refusals.specs.Answers.{Refuses as IsRefusal, digestAfter, stateAfter, testsAfter, leaves}
 use Rattle.refusals.specs.declared.Refusal.{Refusal}
 use Rattle.refusals.specs.declared.Refusal.the-variants.{NoInverse, WrongInverse, TapLength, TraceLength}
 use Rattle.refusals.specs.declared.Refusal.the-variants.{DestinationLength}
 use Rattle.refusals.specs.declared.Answer.{Answer}
 use Rattle.refusals.specs.declared.Answer.the-variants as answer
 use Rattle.refusals.specs.declared.Digest.{Digest}
-use Rattle.refusals.proofs.Laws.{passed, both-accepted, digest-refused, tests-refused, AnswerEnds}
+use Rattle.refusals.specs.declared.State.{State}
+use Rattle.refusals.proofs.Laws.{passed, both-accepted, digest-refused, state-refused, tests-refused, AnswerEnds}
 use Rattle.table.specs.Table.{Prepares, tableTest}
 use Rattle.table.proofs.Theorems.{prepares-some, prepares-unique, refused-kept}
 use Rattle.hash.specs.Hash as rescue
 use Rattle.hash.specs.Answers.{hashTest, hashAnswer, chainTest, chainAnswer}
+use Rattle.hash.proofs.States.{finalState-state}
 use Rattle.hash.proofs.Inputs.{hash-tap}
 use Rattle.hash.proofs.Answers.{ChainInputs, chain-inputs}
 use Rattle.trace.specs.Trace.{trace}
@@ -43,10 +45,10 @@ use Rattle.readoff.proofs.Answers.{read-off-inputs}
 use Rattle.edit.specs.Answers.{editAnswer, editLeaves, editTest, alteredTaps}
 use Rattle.board.specs.Board.{packTest, packed, packLeaves, unpackAnswer, unpackTest, tapsIn, claimIn, unpackLeaves}
 use Rattle.board.proofs.Round.{claim-is}
-use Rattle.export.specs.Code.{code as code-of, answerCode, digestCode, testsCode}
-use Rattle.export.specs.Calls.{written, HandsOver, PrepareCall, hashCallTest, hashCall, chainCallTest, chainCall}
-use Rattle.export.specs.Calls.{buildCallTest, buildCall, BuildCall, ReadOffCall, editCallTest, editCall, EditCall}
-use Rattle.export.specs.Calls.{PackCall, unpackCallTest, unpackCall, UnpackCall}
+use Rattle.export.specs.Code.{code as code-of, answerCode, digestCode, stateCode, testsCode}
+use Rattle.export.specs.Calls.{written, HandsOver, writtenState, HandsOverState, PrepareCall, hashCallTest, hashCall}
+use Rattle.export.specs.Calls.{chainCallTest, chainCall, buildCallTest, buildCall, BuildCall, ReadOffCall}
+use Rattle.export.specs.Calls.{editCallTest, editCall, EditCall, PackCall, unpackCallTest, unpackCall, UnpackCall}
 use Rattle.export.proofs.Answers.{chain-room, build-room}
 use Rattle.export.proofs.Bits.{RefusalInBits, says, says-accepted}
 use Rattle.export.proofs.Endings as ends
@@ -58,7 +60,7 @@ use Rattle.demands.specs.Demand1.{chain-refuses, build-refuses, check-re
 use Rattle.demands.specs.Demand1.{pack-refuses, unpack-refuses, Answered, accepted, refused, PrepareResult}
 use Rattle.demands.specs.Demand1.{HashResult, ChainResult, BuildResult, CheckResult, ReadOffResult, EditResult}
 use Rattle.demands.specs.Demand1.{PackResult, UnpackResult, Demand1}
-use Rattle.demands.proofs.Returned.{four-words}
+use Rattle.demands.proofs.Returned.{four-words, twelve-words}
 
 -- ---- numbers of a list, by computing
 
@@ -122,7 +124,7 @@ unfolding hashAnswer chainAnswer buildAnswer checkAnswer readOffAnswer editAnswe
 numbered o r (prepare-refuses raw old new q h) = prepare-numbers raw old new (answer.Refused q) h
 numbered o r (hash-refuses T words q e) =
     let ns = numbers hash in
-    subst (AnswerEnds (OneOf ns)) (digest-refused (hashTest T words) _ q e)
+    subst (AnswerEnds (OneOf ns)) (state-refused (hashTest T words) _ q e)
     (ends.hash-ends (OneOf ns) (table-causes ns refl refl refl) T words (λ i h. one-of 6 ns refl))
 numbered o r (chain-refuses T w q e) =
     let ns = numbers chain in
@@ -184,6 +186,11 @@ unfolding digestCode testsCode code-of
 digest-none answer.Accepted d = refl
 digest-none (answer.Refused r) d = refl
 
+state-none : (t : Answer) (s : State) → stateCode (stateAfter t s) ≡ testsCode (testsAfter t 0)
+unfolding stateCode testsCode code-of
+state-none answer.Accepted s = refl
+state-none (answer.Refused r) s = refl
+
 -- what a word says, from the tests t that it tells of: they are within its bits, and refuse with these numbers only
 module _ (code : ℕ) (ns : List ℕ) (full : ℕ → Type 0) (kept : Type 0) where
   tests-says : (t : Answer) (n : ℕ) → code ≡ testsCode (testsAfter t n) → (t ≡ answer.Accepted → n < 2 ^ 28)
@@ -201,6 +208,11 @@ module _ (code : ℕ) (ns : List ℕ) (full : ℕ → Type 0) (kept : Type 0) wh
       → AnswerEnds RefusalInBits t → AnswerEnds (OneOf ns) t
       → (t ≡ answer.Accepted → full 0) → (IsRefusal t → kept) → Answered code ns full kept
   digest-says t d e = tests-says t 0 (e ∙ digest-none t d) (λ a. lit< tt)
+
+  state-says : (t : Answer) (s : State) → code ≡ stateCode (stateAfter t s)
+      → AnswerEnds RefusalInBits t → AnswerEnds (OneOf ns) t
+      → (t ≡ answer.Accepted → full 0) → (IsRefusal t → kept) → Answered code ns full kept
+  state-says t s e = tests-says t 0 (e ∙ state-none t s) (λ a. lit< tt)
 
 prepare-call : (raw table table′ : List ℕ) (code : ℕ) → PrepareCall raw table code table′
     → Answered code (callNumbers prepare) (PrepareResult raw table table′) (table′ ≡ table)
@@ -220,7 +232,7 @@ module _ (t : Answer) (d : Digest) (code : ℕ) (old new : List ℕ) (h : HandsO
   output-old r = h .output ∙ ap (λ x. written (digestAfter x d) old) (r .1)
 
 hash-call : (T output output′ : List ℕ) (w0 w1 w2 w3 w4 w5 w6 w7 code : ℕ)
-    → HandsOver (hashCall T (w0 ∷ w1 ∷ w2 ∷ w3 ∷ w4 ∷ w5 ∷ w6 ∷ w7 ∷ []) (length output)) code output output′
+    → HandsOverState (hashCall T (w0 ∷ w1 ∷ w2 ∷ w3 ∷ w4 ∷ w5 ∷ w6 ∷ w7 ∷ []) (length output)) code output output′
     → Answered code (callNumbers hash) (HashResult T (w0 ∷ w1 ∷ w2 ∷ w3 ∷ []) (w4 ∷ w5 ∷ w6 ∷ w7 ∷ []) output′)
     (output′ ≡ output)
 unfolding hashCall
@@ -230,16 +242,17 @@ hash-call T output output′ w0 w1 w2 w3 w4 w5 w6 w7 code h =
     let b : List ℕ = w4 ∷ w5 ∷ w6 ∷ w7 ∷ [] in
     let ns = callNumbers hash in
     let t = hashCallTest T words (length output) in
-    let d = digest (rescue.hash T a b) in
-    digest-says code ns (HashResult T a b output′) (output′ ≡ output) t d (h .coded)
+    let final = rescue.finalState T (rescue.input a b) in
+    let left : Answer → List ℕ = λ x. writtenState (stateAfter x (state final)) output in
+    state-says code ns (HashResult T a b output′) (output′ ≡ output) t (state final) (h .coded)
     (bits.hash-bits T words (length output) refl)
     (ends.hash-call-ends (OneOf ns) (table-causes ns refl refl refl) T words (λ i l. one-of 6 ns refl) (length output)
     (one-of 8 ns refl))
     (λ e. record {
       none = refl;
-      output-is = output-new t d code output output′ h e ∙ four-words (rescue.hash T a b) (hash-tap T a b .size);
+      output-is = h .output ∙ ap left e ∙ twelve-words final (finalState-state T (rescue.input a b) .size);
     })
-    (output-old t d code output output′ h)
+    (λ r. h .output ∙ ap left (r .1))
 
 -- the output of one hash or more has four words, whatever it was taken from
 output-size : (T w : List ℕ) (h : ℕ) → 1 ≤ h → length (rescue.outputAt T w h) ≡ 4

@@ -10,18 +10,21 @@ use lib.Seq.{take-at, drop-at}
 use Rattle.words.specs.Words.{AllCanonical}
 use Rattle.words.proofs.Laws.{append-canonical}
 use Rattle.numbers.specs.Numbers.{IsPermitted, tapWordBatches, traceWordBatches}
-use Rattle.refusals.specs.Refusals.{digest, digestWords}
-use Rattle.refusals.specs.Answers.{digestAfter, testsAfter, leaves}
+use Rattle.refusals.specs.Refusals.{digest, digestWords, state, stateWords}
+use Rattle.refusals.specs.Answers.{digestAfter, stateAfter, testsAfter, leaves}
 use Rattle.refusals.specs.declared.Answer.the-variants as answer
 use Rattle.refusals.specs.declared.Digest.{Digest}
 use Rattle.refusals.specs.declared.DigestAnswer.the-variants.{Accepted}
+use Rattle.refusals.specs.declared.State.{State}
+use Rattle.refusals.specs.declared.StateAnswer.the-variants as final
 use Rattle.refusals.specs.declared.TestsAnswer.the-variants as counted
 use Rattle.refusals.proofs.Laws.{digest-accepted, tests-accepted}
 use Rattle.table.specs.Table.{tableTest, IsTable}
 use Rattle.table.proofs.Theorems.{test-sound}
-use Rattle.hash.specs.Hash.{hash, chain}
+use Rattle.hash.specs.Hash.{finalState, input, hash, chain}
 use Rattle.hash.specs.Answers.{hashAnswer, chainAnswer}
 use Rattle.hash.proofs.Answers.{ChainInputs, hash-passes, chain-passes}
+use Rattle.hash.proofs.States.{finalState-state}
 use Rattle.hash.proofs.Inputs.{IsTap, output-tap}
 use Rattle.trace.specs.Trace.{trace}
 use Rattle.trace.specs.Answers.{buildTest, buildAnswer, buildLeaves}
@@ -39,16 +42,23 @@ use Rattle.board.specs.Board.{packTest, packed, packLeaves, unpackTest, unpackA
 use Rattle.board.proofs.Theorems.{unpack-packed, pack-unpack}
 use Rattle.exact.proofs.Exactness.{reading-off-a-built-trace}
 use Rattle.demands.specs.Demand2.{Demand2}
-use Rattle.demands.proofs.Returned.{four-words}
+use Rattle.demands.proofs.Returned.{four-words, twelve-words}
 
 -- ---- hash and chain
 hashes : (T a b : List ℕ) → tableTest T ≡ answer.Accepted → length a ≡ 4 → AllCanonical a → length b ≡ 4
-    → AllCanonical b → hashAnswer T (a ++ b) ≡ Accepted (digest (hash T a b))
-unfolding hashAnswer
+    → AllCanonical b
+    → (s : State) × (hashAnswer T (a ++ b) ≡ final.Accepted s)
+    × (stateWords s ≡ finalState T (input a b)) × (take 4 (stateWords s) ≡ hash T a b)
+unfolding hashAnswer hash
 hashes T a b table la ha lb hb =
-    ap (λ t. digestAfter t (digest (hash T (take 4 (a ++ b)) (drop 4 (a ++ b)))))
-    (hash-passes T (a ++ b) (record { table = test-sound T table; canonical = append-canonical a b ha hb }))
-    ∙ ap₂ (λ x y. Accepted (digest (hash T x y))) (take-at a b 4 la) (drop-at a b 4 la)
+    let cells = twelve-words (finalState T (input a b)) (finalState-state T (input a b) .size) in (
+      state (finalState T (input a b)),
+      ap (λ t. stateAfter t (state (finalState T (input (take 4 (a ++ b)) (drop 4 (a ++ b))))))
+          (hash-passes T (a ++ b) (record { table = test-sound T table; canonical = append-canonical a b ha hb }))
+          ∙ ap₂ (λ x y. final.Accepted (state (finalState T (input x y)))) (take-at a b 4 la) (drop-at a b 4 la),
+      cells,
+      ap (take 4) cells,
+    )
 
 chains : (T w : List ℕ) (k : ℕ) → tableTest T ≡ answer.Accepted → IsPermitted k → length w ≡ 12 * k + 4
     → AllCanonical w → chainAnswer T w ≡ Accepted (digest (chain T w k))

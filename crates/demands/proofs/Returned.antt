@@ -1,20 +1,17 @@
--- Four words that are returned are the list that they were taken from.
+-- Four or twelve words that are returned are the list that they were taken from.
 -- Assumes nothing.
-use mathlib.Core.Path.{_≡_, refl}
+use mathlib.Core.Path.{_≡_}
 use mathlib.Core.List.{List}
-use Prim.Native.Nat.{ℕ, zero, suc, _<_}
-use native.Mathlib.Omega.{arith}
+use Prim.Native.Nat.{ℕ}
 use lib.ListN.{length}
-use Rattle.lists.specs.Lists.{cell}
-use Rattle.refusals.specs.Refusals.{digest, digestWords}
-use Rattle.hash.proofs.States.{same-cells}
+use Rattle.lists.specs.Lists.{tab}
+use Rattle.lists.proofs.Tab.{tab-cell}
+use Rattle.refusals.specs.Refusals.{digest, digestWords, state, stateWords}
 
 pub four-words : (s : List ℕ) → length s ≡ 4 → digestWords (digest s) ≡ s
-four-words s e = same-cells 4 (digestWords (digest s)) s refl e each
-  where
-    each : (j : ℕ) → j < 4 → cell (digestWords (digest s)) j ≡ cell s j
-    each zero h = refl
-    each (suc zero) h = refl
-    each (suc (suc zero)) h = refl
-    each (suc (suc (suc zero))) h = refl
-    each (suc (suc (suc (suc j)))) h = absurd (omega arith)
+unfolding tab
+four-words = tab-cell 4
+
+pub twelve-words : (s : List ℕ) → length s ≡ 12 → stateWords (state s) ≡ s
+unfolding tab
+twelve-words = tab-cell 12

@@ -4,7 +4,7 @@
 -- Assumes nothing.
 use mathlib.Core.Path.{_≡_}
 use mathlib.Core.List.{List, [], _∷_, List·Memᴰ}
-use Prim.Native.Nat.{ℕ, _+_, _*_}
+use Prim.Native.Nat.{ℕ, _*_}
 use lib.ListN.{length}
 use Rattle.numbers.specs.Numbers.{tapWords, traceWords, IsPermitted}
 use Rattle.refusals.specs.Refusals.{told, indexed}
@@ -13,6 +13,7 @@ use Rattle.refusals.specs.declared.Refusal.the-variants.{NoInverse, WrongInvers
 use Rattle.refusals.specs.declared.Answer.{Answer}
 use Rattle.refusals.specs.declared.Answer.the-variants as answer
 use Rattle.refusals.specs.declared.DigestAnswer.the-variants as digest
+use Rattle.refusals.specs.declared.StateAnswer.the-variants as state
 use Rattle.refusals.specs.declared.TestsAnswer.the-variants as tests
 use Rattle.table.specs.Table.{Prepares}
 use Rattle.hash.specs.Hash as rescue
@@ -25,8 +26,8 @@ use Rattle.readoff.specs.Answers.{readOffAnswer, readOffLeaves}
 use Rattle.edit.specs.Answers.{alteredTaps, editAnswer, editLeaves}
 use Rattle.board.specs.Board.{packTest, packed, packLeaves, unpackAnswer, tapsIn, claimIn, unpackLeaves}
 use Rattle.export.specs.Code.{Says, testsCode}
-use Rattle.export.specs.Calls.{HandsOver, PrepareCall, hashCall, chainCall, BuildCall, ReadOffCall, EditCall}
-use Rattle.export.specs.Calls.{PackCall, UnpackCall}
+use Rattle.export.specs.Calls.{HandsOver, HandsOverState, PrepareCall, hashCall, chainCall, BuildCall, ReadOffCall}
+use Rattle.export.specs.Calls.{EditCall, PackCall, UnpackCall}
 
 -- ---- the operations, and the numbers that each can return, in the order of their tests (document 01, "What is
 -- turned back"; document 02 for Edit)
@@ -53,7 +54,7 @@ numbers edit = 1 ∷ 2 ∷ 4 ∷ 7 ∷ 15 ∷ 9 ∷ 10 ∷ 6 ∷ 11 ∷ []
 numbers pack = 5 ∷ 8 ∷ 9 ∷ 6 ∷ []
 numbers unpack = 12 ∷ 13 ∷ 14 ∷ 8 ∷ []
 
--- from another language four words go to a destination too, whose length is tested where 8 stands
+-- from another language four words, and Hash's twelve, go to a destination too, whose length is tested where 8 stands
 abbrev pub callNumbers : Operation → List ℕ
 callNumbers prepare = numbers prepare
 callNumbers hash = 1 ∷ 2 ∷ 4 ∷ 8 ∷ 6 ∷ []
@@ -72,7 +73,7 @@ OneOf ns r = List·Memᴰ (told r .number) ns
 -- the operation, lent something, answers this refusal
 pub data Refuses : Operation → Refusal → Type 0 where
   prepare-refuses : (raw old new : List ℕ) (r : Refusal) → Prepares raw old (answer.Refused r) new → Refuses prepare r
-  hash-refuses : (T words : List ℕ) (r : Refusal) → hashAnswer T words ≡ digest.Refused r → Refuses hash r
+  hash-refuses : (T words : List ℕ) (r : Refusal) → hashAnswer T words ≡ state.Refused r → Refuses hash r
   chain-refuses : (T w : List ℕ) (r : Refusal) → chainAnswer T w ≡ digest.Refused r → Refuses chain r
   build-refuses : (T w : List ℕ) (size : ℕ) (r : Refusal) → buildAnswer T w size ≡ digest.Refused r → Refuses build r
   check-refuses : (T t claim : List ℕ) (r : Refusal) → checkAnswer T t claim ≡ tests.Refused r → Refuses check r
@@ -99,7 +100,7 @@ pub record PrepareResult (raw old table : List ℕ) (tests : ℕ) : Type 0 where
 
 pub record HashResult (T a b output : List ℕ) (tests : ℕ) : Type 0 where
   pub none : tests ≡ 0
-  pub output-is : output ≡ rescue.hash T a b
+  pub output-is : output ≡ rescue.finalState T (rescue.input a b)
 
 pub record ChainResult (T w output : List ℕ) (tests : ℕ) : Type 0 where
   pub none : tests ≡ 0
@@ -174,7 +175,7 @@ pub record Demand1 : Type 0 where
   pub prepare-call : (raw table table′ : List ℕ) (code : ℕ) → PrepareCall raw table code table′
       → Answered code (callNumbers prepare) (PrepareResult raw table table′) (table′ ≡ table)
   pub hash-call : (T output output′ : List ℕ) (w0 w1 w2 w3 w4 w5 w6 w7 code : ℕ)
-      → HandsOver (hashCall T (w0 ∷ w1 ∷ w2 ∷ w3 ∷ w4 ∷ w5 ∷ w6 ∷ w7 ∷ []) (length output)) code output output′
+      → HandsOverState (hashCall T (w0 ∷ w1 ∷ w2 ∷ w3 ∷ w4 ∷ w5 ∷ w6 ∷ w7 ∷ []) (length output)) code output output′
       → Answered code (callNumbers hash)
       (HashResult T (w0 ∷ w1 ∷ w2 ∷ w3 ∷ []) (w4 ∷ w5 ∷ w6 ∷ w7 ∷ []) output′) (output′ ≡ output)
   pub chain-call : (T w output output′ : List ℕ) (code : ℕ)

@@ -1,20 +1,23 @@
--- Demand 2 (document 00): hash, chain and trace are those of the Rescue STARK documentation 1.0 for every accepted
--- table; reading off a built trace, under the output its building returned, yields the taps that it was built from; a
--- packed board file unpacks to its taps and claim, and an accepted file packs to the same bytes.
+-- Demand 2 (document 00; document 02, U3, for the twelve cells of Hash): hash, chain and trace are those of the Rescue
+-- STARK documentation 1.0 for every accepted table; reading off a built trace, under the output its building returned,
+-- yields the taps that it was built from; a packed board file unpacks to its taps and claim, and an accepted file packs
+-- to the same bytes.
 -- Assumes nothing.
 use mathlib.Core.Path.{_≡_}
 use mathlib.Core.List.{List, _++_}
 use Prim.Native.Nat.{ℕ, _+_, _*_}
-use lib.ListN.{length}
+use lib.ListN.{length, take}
 use Rattle.words.specs.Words.{AllCanonical}
 use Rattle.numbers.specs.Numbers.{tapWords, traceWords, IsPermitted, tapWordBatches}
-use Rattle.refusals.specs.Refusals.{digest, digestWords}
+use Rattle.refusals.specs.Refusals.{digest, digestWords, stateWords}
 use Rattle.refusals.specs.declared.Answer.the-variants as answer
 use Rattle.refusals.specs.declared.Digest.{Digest}
 use Rattle.refusals.specs.declared.DigestAnswer.the-variants.{Accepted}
+use Rattle.refusals.specs.declared.State.{State}
+use Rattle.refusals.specs.declared.StateAnswer.the-variants as final
 use Rattle.refusals.specs.declared.TestsAnswer.the-variants as tests
 use Rattle.table.specs.Table.{tableTest}
-use Rattle.hash.specs.Hash.{hash, chain}
+use Rattle.hash.specs.Hash.{finalState, input, hash, chain}
 use Rattle.hash.specs.Answers.{hashAnswer, chainAnswer}
 use Rattle.trace.specs.Trace.{trace}
 use Rattle.trace.specs.Answers.{buildAnswer, buildLeaves}
@@ -23,10 +26,12 @@ use Rattle.elements.specs.Words.{AllBytes}
 use Rattle.board.specs.Board.{packTest, packLeaves, unpackAnswer, unpackLeaves}
 
 pub record Demand2 : Type 0 where
-  -- for every accepted table and permitted k, hash, chain and trace of canonical words are those of the definitions
+  -- for every accepted table and permitted k, hash, chain and trace of canonical words are those of the definitions. Of
+  -- Hash, the twelve cells are Algorithm 1's final state, and cells 0 to 3 the documentation's hash
   pub hashes : (T a b : List ℕ) → tableTest T ≡ answer.Accepted → length a ≡ 4 → AllCanonical a → length b ≡ 4
       → AllCanonical b
-      → hashAnswer T (a ++ b) ≡ Accepted (digest (hash T a b))
+      → (s : State) × (hashAnswer T (a ++ b) ≡ final.Accepted s)
+      × (stateWords s ≡ finalState T (input a b)) × (take 4 (stateWords s) ≡ hash T a b)
   pub chains : (T w : List ℕ) (k : ℕ) → tableTest T ≡ answer.Accepted → IsPermitted k → length w ≡ tapWords k
       → AllCanonical w
       → chainAnswer T w ≡ Accepted (digest (chain T w k))

@@ -40,7 +40,7 @@ module _ (T w : List ℕ) (k : ℕ) (accepted : IsTable T) (size : length w ≡ 
   start-row : (b : ℕ) → b < k → row (trace T w k) (32 * b) ≡ hashInput T w (3 * b)
   start-row b l = row-of-trace T w k size canonical (32 * b) (omega arith) ∙ row-start T w b
 
-  end-row : (b : ℕ) → b < k → row (trace T w k) (32 * b + 31) ≡ finalState T (hashInput T w (3 * b + 2))
+  pub end-row : (b : ℕ) → b < k → row (trace T w k) (32 * b + 31) ≡ finalState T (hashInput T w (3 * b + 2))
   end-row b l = row-of-trace T w k size canonical (32 * b + 31) (omega arith) ∙ row-end T w b
 
   module _ (h : ℕ) (l : h < 3 * k) where

@@ -1,4 +1,4 @@
--- How the calls answer: four words handed over, a refusal passed on, and a destination of another length than 4.
+-- How the calls answer: four or twelve words handed over, a refusal passed on, and a destination of another length.
 -- Assumes nothing.
 use mathlib.Core.Path.{_≡_, refl, sym, ap, _∙_}
 use mathlib.Core.Bool.{Bool, true, false}
@@ -8,9 +8,11 @@ use native.Mathlib.Omega.{arith}
 use borrow.Author.Tests.{eq-eqb, ne-eqb}
 use lib.Dec.{leb}
 use lib.ListN.{length, set, take, drop}
+use Rattle.lists.specs.Lists.{tab}
+use Rattle.lists.proofs.Tab.{tab-cell}
 use Rattle.numbers.specs.Numbers.{mostBatches, isTapLength, tapWordBatches, isTraceLength, traceWordBatches}
-use Rattle.refusals.specs.Refusals.{digest}
-use Rattle.refusals.specs.Answers.{unless, after, Refuses, digestAfter, leaves}
+use Rattle.refusals.specs.Refusals.{digest, state, stateWords}
+use Rattle.refusals.specs.Answers.{unless, after, Refuses, digestAfter, stateAfter, leaves}
 use Rattle.refusals.specs.declared.Refusal.{Refusal}
 use Rattle.refusals.specs.declared.Refusal.the-variants.{TapLength, TraceLength, DestinationLength, NoSuchTap}
 use Rattle.refusals.specs.declared.Answer.{Answer}
@@ -18,20 +20,23 @@ use Rattle.refusals.specs.declared.Answer.the-variants as answer
 use Rattle.refusals.specs.declared.Digest.{Digest}
 use Rattle.refusals.specs.declared.DigestAnswer.{DigestAnswer}
 use Rattle.refusals.specs.declared.DigestAnswer.the-variants.{Accepted, Refused}
+use Rattle.refusals.specs.declared.State.{State}
+use Rattle.refusals.specs.declared.StateAnswer.{StateAnswer}
+use Rattle.refusals.specs.declared.StateAnswer.the-variants as twelve
 use Rattle.refusals.specs.declared.TestsAnswer.{TestsAnswer}
 use Rattle.refusals.specs.declared.TestsAnswer.the-variants as tests
 use Rattle.table.specs.Table.{tableTest}
-use Rattle.hash.specs.Hash.{hash, chain}
+use Rattle.hash.specs.Hash.{finalState, input, chain}
 use Rattle.hash.specs.Answers.{hashTest, hashAnswer, chainTest, chainAnswer}
 use Rattle.trace.specs.Trace.{trace}
 use Rattle.trace.specs.Answers.{buildTest, buildAnswer, buildLeaves}
 use Rattle.edit.specs.Answers.{editTest, alteredTaps, editAnswer, editLeaves}
 use Rattle.board.specs.Board.{batchesIn, claimIn, tapsIn, unpackTest, unpackAnswer, unpackLeaves}
 use Rattle.board.proofs.Answers.{unpack-accepted}
-use Rattle.export.specs.Code.{code, refusalCode, answerCode, digestCode, testsCode}
-use Rattle.export.specs.Calls.{HandsOver, hashCallTest, hashNoRoom, hashCall, chainCallTest, chainNoRoom}
-use Rattle.export.specs.Calls.{chainCall, buildCallTest, buildCall, editCallTest, editNoRoom, editCall}
-use Rattle.export.specs.Calls.{unpackCallTest, unpackCall}
+use Rattle.export.specs.Code.{code, refusalCode, answerCode, digestCode, stateCode, testsCode}
+use Rattle.export.specs.Calls.{HandsOver, HandsOverState, hashCallTest, hashNoRoom, hashCall, chainCallTest}
+use Rattle.export.specs.Calls.{chainNoRoom, chainCall, buildCallTest, buildCall, editCallTest, editNoRoom}
+use Rattle.export.specs.Calls.{editCall, unpackCallTest, unpackCall}
 
 -- ---- the code of an answer that was found to be one or the other
 pub answer-accepted : (a : Answer) → a ≡ answer.Accepted → 0 ≡ answerCode a
@@ -58,15 +63,19 @@ pub tests-refused : (a : TestsAnswer) (r : Refusal) → a ≡ tests.Refused r �
 unfolding testsCode
 tests-refused a r e = rw e
 
+pub state-accepted : (a : StateAnswer) (s : State) → a ≡ twelve.Accepted s → 0 ≡ stateCode a
+unfolding stateCode
+state-accepted a s e = rw e
+
+pub state-refused : (a : StateAnswer) (r : Refusal) → a ≡ twelve.Refused r → refusalCode r ≡ stateCode a
+unfolding stateCode
+state-refused a r e = rw e
+
 -- ---- four words and their destination
-pub four-words : (old : List ℕ) (a b c d : ℕ) → length old ≡ 4
+four-words : (old : List ℕ) (a b c d : ℕ) → length old ≡ 4
     → set (set (set (set old 0 a) 1 b) 2 c) 3 d ≡ a ∷ b ∷ c ∷ d ∷ []
-four-words [] a b c d h = absurd (omega arith)
-four-words (p ∷ []) a b c d h = absurd (omega arith)
-four-words (p ∷ q ∷ []) a b c d h = absurd (omega arith)
-four-words (p ∷ q ∷ r ∷ []) a b c d h = absurd (omega arith)
-four-words (p ∷ q ∷ r ∷ s ∷ []) a b c d h = refl
-four-words (p ∷ q ∷ r ∷ s ∷ t ∷ old) a b c d h = absurd (omega arith)
+unfolding tab
+four-words old a b c d e = ap (λ l. set (set (set (set l 0 a) 1 b) 2 c) 3 d) (sym (tab-cell 4 old e))
 
 pub handed-accepted : (a : DigestAnswer) (d : Digest) (old : List ℕ) → length old ≡ 4 → a ≡ Accepted d
     → HandsOver a 0 old (set (set (set (set old 0 (d .0)) 1 (d .1)) 2 (d .2)) 3 (d .3))
@@ -80,7 +89,20 @@ pub handed-as : (a b : DigestAnswer) (code : ℕ) (old new : List ℕ) → b ≡
     → HandsOver a code old new
 handed-as a b code old new e t = rw e at t
 
--- tests t that can only refuse, as those of a call have become where its four words find no room
+-- ---- twelve words and theirs
+pub state-handed-accepted : (a : StateAnswer) (s : State) (old new : List ℕ) → a ≡ twelve.Accepted s
+    → new ≡ stateWords s → HandsOverState a 0 old new
+state-handed-accepted a s old new e f = record { coded = state-accepted a s e; output = rw e f }
+
+pub state-handed-refused : (a : StateAnswer) (r : Refusal) (code : ℕ) (old : List ℕ) → a ≡ twelve.Refused r
+    → code ≡ refusalCode r → HandsOverState a code old old
+state-handed-refused a r code old e f = record { coded = f ∙ state-refused a r e; output = rw e }
+
+pub state-handed-as : (a b : StateAnswer) (code : ℕ) (old new : List ℕ) → b ≡ a → HandsOverState b code old new
+    → HandsOverState a code old new
+state-handed-as a b code old new e t = rw e at t
+
+-- ---- tests t that can only refuse, as those of a call have become where its four or twelve words find no room
 module _ (t called : Answer) (same : called ≡ t) (refuses : Refuses t) where
   pub stopped : (d : Digest) (code : ℕ) (old : List ℕ) → code ≡ answerCode t
       → HandsOver (digestAfter called d) code old old
@@ -89,18 +111,25 @@ module _ (t called : Answer) (same : called ≡ t) (refuses : Refuses t) where
       (ap (λ a. digestAfter a d) (same ∙ refuses .1))
       (e ∙ sym (answer-refused t (refuses .0) (refuses .1)))
 
+  pub state-stopped : (s : State) (code : ℕ) (old : List ℕ) → code ≡ answerCode t
+      → HandsOverState (stateAfter called s) code old old
+  state-stopped s code old e =
+      state-handed-refused (stateAfter called s) (refuses .0) code old
+      (ap (λ a. stateAfter a s) (same ∙ refuses .1))
+      (e ∙ sym (answer-refused t (refuses .0) (refuses .1)))
+
   pub kept : {A : Type 0} (new old : A) → old ≡ leaves called new old
   kept new old = sym (ap (λ a. leaves a new old) (same ∙ refuses .1))
 
 -- ---- the calls' tests, by the length of that destination
 module _ (T words : List ℕ) (size : ℕ) where
-  pub hash-room : size ≡ 4 → hashTest T words ≡ hashCallTest T words size
+  pub hash-room : size ≡ 12 → hashTest T words ≡ hashCallTest T words size
   unfolding hashTest hashCallTest
-  hash-room e = rw (eq-eqb size 4 e)
+  hash-room e = rw (eq-eqb size 12 e)
 
-  pub hash-short : (size ≡ 4 → ⊥) → hashCallTest T words size ≡ hashNoRoom T
+  pub hash-short : (size ≡ 12 → ⊥) → hashCallTest T words size ≡ hashNoRoom T
   unfolding hashCallTest hashNoRoom
-  hash-short e = rw (ne-eqb size 4 e)
+  hash-short e = rw (ne-eqb size 12 e)
 
 module _ (T w : List ℕ) (size : ℕ) where
   pub chain-room : size ≡ 4 → chainTest T w ≡ chainCallTest T w size
@@ -187,12 +216,12 @@ module _ (file : List ℕ) (taps size : ℕ) (short : size ≡ 4 → ⊥) where
       (e ∙ sym (digest-refused (unpackAnswer file 0) (r .0) (ap (λ t. digestAfter t d) (r .1))))
 
 -- where there is room, answer and content are the operation's
-module _ (size : ℕ) (four : size ≡ 4) where
-  pub hash-answer : (T words : List ℕ) → hashAnswer T words ≡ hashCall T words size
-  unfolding hashAnswer hashCall
-  hash-answer T words =
-      ap (λ t. digestAfter t (digest (hash T (take 4 words) (drop 4 words)))) (hash-room T words size four)
+pub hash-answer : (size : ℕ) → size ≡ 12 → (T words : List ℕ) → hashAnswer T words ≡ hashCall T words size
+unfolding hashAnswer hashCall
+hash-answer size e T words =
+    ap (λ t. stateAfter t (state (finalState T (input (take 4 words) (drop 4 words))))) (hash-room T words size e)
 
+module _ (size : ℕ) (four : size ≡ 4) where
   pub chain-answer : (T w : List ℕ) → chainAnswer T w ≡ chainCall T w size
   unfolding chainAnswer chainCall
   chain-answer T w =

@@ -13,7 +13,7 @@ use lib.ListN.{length}
 use Rattle.field.specs.Field.{P}
 use Rattle.words.specs.Words.{firstBad, canonicalWords}
 use Rattle.words.proofs.Laws.{within, bad-test}
-use Rattle.numbers.specs.Numbers.{IsPermitted, mostBatches, permitted}
+use Rattle.numbers.specs.Numbers.{width, IsPermitted, mostBatches, permitted}
 use Rattle.numbers.specs.Numbers.{isTapLength, tapWordBatches, isTraceLength, traceWordBatches}
 use Rattle.numbers.proofs.Laws.{tap-length-sound, trace-length-sound}
 use Rattle.refusals.specs.declared.Refusal.{Refusal}
@@ -89,7 +89,7 @@ module _ (Q : Refusal → Type 0) (causes : TableCauses Q) where
     unfolding hashCallTest
     hash-call-ends size q8 =
         after-ends Q (tableTest T) _ (table-ends T) λ e.
-        unless-ends Q (eqb size 4) DestinationLength _ (λ f. q8) λ f. words-end Accepted tt
+        unless-ends Q (eqb size width) DestinationLength _ (λ f. q8) λ f. words-end Accepted tt
 
   -- ---- Chain: 1, 2, 4, 5, 6, from another language 1, 2, 4, 5, 8, 6; and Build: 1, 2, 4, 5, 8, 6
   module _ (T w : List ℕ) (q5 : Q TapLength)

@@ -1,27 +1,29 @@
 -- What each call from another language answers and leaves (document 01, "What is turned back", and for Edit document
--- 02, U1, for the order of the refusals). Four words that are returned go to a destination like any other: a length
--- other than 4 is refused with 8, where 8 stands in the order. T is the lent table, w a list of taps, t a trace, n the
--- number of a tap and new the new one; size is the length of the destination of four words.
+-- 02, U1, for the order of the refusals). Four words that are returned, and Hash's twelve (document 02, U3), go to a
+-- destination like any other; size is its length, and one other than 4, for Hash than 12, is refused with 8, where 8
+-- stands in the order. T is the lent table, w a list of taps, t a trace, n the number of a tap and new the new one.
 -- Assumes nothing.
 use mathlib.Core.Bool.{_&&_}
 use mathlib.Core.List.{List}
 use mathlib.Core.Path.{_≡_}
-use Prim.Native.Nat.{ℕ, _+_, _*_}
+use Prim.Native.Nat.{ℕ, _*_}
 use lib.Dec.{eqb, leb}
 use lib.ListN.{length, take, drop}
 use Rattle.words.specs.Words.{firstBad, canonicalWords}
-use Rattle.numbers.specs.Numbers.{tapWords, traceWords, mostBatches, isTapLength, tapWordBatches}
+use Rattle.numbers.specs.Numbers.{width, tapWords, traceWords, mostBatches, isTapLength, tapWordBatches}
 use Rattle.numbers.specs.Numbers.{isTraceLength, traceWordBatches}
-use Rattle.refusals.specs.Refusals.{digest, digestWords}
-use Rattle.refusals.specs.Answers.{unless, after, digestAfter, leaves}
+use Rattle.refusals.specs.Refusals.{digest, digestWords, state, stateWords}
+use Rattle.refusals.specs.Answers.{unless, after, digestAfter, stateAfter, leaves}
 use Rattle.refusals.specs.declared.Refusal.the-variants.{TapLength, TapWord, TraceLength, DestinationLength, ClaimWord}
 use Rattle.refusals.specs.declared.Refusal.the-variants.{TraceWord, FileLength, NoSuchTap}
 use Rattle.refusals.specs.declared.Answer.{Answer}
 use Rattle.refusals.specs.declared.Answer.the-variants as answer
 use Rattle.refusals.specs.declared.DigestAnswer.{DigestAnswer}
 use Rattle.refusals.specs.declared.DigestAnswer.the-variants as four
+use Rattle.refusals.specs.declared.StateAnswer.{StateAnswer}
+use Rattle.refusals.specs.declared.StateAnswer.the-variants as twelve
 use Rattle.table.specs.Table.{tableTest, Prepares}
-use Rattle.hash.specs.Hash.{hash, chain}
+use Rattle.hash.specs.Hash.{finalState, input, chain}
 use Rattle.trace.specs.Trace.{trace}
 use Rattle.constraints.specs.Constraints.{constraintTest}
 use Rattle.readoff.specs.Answers.{readOffAnswer, readOffLeaves}
@@ -29,12 +31,12 @@ use Rattle.edit.specs.Answers.{alteredTaps}
 use Rattle.elements.specs.Words.{wordAt}
 use Rattle.elements.specs.Elements.{elementsTest}
 use Rattle.board.specs.Board.{fileSize, elementCount, packTest, packLeaves, batchesIn, claimIn, tapsIn, countTest}
-use Rattle.export.specs.Code.{answerCode, digestCode, testsCode}
+use Rattle.export.specs.Code.{answerCode, digestCode, stateCode, testsCode}
 
 -- ---- the number of these calls: raised where a call that there was takes other parameters or lengths
 
 abbrev pub interface : ℕ
-interface = 1
+interface = 2
 
 -- ---- four words, and their destination
 
@@ -48,6 +50,16 @@ pub record HandsOver (answer : DigestAnswer) (code : ℕ) (old new : List ℕ) :
   pub coded : code ≡ digestCode answer
   pub output : new ≡ written answer old
 
+-- ---- the same for twelve words
+
+abbrev pub writtenState : StateAnswer → List ℕ → List ℕ
+writtenState (twelve.Accepted s) old = stateWords s
+writtenState (twelve.Refused r) old = old
+
+pub record HandsOverState (answer : StateAnswer) (code : ℕ) (old new : List ℕ) : Type 0 where
+  pub coded : code ≡ stateCode answer
+  pub output : new ≡ writtenState answer old
+
 -- ---- the calls
 
 -- Prepare: 1, 8, 2, 3
@@ -60,16 +72,17 @@ pub record PrepareCall (raw old : List ℕ) (code : ℕ) (new : List ℕ) : Type
 unfoldable pub hashCallTest : List ℕ → List ℕ → ℕ → Answer
 hashCallTest T words size =
     after (tableTest T)
-    (unless (eqb size 4) DestinationLength
+    (unless (eqb size width) DestinationLength
     (unless (canonicalWords words) (TapWord (firstBad words))
     answer.Accepted))
 
--- what is left of it where the four words find no room
+-- what is left of it where the twelve words find no room
 unfoldable pub hashNoRoom : List ℕ → Answer
 hashNoRoom T = after (tableTest T) (answer.Refused DestinationLength)
 
-unfoldable pub hashCall : List ℕ → List ℕ → ℕ → DigestAnswer
-hashCall T words size = digestAfter (hashCallTest T words size) (digest (hash T (take 4 words) (drop 4 words)))
+unfoldable pub hashCall : List ℕ → List ℕ → ℕ → StateAnswer
+hashCall T words size =
+    stateAfter (hashCallTest T words size) (state (finalState T (input (take 4 words) (drop 4 words))))
 
 -- Chain: 1, 2, 4, 5, 8, 6
 unfoldable pub chainCallTest : List ℕ → List ℕ → ℕ → Answer

@@ -12,6 +12,8 @@ use Rattle.refusals.specs.declared.Answer.{Answer}
 use Rattle.refusals.specs.declared.Answer.the-variants as answer
 use Rattle.refusals.specs.declared.DigestAnswer.{DigestAnswer}
 use Rattle.refusals.specs.declared.DigestAnswer.the-variants as digest
+use Rattle.refusals.specs.declared.StateAnswer.{StateAnswer}
+use Rattle.refusals.specs.declared.StateAnswer.the-variants as state
 use Rattle.refusals.specs.declared.TestsAnswer.{TestsAnswer}
 use Rattle.refusals.specs.declared.TestsAnswer.the-variants as tests
 
@@ -28,8 +30,8 @@ particularsCode p = code (p .number) (p .constraint) (p .row) (p .value)
 abbrev pub refusalCode : Refusal → ℕ
 refusalCode r = particularsCode (told r)
 
--- of an answer. Acceptance is 0, with the tests where the operation counts them; four words are written, and no part
--- of the code
+-- of an answer. Acceptance is 0, with the tests where the operation counts them; four or twelve words are written, and
+-- no part of the code
 unfoldable pub answerCode : Answer → ℕ
 answerCode answer.Accepted = 0
 answerCode (answer.Refused r) = refusalCode r
@@ -37,6 +39,10 @@ answerCode (answer.Refused r) = refusalCode r
 unfoldable pub digestCode : DigestAnswer → ℕ
 digestCode (digest.Accepted d) = 0
 digestCode (digest.Refused r) = refusalCode r
+
+unfoldable pub stateCode : StateAnswer → ℕ
+stateCode (state.Accepted s) = 0
+stateCode (state.Refused r) = refusalCode r
 
 unfoldable pub testsCode : TestsAnswer → ℕ
 testsCode (tests.Accepted n) = code 0 0 0 n

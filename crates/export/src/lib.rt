@@ -3,17 +3,20 @@
 ghost use mathlib.Core.Path.{_≡_};
 ghost use mathlib.Core.List.{[], _∷_};
 ghost use lib.ListN.{length};
+ghost use Rattle.numbers.specs.Numbers.{width};
 ghost use Rattle.checker.specs.Answers.{checkAnswer};
 ghost use Rattle.export.specs.Code.{code, refusalCode, answerCode, digestCode, testsCode};
-ghost use Rattle.export.specs.Calls.{interface, HandsOver, PrepareCall, hashNoRoom, hashCall, chainNoRoom};
-ghost use Rattle.export.specs.Calls.{chainCall, BuildCall, ReadOffCall, editNoRoom, EditCall, PackCall};
-ghost use Rattle.export.specs.Calls.{UnpackCall};
+ghost use Rattle.export.specs.Calls.{interface, HandsOver, HandsOverState, PrepareCall, hashNoRoom, hashCall};
+ghost use Rattle.export.specs.Calls.{chainNoRoom, chainCall, BuildCall, ReadOffCall, editNoRoom, EditCall};
+ghost use Rattle.export.specs.Calls.{PackCall, UnpackCall};
 use numbers::BatchCount;
 use numbers::MOST_BATCHES;
 use numbers::TapNumber;
+use numbers::WIDTH;
 use refusals::Answer;
 use refusals::DigestAnswer;
 use refusals::Refusal;
+use refusals::StateAnswer;
 use refusals::TestsAnswer;
 
 // The parts of a code: 2^6 numbers and 2^6 constraints, 2^24 rows, 2^28 indices or tests, each above the ones before.
@@ -92,8 +95,22 @@ fn hand_over(answer: DigestAnswer, output: &mut [u64]) -> u64
     }
 }
 
+// The same for the twelve words of a state.
+fn hand_over_state(answer: StateAnswer, output: &mut [u64]) -> u64
+    requires { ⌜ length (now output) ≡ width ⌝ }
+    ensures { λ r. ⌜ HandsOverState answer r (now (output .entry)) (now (output .exit)) ⌝ }
+{
+    match answer {
+        StateAnswer::Accepted(state) => {
+            trace::put(output, state.cells());
+            0
+        }
+        StateAnswer::Refused(r) => refusal_code(r),
+    }
+}
+
 // Raised with LEMONCOLUMN_INTERFACE of include/lemoncolumn.h.
-const INTERFACE: u64 = 1;
+const INTERFACE: u64 = 2;
 
 // The number of these calls, which a caller compares with the one that it was compiled for before it makes any other.
 #[no_mangle]
@@ -136,14 +153,14 @@ pub extern "C" fn lemoncolumn_hash(
     w7: u64,
     output: &mut [u64],
 ) -> u64
-    ensures { λ r. ⌜ HandsOver
+    ensures { λ r. ⌜ HandsOverState
         (hashCall (now (table .entry)) (w0 ∷ w1 ∷ w2 ∷ w3 ∷ w4 ∷ w5 ∷ w6 ∷ w7 ∷ []) (length (now (output .entry)))) r
         (now (output .entry)) (now (output .exit)) ⌝ }
 {
-    if output.len() != 4 {
+    if output.len() != WIDTH {
         return answer_code(hash_no_room(table));
     }
-    hand_over(hash::hash(table, [w0, w1, w2, w3, w4, w5, w6, w7]), output)
+    hand_over_state(hash::hash(table, [w0, w1, w2, w3, w4, w5, w6, w7]), output)
 }
 
 // What Chain and Build refuse where their output finds no room: 1, 2, 4, 5, 8.

@@ -1,4 +1,5 @@
--- The chain as the code walks it: the words that it reads for a hash, and the state that begins with the last output.
+-- Inputs and the chain as the code has them: the words that it reads for a hash, and the state that begins with the
+-- last output.
 -- Assumes nothing.
 use mathlib.Core.Path.{_≡_, refl, sym, ap, ap₂, _∙_, subst}
 use mathlib.Core.List.{List, [], _∷_, _++_}
@@ -7,10 +8,13 @@ use native.Mathlib.Numerals.{add-one}
 use native.Mathlib.Omega.{arith}
 use lib.ListN.{length, take, drop, replicate, length-drop}
 use lib.Seq.{getD-drop, take-all}
-use Rattle.lists.specs.Lists.{cell}
+use Rattle.lists.specs.Lists.{cell, tab}
+use Rattle.lists.proofs.Tab.{tab-cell}
 use Rattle.words.specs.Words.{AllCanonical, CanonicalTo}
-use Rattle.hash.specs.Hash.{finalState, input, hash, tap, outputAt}
-use Rattle.hash.proofs.Inputs.{IsTap, tap-is-tap, input-state, output-zero, output-suc, output-tap}
+use Rattle.hash.specs.Hash.{finalState, input, tap, outputAt}
+use Rattle.hash.proofs.States.{IsState}
+use Rattle.hash.proofs.Inputs.{IsTap, take-tap, drop-canonical, tap-is-tap, input-state, output-zero}
+use Rattle.hash.proofs.Inputs.{output-suc, output-tap}
 use Rattle.hash.proofs.CodeStates.{canonical-state}
 
 -- the first four cells
@@ -40,6 +44,23 @@ pub input-words : (s b : List ℕ) → 4 ≤ length s → length b ≡ 4
 unfolding input
 input-words s b p q = ap₂ input (first-four s p) (first-four b (omega arith) ∙ take-all 4 b (omega arith))
 
+-- ---- the input of Hash is that of the first hash of its two taps, and a state
+module _ (w : List ℕ) (eight : length w ≡ 8) where
+  two-taps : input (take 4 (tap w 0 ++ replicate 8 0)) (tap w 1) ≡ input (take 4 w) (drop 4 w)
+  unfolding tab input tap
+  two-taps =
+      subst (λ s. input (take 4 (tap s 0 ++ replicate 8 0)) (tap s 1) ≡ input (take 4 s) (drop 4 s))
+      (tab-cell 8 w eight) refl
+
+  pub first-input : {s r : List ℕ} → s ≡ tap w 0 ++ replicate 8 0 → r ≡ input (take 4 s) (tap w 1)
+      → r ≡ input (take 4 w) (drop 4 w)
+  first-input e q = q ∙ ap (λ s. input (take 4 s) (tap w 1)) e ∙ two-taps
+
+  pub two-taps-state : AllCanonical w → IsState (input (take 4 w) (drop 4 w))
+  two-taps-state a =
+      input-state (take-tap w a (omega arith))
+      (record { size = omega (arith, length-drop 4 w); canonical = drop-canonical 4 w a })
+
 -- ---- the walk: the state begins with the last output
 module _ (T w : List ℕ) where
   -- before the first hash
@@ -60,8 +81,3 @@ module _ (T w : List ℕ) where
         ap (take 4) (p ∙ ap (finalState T) (q ∙ ap₂ (λ a n. input a (tap w n)) e (add-one h)))
         ∙ sym (output-suc T w h)
         ∙ ap (outputAt T w) (sym (add-one h))
-
--- the chain of two taps is their hash
-pub two-taps : (T w : List ℕ) → length w ≡ 8 → outputAt T w 1 ≡ hash T (take 4 w) (drop 4 w)
-unfolding outputAt tap
-two-taps T w e = ap (hash T (take 4 w)) (take-all 4 (drop 4 w) (omega (arith, length-drop 4 w)))

@@ -33,7 +33,7 @@ by-fours A f g h j l = go (decLt j 4) (decLt j 8)
         let e : 8 + (j - 8) ≡ j = omega arith in
         subst A e (h (j - 8) (omega arith))
 
--- ---- the first four cells
+-- ---- the first four cells, and the cells after some
 pub cell-take : (s : List ℕ) (j : ℕ) → j < 4 → cell (take 4 s) j ≡ cell s j
 cell-take s j h = getD-take 4 s j 0 h
 
@@ -44,6 +44,9 @@ take-tap s a h =
     sized : length (take 4 s) ≡ 4
     sized = length-take 4 s ∙ omega arith
 
+pub drop-canonical : (n : ℕ) (s : List ℕ) → AllCanonical s → AllCanonical (drop n s)
+drop-canonical n s a j l = omega (arith, getD-drop n s j 0, cell-lt s a (n + j))
+
 -- ---- a tap of a list
 pub cell-tap : (w : List ℕ) (i j : ℕ) → j < 4 → cell (tap w i) j ≡ cell w (4 * i + j)
 unfolding tap
@@ -52,9 +55,7 @@ cell-tap w i j h = cell-take (drop (4 * i) w) j h ∙ getD-drop (4 * i) w j 0
 pub tap-is-tap : (w : List ℕ) → AllCanonical w → (i : ℕ) → 4 * i + 4 ≤ length w → IsTap (tap w i)
 unfolding tap
 tap-is-tap w a i h =
-    take-tap (drop (4 * i) w)
-    (λ j l. omega (arith, getD-drop (4 * i) w j 0, cell-lt w a (4 * i + j)))
-    (omega (arith, length-drop (4 * i) w))
+    take-tap (drop (4 * i) w) (drop-canonical (4 * i) w a) (omega (arith, length-drop (4 * i) w))
 
 -- ---- an input: two taps and four zeros
 module _ {a b : List ℕ} (p : IsTap a) (q : IsTap b) where

@@ -41,7 +41,8 @@ stateAt T s (suc r) = secondStep T r (firstStep T r (stateAt T s r))
 unfoldable pub middleState : List ℕ → List ℕ → ℕ → List ℕ
 middleState T s r = firstStep T r (stateAt T s r)
 
--- the state after round 9 (Algorithm 1, State_10)
+-- the final state, after round 9 (Algorithm 1, State_10): what Hash returns (document 02, U3), whose cells 0 to 3 the
+-- chain goes on with, and row 31 of a batch
 unfoldable pub finalState : List ℕ → List ℕ → List ℕ
 finalState T s = stateAt T s 10
 
@@ -49,7 +50,7 @@ finalState T s = stateAt T s 10
 unfoldable pub input : List ℕ → List ℕ → List ℕ
 input a b = a ++ b ++ replicate 4 0
 
--- Hash(a, b): cells 0 to 3 of the final state
+-- Hash(a, b), as document 01 and the chain take it: cells 0 to 3 of the final state (document 02, U3)
 unfoldable pub hash : List ℕ → List ℕ → List ℕ → List ℕ
 hash T a b = take 4 (finalState T (input a b))
 

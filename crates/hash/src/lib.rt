@@ -19,6 +19,8 @@ use refusals::Answer;
 use refusals::Digest;
 use refusals::DigestAnswer;
 use refusals::Refusal;
+use refusals::State;
+use refusals::StateAnswer;
 
 // Every cell cubed.
 fn cubes(s: [u64; WIDTH]) -> [u64; WIDTH]
@@ -177,16 +179,18 @@ fn test_hash(table: &[u64], words: &[u64]) -> Answer
     Answer::Accepted
 }
 
-// Hash, which is the chain of two taps.
-pub fn hash(table: &[u64], words: [u64; 8]) -> DigestAnswer
+// Hash: the final state of its two taps, all twelve cells (document 02, U3). Its input is made as that of a chain's
+// first hash.
+pub fn hash(table: &[u64], words: [u64; 8]) -> StateAnswer
     ensures { λ r. ⌜ r ≡ hashAnswer (now (table .entry)) words ⌝ }
 {
     let answer = test_hash(table, &words);
     let Answer::Accepted = answer else {
-        return DigestAnswer::Refused(answer.refusal());
+        return StateAnswer::Refused(answer.refusal());
     };
-    let last = last_state(table, &words, 1);
-    DigestAnswer::Accepted(Digest(last[0], last[1], last[2], last[3]))
+    let input = input_of(HashNumber(0), chain_start(&words), &words);
+    let last = final_state(table, input);
+    StateAnswer::Accepted(State::of(last))
 }
 
 // What Chain tests: 1, 2, 4, 5, 6.
@@ -207,6 +211,7 @@ fn test_chain(table: &[u64], taps: &[u64]) -> Answer
     Answer::Accepted
 }
 
+// Chain: cells 0 to 3 of its last hash's final state.
 pub fn chain(table: &[u64], taps: &[u64]) -> DigestAnswer
     ensures { λ r. ⌜ r ≡ chainAnswer (now (table .entry)) (now (taps .entry)) ⌝ }
 {

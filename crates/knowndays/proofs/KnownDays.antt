@@ -14,13 +14,14 @@ use Rattle.words.proofs.Laws.{append-canonical}
 use Rattle.field.specs.Field.{halving, power, root}
 use Rattle.numbers.specs.Numbers.{mostBatches, isTapLength, tapWordBatches, isTraceLength, traceWordBatches}
 use Rattle.matrix.specs.Matrix.{timesColumn, times}
-use Rattle.refusals.specs.Refusals.{digest}
-use Rattle.refusals.specs.Answers.{unless, after, digestAfter, testsAfter, leaves}
+use Rattle.refusals.specs.Refusals.{digest, state}
+use Rattle.refusals.specs.Answers.{unless, after, digestAfter, stateAfter, testsAfter, leaves}
 use Rattle.refusals.specs.declared.Refusal.the-variants.{TapLength, TapWord, TraceLength, ClaimWord, TraceWord}
 use Rattle.refusals.specs.declared.Answer.{Answer}
 use Rattle.refusals.specs.declared.Answer.the-variants as answer
 use Rattle.refusals.specs.declared.DigestAnswer.{DigestAnswer}
-use Rattle.refusals.specs.declared.DigestAnswer.the-variants.{Accepted}
+use Rattle.refusals.specs.declared.StateAnswer.{StateAnswer}
+use Rattle.refusals.specs.declared.StateAnswer.the-variants as final
 use Rattle.refusals.specs.declared.TestsAnswer.{TestsAnswer}
 use Rattle.refusals.specs.declared.TestsAnswer.the-variants as counted
 use Rattle.refusals.proofs.Laws.{tests-accepted}
@@ -40,7 +41,7 @@ use Rattle.checker.specs.Answers.{checkTest, checkAnswer}
 use Rattle.readoff.specs.Answers.{readOffTest, readOffAnswer, readOffLeaves}
 use Rattle.readoff.proofs.Theorems.{same-for}
 use Rattle.knowndays.specs.Days.{shifted, Z, A, S, zeroTrace, altered, tapped, zeros, KnownDays}
-use Rattle.knowndays.proofs.Shift.{hash-gives-second}
+use Rattle.knowndays.proofs.Shift.{final-turned}
 use Rattle.knowndays.proofs.Tables.{accepted-Z, accepted-A, accepted-S}
 
 -- ---- what is answered once the table is accepted
@@ -48,11 +49,12 @@ module _ (T : List ℕ) (table : tableTest T ≡ answer.Accepted) where
   accepted : (rest : Answer) → after (tableTest T) rest ≡ rest
   accepted rest = ap (λ a. after a rest) table
 
-  hashed : (words : List ℕ) {a : DigestAnswer} → let d = digest (hash T (take 4 words) (drop 4 words)) in
-      digestAfter (unless (canonicalWords words) (TapWord (firstBad words)) answer.Accepted) d ≡ a
+  hashed : (words : List ℕ) {a : StateAnswer} → let s = state (finalState T (input (take 4 words) (drop 4 words))) in
+      stateAfter (unless (canonicalWords words) (TapWord (firstBad words)) answer.Accepted) s ≡ a
       → hashAnswer T words ≡ a
   unfolding hashTest hashAnswer
-  hashed words e = ap (λ t. digestAfter t (digest (hash T (take 4 words) (drop 4 words)))) (accepted _) ∙ e
+  hashed words e =
+      ap (λ t. stateAfter t (state (finalState T (input (take 4 words) (drop 4 words))))) (accepted _) ∙ e
 
   chained : (w : List ℕ) {a : DigestAnswer} → let d = digest (chain T w (tapWordBatches (length w))) in
       digestAfter
@@ -72,7 +74,7 @@ module _ (T : List ℕ) (table : tableTest T ≡ answer.Accepted) where
   unfolding checkTest checkAnswer
   judges t claim e = ap (λ x. testsAfter x (length (tests (traceWordBatches (length t))))) (accepted _) ∙ e
 
--- ---- S: the second tap comes back, whatever the first is
+-- ---- S: the second tap comes back, then four zeros and the first, whatever it is
 abbrev second : List ℕ
 second = 5 ∷ 6 ∷ 7 ∷ 9 ∷ []
 
@@ -83,13 +85,14 @@ small (suc (suc zero)) h = omega arith
 small (suc (suc (suc zero))) h = omega arith
 small (suc (suc (suc (suc i)))) h = absurd (omega arith)
 
-hash-S : (a : List ℕ) → length a ≡ 4 → AllCanonical a → hashAnswer S (a ++ second) ≡ Accepted (digest second)
-unfolding hashAnswer
+hash-S : (a : List ℕ) → length a ≡ 4 → AllCanonical a
+    → hashAnswer S (a ++ second) ≡ final.Accepted (state (second ++ zeros ++ a))
+unfolding hashAnswer zeros
 hash-S a size h =
-    ap (λ t. digestAfter t (digest (hash S (take 4 w) (drop 4 w))))
+    ap (λ t. stateAfter t (state (finalState S (input (take 4 w) (drop 4 w)))))
     (hash-passes S w (record { table = test-sound S accepted-S; canonical = append-canonical a second h small }))
-    ∙ ap₂ (λ x y. Accepted (digest (hash S x y))) (take-at a second 4 size) (drop-at a second 4 size)
-    ∙ ap (λ s. Accepted (digest s)) (hash-gives-second a second first-tap second-tap)
+    ∙ ap₂ (λ x y. final.Accepted (state (finalState S (input x y)))) (take-at a second 4 size) (drop-at a second 4 size)
+    ∙ ap (λ s. final.Accepted (state s)) (final-turned a second first-tap second-tap)
   where
     w : List ℕ
     w = a ++ second

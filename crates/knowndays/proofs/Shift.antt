@@ -1,13 +1,14 @@
--- Under the table S every round moves each cell two places on, so that ten rounds bring the second tap to the front.
+-- Under the table S every round moves each cell two places on, so that ten rounds bring the second tap to the front,
+-- and the first to the end.
 -- Assumes nothing.
-use mathlib.Core.Path.{_≡_, refl, ap, _∙_}
+use mathlib.Core.Path.{_≡_, refl, sym, ap, _∙_}
 use mathlib.Core.List.{List, _++_}
-use Prim.Native.Nat.{ℕ, zero, suc, _+_, _*_, _-_, _/_, _%_, _<_}
+use Prim.Native.Nat.{ℕ, zero, suc, _+_, _*_, _/_, _%_, _<_}
 use native.Mathlib.Nat.{mod-lt, mod-eq-of-lt, one-mul, zero-mul}
 use native.Mathlib.Omega.{arith}
 use borrow.Author.Tests.{eq-eqb, ne-eqb}
 use lib.Dec.{eqb}
-use lib.ListN.{length, drop, replicate, length-append, List·getD-append}
+use lib.ListN.{length, drop, replicate, length-append, length-replicate, getD-replicate, List·getD-append}
 use lib.Seq.{getD-take, getD-drop, getD-append-add}
 use Rattle.lists.specs.Lists.{choose, cell}
 use Rattle.lists.proofs.Tab.{length-tab, cell-tab}
@@ -19,10 +20,9 @@ use Rattle.matrix.proofs.States.{cell-times}
 use Rattle.matrix.specs.Matrix.{matrixWords}
 use Rattle.table.specs.Table.{matrixOf, constant, initialConstant, firstStepConstant, secondStepConstant}
 use Rattle.hash.specs.Hash.{roots, cubes, plus, mix, firstStep, secondStep, stateAt, middleState, finalState, input}
-use Rattle.hash.specs.Hash.{hash}
 use Rattle.hash.proofs.States.{IsState, state-cell, same-cells, cell-roots, cell-cubes, cell-plus, roots-state}
-use Rattle.hash.proofs.States.{cubes-state, stateAt-state, stateAt-zero, stateAt-suc}
-use Rattle.hash.proofs.Inputs.{IsTap, cell-take, cell-input-right, input-state, hash-tap}
+use Rattle.hash.proofs.States.{cubes-state, stateAt-state, finalState-state, stateAt-zero, stateAt-suc}
+use Rattle.hash.proofs.Inputs.{IsTap, by-fours, cell-input-left, cell-input-right, cell-input-zeros, input-state}
 use Rattle.knowndays.specs.Days.{shifted, S}
 
 -- ---- the table's words
@@ -173,17 +173,49 @@ state-moved s st (suc r) i h = rec (state-moved s st r ((i + 10) % 12) (mod-lt (
         e : ((i + 10) % 12 + 10 * r) % 12 ≡ (i + 10 * suc r) % 12
         e = omega arith
 
--- ---- so the hash gives its second tap
-pub hash-gives-second : (a b : List ℕ) → IsTap a → IsTap b → hash S a b ≡ b
-unfolding hash finalState
-hash-gives-second a b ta tb = same-cells 4 (hash S a b) b (hash-tap S a b .size) (tb .size) each
+-- ---- so the final state is the second tap, four zeros and the first tap
+pub final-turned : (a b : List ℕ) → IsTap a → IsTap b → finalState S (input a b) ≡ b ++ replicate 4 0 ++ a
+unfolding finalState
+final-turned a b ta tb =
+    same-cells 12 (finalState S (input a b)) (b ++ replicate 4 0 ++ a) (finalState-state S (input a b) .size) sized
+    (by-fours (λ j. cell (finalState S (input a b)) j ≡ cell (b ++ replicate 4 0 ++ a) j) first second third)
   where
-    each : (j : ℕ) → j < 4 → cell (hash S a b) j ≡ cell b j
-    each j h =
-        cell-take (finalState S (input a b)) j h
-        ∙ state-moved (input a b) (input-state ta tb) 10 j (omega arith)
-        ∙ ap (cell (input a b)) e
+    zeros : length {A = ℕ} (replicate 4 0) ≡ 4
+    zeros = length-replicate {A = ℕ} 4 0
+
+    two : length (b ++ replicate 4 0) ≡ 8
+    two = length-append b (replicate 4 0) ∙ omega (arith, tb .size, zeros)
+
+    sized : length (b ++ replicate 4 0 ++ a) ≡ 12
+    sized = length-append (b ++ replicate 4 0) a ∙ omega (arith, two, ta .size)
+
+    -- cell i of the final state was at m in the input
+    from : (i m : ℕ) → i < 12 → (i + 10 * 10) % 12 ≡ m → cell (finalState S (input a b)) i ≡ cell (input a b) m
+    from i m h e = state-moved (input a b) (input-state ta tb) 10 i h ∙ ap (cell (input a b)) e
+
+    front : (j : ℕ) → j < 8 → cell (b ++ replicate 4 0 ++ a) j ≡ cell (b ++ replicate 4 0) j
+    front j h = List·getD-append (b ++ replicate 4 0) a 0 j (omega (arith, two))
+
+    first : (j : ℕ) → j < 4 → cell (finalState S (input a b)) j ≡ cell (b ++ replicate 4 0 ++ a) j
+    first j h =
+        from j (4 + j) (omega arith) (omega arith)
         ∙ cell-input-right ta tb j h
-      where
-        e : (j + 10 * 10) % 12 ≡ 4 + j
-        e = omega arith
+        ∙ sym (front j (omega arith) ∙ List·getD-append b (replicate 4 0) 0 j (omega (arith, tb .size)))
+
+    second : (j : ℕ) → j < 4 → cell (finalState S (input a b)) (4 + j) ≡ cell (b ++ replicate 4 0 ++ a) (4 + j)
+    second j h =
+        from (4 + j) (8 + j) (omega arith) (omega arith)
+        ∙ cell-input-zeros ta tb j h
+        ∙ sym
+        (front (4 + j) (omega arith)
+        ∙ ap (λ n. cell (b ++ replicate 4 0) (n + j)) (sym (tb .size))
+        ∙ getD-append-add b (replicate 4 0) j 0
+        ∙ getD-replicate 4 j 0 0 h)
+
+    third : (j : ℕ) → j < 4 → cell (finalState S (input a b)) (8 + j) ≡ cell (b ++ replicate 4 0 ++ a) (8 + j)
+    third j h =
+        from (8 + j) j (omega arith) (omega arith)
+        ∙ cell-input-left ta tb j h
+        ∙ sym
+        (ap (λ n. cell (b ++ replicate 4 0 ++ a) (n + j)) (sym two)
+        ∙ getD-append-add (b ++ replicate 4 0) a j 0)

@@ -9,10 +9,11 @@ use Rattle.lists.specs.Lists.{choose, tab}
 use Rattle.words.specs.Words.{AllCanonical}
 use Rattle.field.specs.Field.{P, mul, root}
 use Rattle.numbers.specs.Numbers.{width}
-use Rattle.refusals.specs.Refusals.{digest}
+use Rattle.refusals.specs.Refusals.{digest, state}
 use Rattle.refusals.specs.declared.Refusal.the-variants.{NoInverse, Constraint}
 use Rattle.refusals.specs.declared.Answer.the-variants as answer
 use Rattle.refusals.specs.declared.DigestAnswer.the-variants as output
+use Rattle.refusals.specs.declared.StateAnswer.the-variants as final
 use Rattle.refusals.specs.declared.TestsAnswer.the-variants as tests
 use Rattle.table.specs.Table.{rawWords, tableWords, tableTest, Prepares}
 use Rattle.hash.specs.Hash.{tap}
@@ -88,10 +89,12 @@ pub record KnownDays : Type 0 where
   pub root-of-0 : root 0 ≡ 0
   pub root-of-8 : root 8 ≡ 2
   pub root-of-negative : root (P - 1) ≡ P - 1
-  pub hash-Z : hashAnswer Z ((8 ∷ 27 ∷ 1 ∷ 0 ∷ []) ++ zeros) ≡ output.Accepted (digest (8 ∷ 27 ∷ 1 ∷ 0 ∷ []))
-  pub hash-A : hashAnswer A (zeros ++ zeros) ≡ output.Accepted (digest (1 ∷ 0 ∷ 0 ∷ 0 ∷ []))
+  -- Hash, all twelve cells (document 02, U3)
+  pub hash-Z : hashAnswer Z ((8 ∷ 27 ∷ 1 ∷ 0 ∷ []) ++ zeros)
+      ≡ final.Accepted (state ((8 ∷ 27 ∷ 1 ∷ 0 ∷ []) ++ zeros ++ zeros))
+  pub hash-A : hashAnswer A (zeros ++ zeros) ≡ final.Accepted (state ((1 ∷ 0 ∷ 0 ∷ 0 ∷ []) ++ zeros ++ zeros))
   pub hash-S : (a : List ℕ) → length a ≡ 4 → AllCanonical a
-      → hashAnswer S (a ++ (5 ∷ 6 ∷ 7 ∷ 9 ∷ [])) ≡ output.Accepted (digest (5 ∷ 6 ∷ 7 ∷ 9 ∷ []))
+      → hashAnswer S (a ++ (5 ∷ 6 ∷ 7 ∷ 9 ∷ [])) ≡ final.Accepted (state ((5 ∷ 6 ∷ 7 ∷ 9 ∷ []) ++ zeros ++ a))
   pub chain-A : chainAnswer A (replicate 16 0) ≡ output.Accepted (digest (3 ∷ 0 ∷ 0 ∷ 0 ∷ []))
   pub zero-accepted : checkAnswer Z zeroTrace zeros ≡ tests.Accepted 372
   pub zero-claim : checkAnswer Z zeroTrace (1 ∷ 0 ∷ 0 ∷ 0 ∷ [])

@@ -9,11 +9,11 @@ use Rattle.refusals.specs.declared.Refusal.{Refusal}
 use Rattle.refusals.specs.declared.Answer.{Answer}
 use Rattle.refusals.specs.declared.Answer.the-variants.{Accepted, Refused}
 use Rattle.refusals.specs.declared.Digest.{Digest}
-use Rattle.refusals.specs.declared.DigestAnswer.{DigestAnswer}
 use Rattle.refusals.specs.declared.DigestAnswer.the-variants as digest
-use Rattle.refusals.specs.declared.TestsAnswer.{TestsAnswer}
+use Rattle.refusals.specs.declared.State.{State}
+use Rattle.refusals.specs.declared.StateAnswer.the-variants as state
 use Rattle.refusals.specs.declared.TestsAnswer.the-variants as tests
-use Rattle.refusals.specs.Answers.{unless, after, digestAfter, testsAfter, leaves}
+use Rattle.refusals.specs.Answers.{unless, after, digestAfter, stateAfter, testsAfter, leaves}
 
 pub not-accepted : (r : Refusal) → Refused r ≡ Accepted → ⊥
 not-accepted r e = let z : _≡_ {A = ℕ} 0 1 = cc in omega arith
@@ -31,6 +31,10 @@ pub digest-accepted : (a : Answer) (d e : Digest) → digestAfter a d ≡ digest
 digest-accepted Accepted d e q = (refl, cc)
 digest-accepted (Refused r) d e q = absurd (let z : _≡_ {A = ℕ} 0 1 = cc in omega arith)
 
+pub state-accepted : (a : Answer) (s t : State) → stateAfter a s ≡ state.Accepted t → (a ≡ Accepted) × (s ≡ t)
+state-accepted Accepted s t q = (refl, cc)
+state-accepted (Refused r) s t q = absurd (let z : _≡_ {A = ℕ} 0 1 = cc in omega arith)
+
 pub tests-accepted : (a : Answer) (m n : ℕ) → testsAfter a m ≡ tests.Accepted n → (a ≡ Accepted) × (m ≡ n)
 tests-accepted Accepted m n q = (refl, cc)
 tests-accepted (Refused r) m n q = absurd (let z : _≡_ {A = ℕ} 0 1 = cc in omega arith)
@@ -39,6 +43,10 @@ tests-accepted (Refused r) m n q = absurd (let z : _≡_ {A = ℕ} 0 1 = cc in o
 pub digest-refused : (a : Answer) (d : Digest) (r : Refusal) → digestAfter a d ≡ digest.Refused r → a ≡ Refused r
 digest-refused Accepted d r q = absurd (let z : _≡_ {A = ℕ} 0 1 = cc in omega arith)
 digest-refused (Refused s) d r q = cc
+
+pub state-refused : (a : Answer) (s : State) (r : Refusal) → stateAfter a s ≡ state.Refused r → a ≡ Refused r
+state-refused Accepted s r q = absurd (let z : _≡_ {A = ℕ} 0 1 = cc in omega arith)
+state-refused (Refused q) s r e = cc
 
 pub tests-refused : (a : Answer) (n : ℕ) (r : Refusal) → testsAfter a n ≡ tests.Refused r → a ≡ Refused r
 tests-refused Accepted n r q = absurd (let z : _≡_ {A = ℕ} 0 1 = cc in omega arith)
@@ -79,6 +87,12 @@ module _ {a t : Answer} (e : a ≡ t) where
   pub digest-returned : {c d : Digest} → a ≡ Accepted → c ≡ d → digest.Accepted c ≡ digestAfter t d
   digest-returned {c} {d} q p = ap digest.Accepted p ∙ sym (ap (λ x. digestAfter x d) (sym e ∙ q))
 
+  pub state-turned-back : {r : Refusal} (s : State) → a ≡ Refused r → state.Refused r ≡ stateAfter t s
+  state-turned-back s q = sym (ap (λ x. stateAfter x s) (sym e ∙ q))
+
+  pub state-returned : {c s : State} → a ≡ Accepted → c ≡ s → state.Accepted c ≡ stateAfter t s
+  state-returned {c} {s} q p = ap state.Accepted p ∙ sym (ap (λ x. stateAfter x s) (sym e ∙ q))
+
   pub tests-turned-back : {r : Refusal} (n : ℕ) → a ≡ Refused r → tests.Refused r ≡ testsAfter t n
   tests-turned-back n q = sym (ap (λ x. testsAfter x n) (sym e ∙ q))
 
@@ -91,19 +105,11 @@ module _ {a t : Answer} (e : a ≡ t) where
   pub leaves-new : {A : Type 0} {x new : A} (old : A) → a ≡ Accepted → x ≡ new → x ≡ leaves t new old
   leaves-new {new = new} old q p = p ∙ sym (ap (λ y. leaves y new old) (sym e ∙ q))
 
--- ---- how an answer ends: with a refusal that has the property Q, or a result that has the property R
+-- ---- how an answer ends: where with a refusal, with one that has the property Q
 
 abbrev pub AnswerEnds : (Refusal → Type 0) → Answer → Type 0
 AnswerEnds Q Accepted = Unit
 AnswerEnds Q (Refused r) = Q r
-
-abbrev pub DigestEnds : (Digest → Type 0) → (Refusal → Type 0) → DigestAnswer → Type 0
-DigestEnds R Q (digest.Accepted d) = R d
-DigestEnds R Q (digest.Refused r) = Q r
-
-abbrev pub TestsEnds : (ℕ → Type 0) → (Refusal → Type 0) → TestsAnswer → Type 0
-TestsEnds R Q (tests.Accepted n) = R n
-TestsEnds R Q (tests.Refused r) = Q r
 
 module _ (Q : Refusal → Type 0) where
   pub unless-ends : (b : Bool) (r : Refusal) (rest : Answer) → (b ≡ false → Q r) → (b ≡ true → AnswerEnds Q rest)
@@ -114,13 +120,3 @@ module _ (Q : Refusal → Type 0) where
   pub after-ends : (a rest : Answer) → AnswerEnds Q a → (a ≡ Accepted → AnswerEnds Q rest) → AnswerEnds Q (after a rest)
   after-ends Accepted rest p n = n refl
   after-ends (Refused r) rest p n = p
-
-  pub digest-ends : (R : Digest → Type 0) (a : Answer) (d : Digest) → AnswerEnds Q a → (a ≡ Accepted → R d)
-      → DigestEnds R Q (digestAfter a d)
-  digest-ends R Accepted d p n = n refl
-  digest-ends R (Refused r) d p n = p
-
-  pub tests-ends : (R : ℕ → Type 0) (a : Answer) (n : ℕ) → AnswerEnds Q a → (a ≡ Accepted → R n)
-      → TestsEnds R Q (testsAfter a n)
-  tests-ends R Accepted n p f = f refl
-  tests-ends R (Refused r) n p f = p

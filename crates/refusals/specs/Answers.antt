@@ -11,6 +11,9 @@ use Rattle.refusals.specs.declared.Answer.the-variants.{Accepted, Refuse
 use Rattle.refusals.specs.declared.Digest.{Digest}
 use Rattle.refusals.specs.declared.DigestAnswer.{DigestAnswer}
 use Rattle.refusals.specs.declared.DigestAnswer.the-variants as digest
+use Rattle.refusals.specs.declared.State.{State}
+use Rattle.refusals.specs.declared.StateAnswer.{StateAnswer}
+use Rattle.refusals.specs.declared.StateAnswer.the-variants as state
 use Rattle.refusals.specs.declared.TestsAnswer.{TestsAnswer}
 use Rattle.refusals.specs.declared.TestsAnswer.the-variants as tests
 
@@ -35,6 +38,11 @@ Refuses a = (r : Refusal) × (a ≡ Refused r)
 abbrev pub digestAfter : Answer → Digest → DigestAnswer
 digestAfter Accepted d = digest.Accepted d
 digestAfter (Refused r) d = digest.Refused r
+
+-- the twelve words that are returned, or the refusal
+abbrev pub stateAfter : Answer → State → StateAnswer
+stateAfter Accepted s = state.Accepted s
+stateAfter (Refused r) s = state.Refused r
 
 -- the number of tests walked, or the refusal
 abbrev pub testsAfter : Answer → ℕ → TestsAnswer

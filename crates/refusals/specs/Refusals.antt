@@ -10,6 +10,7 @@ use Rattle.refusals.specs.declared.Refusal.the-variants.{ClaimWord, Trac
 use Rattle.refusals.specs.declared.Refusal.the-variants.{WrongKind, WrongValue, NoSuchTap}
 use Rattle.refusals.specs.declared.Particulars.{Particulars}
 use Rattle.refusals.specs.declared.Digest.{Digest}
+use Rattle.refusals.specs.declared.State.{State}
 
 -- a number alone, and a number with an index
 abbrev pub alone : ℕ → Particulars
@@ -44,3 +45,25 @@ digest s = record { 0 = getD s 0 0; 1 = getD s 1 0; 2 = getD s 2 0; 3 = getD s 3
 -- its four words as a list
 abbrev pub digestWords : Digest → List ℕ
 digestWords d = d .0 ∷ d .1 ∷ d .2 ∷ d .3 ∷ []
+
+-- the twelve cells of a list, as a state is returned
+abbrev pub state : List ℕ → State
+state s = record {
+  0 = getD s 0 0;
+  1 = getD s 1 0;
+  2 = getD s 2 0;
+  3 = getD s 3 0;
+  4 = getD s 4 0;
+  5 = getD s 5 0;
+  6 = getD s 6 0;
+  7 = getD s 7 0;
+  8 = getD s 8 0;
+  9 = getD s 9 0;
+  10 = getD s 10 0;
+  11 = getD s 11 0;
+}
+
+-- its twelve words as a list
+abbrev pub stateWords : State → List ℕ
+stateWords s =
+    s .0 ∷ s .1 ∷ s .2 ∷ s .3 ∷ s .4 ∷ s .5 ∷ s .6 ∷ s .7 ∷ s .8 ∷ s .9 ∷ s .10 ∷ s .11 ∷ []

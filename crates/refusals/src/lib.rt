@@ -1,8 +1,9 @@
 // What is turned back (document 01, the section of that name; document 02), and the answers that hold it.
 ghost use mathlib.Core.Path.{_≡_};
-ghost use Rattle.refusals.specs.Refusals.{alone, indexed, told};
+ghost use Rattle.refusals.specs.Refusals.{alone, indexed, told, state, stateWords};
 ghost use Rattle.refusals.specs.Answers.{Refuses};
 use numbers::RowNumber;
+use numbers::WIDTH;
 
 // A cause, with what is returned with its number. `told` lists number and values for each.
 pub enum Refusal {
@@ -114,12 +115,74 @@ impl Answer {
     }
 }
 
-// Four words: an output of the hash, or a claim.
+// Four words: an output of the chain, or a claim.
 pub struct Digest(pub u64, pub u64, pub u64, pub u64);
 
-// The answer of Hash, Chain, Build, Unpack and Edit: four words.
+// The answer of Chain, Build, Unpack and Edit: four words.
 pub enum DigestAnswer {
     Accepted(Digest),
+    Refused(Refusal),
+}
+
+// Twelve words: the cells of a state.
+pub struct State(
+    pub u64,
+    pub u64,
+    pub u64,
+    pub u64,
+    pub u64,
+    pub u64,
+    pub u64,
+    pub u64,
+    pub u64,
+    pub u64,
+    pub u64,
+    pub u64,
+);
+
+impl State {
+    pub fn of(cells: [u64; WIDTH]) -> State
+        ensures { λ r. ⌜ r ≡ state cells ⌝ }
+    {
+        State(
+            cells[0],
+            cells[1],
+            cells[2],
+            cells[3],
+            cells[4],
+            cells[5],
+            cells[6],
+            cells[7],
+            cells[8],
+            cells[9],
+            cells[10],
+            cells[11],
+        )
+    }
+
+    pub fn cells(self) -> [u64; WIDTH]
+        ensures { λ r. ⌜ r ≡ stateWords self ⌝ }
+    {
+        [
+            self.0,
+            self.1,
+            self.2,
+            self.3,
+            self.4,
+            self.5,
+            self.6,
+            self.7,
+            self.8,
+            self.9,
+            self.10,
+            self.11,
+        ]
+    }
+}
+
+// The answer of Hash: the final state.
+pub enum StateAnswer {
+    Accepted(State),
     Refused(Refusal),
 }
 

@@ -22,7 +22,7 @@ use refusals::DigestAnswer;
 use refusals::Refusal;
 
 // The twelve cells into a part of twelve words.
-fn put(part: &mut [u64], cells: [u64; WIDTH])
+pub fn put(part: &mut [u64], cells: [u64; WIDTH])
     requires { ⌜ length (now part) ≡ width ⌝ }
     ensures { λ r. ⌜ now (part .exit) ≡ cells ⌝ }
 {

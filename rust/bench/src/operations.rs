@@ -69,7 +69,7 @@ pub fn measure(table: &mut Table, days: &[Day; 3]) -> Vec<(&'static str, f64)> {
     let prepare = prepare as fn(&Day) -> Vec<Way>;
     for (name, goal, days, operation) in [
         ("prepare", of_second(1.0), &days[..1], prepare),
-        ("hash", of_yardstick(0.85), &days[..1], hash),
+        ("hash, twelve cells", of_yardstick(0.85), &days[..1], hash),
         ("build", of_yardstick(0.80), days, build),
         ("check", on_long_days(0.90), days, check),
         ("read-off", on_long_days(0.95), days, read_off),

@@ -1,10 +1,12 @@
-//! The calls as C sees them: a digest's destination that has not four words is
-//! refused with 8, in 8's place of the order, and nothing is written. Edit with
-//! its two buffers between guards.
+//! The calls as C sees them: a digest's destination that has not four words, or a
+//! final state's that has not twelve, is refused with 8, in 8's place of the order,
+//! and nothing is written. Hash and Edit with room, what they write between guards.
 
 use differential::{holding, named, words, Lent};
+use inputs::tables::{dense, first_unlike_identity};
 use inputs::*;
-use lemoncolumn::{calls, INTERFACE};
+use lemoncolumn::{calls, INTERFACE, STATE_WORDS};
+use second::field::{add, P};
 use second::Refusal;
 
 /// The seeds of a test, once it is known that the library takes these calls as
@@ -24,7 +26,7 @@ fn before_8(refusal: Option<Refusal>) -> bool {
     )
 }
 
-/// What the call must answer where the digest has no room.
+/// What the call must answer where the destination has another length.
 fn expected(refusal: Option<Refusal>) -> Option<Refusal> {
     if before_8(refusal) {
         refusal
@@ -52,39 +54,116 @@ fn says(about: &str, code: u64, refusal: Option<Refusal>) {
     assert_eq!(code, word, "{about}: other bits");
 }
 
-const LENGTHS: [usize; 6] = [0, 1, 3, 5, 8, 540];
+/// Lengths other than a digest's four.
+const LENGTHS: [usize; 7] = [0, 1, 3, 5, 8, 12, 540];
+/// Lengths other than a final state's twelve.
+const STATE_LENGTHS: [usize; 10] = [0, 1, 3, 4, 5, 8, 11, 13, 24, 540];
 
 fn refused(about: &str, code: u64, refusal: Option<Refusal>, lent: &[&Lent<u64>]) {
     says(about, code, expected(refusal));
     assert!(lent.iter().all(|buffer| buffer.is_untouched()), "{about}");
 }
 
+fn call_hash(table: &[u64], words: [u64; 8], output: &mut [u64]) -> u64 {
+    let [a, b, c, d, e, f, g, h] = words;
+    // SAFETY: pointers and lengths of slices; the same below.
+    unsafe {
+        calls::lemoncolumn_hash(
+            table.as_ptr(),
+            table.len(),
+            a,
+            b,
+            c,
+            d,
+            e,
+            f,
+            g,
+            h,
+            output.as_mut_ptr(),
+            output.len(),
+        )
+    }
+}
+
 #[test]
 fn hash() {
     for seed in seeds("calls, hash") {
         for (number, case) in hash_cases(seed, 400).into_iter().enumerate() {
-            let length = LENGTHS[number % LENGTHS.len()];
+            let length = STATE_LENGTHS[number % STATE_LENGTHS.len()];
             let about = format!("seed {seed}: {}, output of {length}", case.name);
             let mut output = words(length);
-            let [a, b, c, d, e, f, g, h] = case.words;
-            // SAFETY: pointers and lengths of slices; the same below.
-            let code = unsafe {
-                calls::lemoncolumn_hash(
-                    case.table.as_ptr(),
-                    case.table.len(),
-                    a,
-                    b,
-                    c,
-                    d,
-                    e,
-                    f,
-                    g,
-                    h,
-                    output.as_mut_ptr(),
-                    output.len(),
-                )
-            };
+            let code = call_hash(&case.table, case.words, &mut output);
             refused(&about, code, case.refusal, &[&output]);
+        }
+    }
+}
+
+#[test]
+fn hash_with_room() {
+    for seed in seeds("calls, hash with room") {
+        for case in hash_cases(seed, 1000) {
+            let about = format!("seed {seed}: {}", case.name);
+            let mut output = words(STATE_WORDS);
+            let code = call_hash(&case.table, case.words, &mut output);
+            says(&about, code, case.refusal);
+            let Ok(state) = second::hash(&case.table, case.words) else {
+                assert!(output.is_untouched(), "{about}");
+                continue;
+            };
+            assert!(output.is_guarded(), "{about}");
+            assert_eq!(output[..], state, "{about}");
+        }
+    }
+}
+
+/// A table and two taps with some of Hash's faults, and the refusal that comes
+/// first in the order 1, 2, 4, 8, 6; `room` is for the output, which is not made
+/// here.
+fn hash_with(
+    random: &mut Random,
+    good: &[u64],
+    [length, word, inverse, room, tap]: [bool; 5],
+) -> (Vec<u64>, [u64; 8], Option<Refusal>) {
+    let mut table = good.to_vec();
+    let mut taps = std::array::from_fn(|_| random.canonical());
+    // From the last to the first, since a fault of the table hides those after it.
+    let tap = tap.then(|| tap_word(random.spoil(&mut taps)));
+    let room = room.then_some(Refusal::DestinationLength);
+    let inverse = inverse.then(|| {
+        let at = 144 + random.below(144);
+        table[at] = add(table[at], random.unit());
+        let cell = first_unlike_identity(&table).expect("altered") as u64;
+        Refusal::InverseCell { cell }
+    });
+    let word = word.then(|| table_word(random.spoil(&mut table)));
+    let length = length.then(|| {
+        table.push(P);
+        Refusal::TableLength
+    });
+    let refusal = first_of(&[length, word, inverse, room, tap]);
+    (table, taps, refusal)
+}
+
+/// Each choice of Hash's five faults at once: the first in the order is answered.
+#[test]
+fn hash_with_faults_together() {
+    for seed in seeds("calls, hash with faults together") {
+        let mut random = Random::new(seed);
+        let good = dense(&mut random).prepared;
+        for choice in 0..1 << 5 {
+            let faults = std::array::from_fn(|fault| choice >> fault & 1 == 1);
+            let (table, taps, refusal) = hash_with(&mut random, &good, faults);
+            let lengths = match faults[3] {
+                true => &STATE_LENGTHS[..],
+                false => &[STATE_WORDS],
+            };
+            for &length in lengths {
+                let about = format!("seed {seed}: {faults:?}, output of {length}");
+                let mut output = words(length);
+                let code = call_hash(&table, taps, &mut output);
+                says(&about, code, refusal);
+                assert_eq!(output.is_untouched(), refusal.is_some(), "{about}");
+            }
         }
     }
 }

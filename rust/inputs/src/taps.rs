@@ -83,7 +83,8 @@ fn hash_corners(seed: u64) -> Vec<HashCase> {
         push(table.name, &table.words, [P; 8], table.refusal);
     }
     for table in special_tables(&mut random) {
-        for words in [[0; 8], [1; 8], [P - 1; 8]] {
+        // Eight different words tell the cells of the final state apart.
+        for words in [[0; 8], [1; 8], [P - 1; 8], [1, 2, 3, 4, 5, 6, 7, 8]] {
             push(table.name.clone(), &table.prepared, words, None);
         }
     }

@@ -3,8 +3,10 @@
 //! refused call must leave what is lent as it was, and what is written must be
 //! right.
 
-use inputs::traces::with_faults;
+use inputs::tables::Good;
+use inputs::traces::{with_faults, Fault};
 use inputs::*;
+use second::field::sub;
 use second::Refusal;
 use yardstick::BOTH;
 
@@ -37,8 +39,8 @@ impl Seen {
 }
 
 /// An accepted table's words as the generator's own type.
-fn good(table: &[u64]) -> tables::Good {
-    tables::Good {
+fn good(table: &[u64]) -> Good {
+    Good {
         name: String::new(),
         raw: [&table[..144], &table[288..]].concat(),
         prepared: table.to_vec(),
@@ -62,6 +64,38 @@ fn prepare() {
     seen.each(&[0, 1, 2, 3, 8], 20);
 }
 
+/// The left tap of the hash whose middle states begin at this row: columns 0 to 3
+/// of back less K_0.
+fn left_tap(table: &Good, trace: &[u64], row: usize) -> [u64; 4] {
+    let lent = second::constraints::Lent {
+        table: second::Table::test(&table.prepared).expect("accepted"),
+        trace,
+        claim: [0; 4],
+    };
+    std::array::from_fn(|column| sub(lent.back(row, column), table.k(0, column)))
+}
+
+/// The final state of a hash as a trace shows it, in row 31. There the hash is the
+/// third of its batch: its left tap comes in by faults at row 20, in place of what
+/// the two before it would hand on.
+fn in_row_31(table: &Good, words: [u64; 8]) -> Vec<u64> {
+    let mut taps = vec![0; 12];
+    taps.extend(&words[4..]);
+    let (honest, _) = with_faults(table, &taps, &[]);
+    let handed_on = left_tap(table, &honest, 21);
+    let faults: Vec<Fault> = (0..4)
+        .map(|column| Fault {
+            row: 20,
+            constraint: 21 + column,
+            by: sub(words[column], handed_on[column]),
+        })
+        .filter(|fault| fault.by != 0)
+        .collect();
+    let (trace, _) = with_faults(table, &taps, &faults);
+    assert_eq!(left_tap(table, &trace, 21), words[..4]);
+    trace[12 * 31..].to_vec()
+}
+
 #[test]
 fn hash() {
     let mut seen = Seen::new();
@@ -71,21 +105,17 @@ fn hash() {
         for yardstick in BOTH {
             assert_eq!((yardstick.hash)(&case.table, case.words), answer);
         }
-        if let Ok(output) = answer {
-            // The left input of the second hash is read off row 11 of a trace
-            // that begins with this one: its back less K_0.
+        if let Ok(state) = answer {
+            // Cells 0 to 3 are the left tap of the second hash, in a trace that
+            // begins with this one.
+            let table = good(&case.table);
             let mut taps = case.words.to_vec();
             taps.resize(16, 0);
-            let (trace, claim) = with_faults(&good(&case.table), &taps, &[]);
-            let lent = second::constraints::Lent {
-                table: second::Table::test(&case.table).expect("accepted"),
-                trace: &trace,
-                claim,
-            };
-            for (column, &cell) in output.iter().enumerate() {
-                let start = second::field::add(cell, lent.table.k(0, column));
-                assert_eq!(lent.back(11, column), start, "{}", case.name);
-            }
+            let (trace, _) = with_faults(&table, &taps, &[]);
+            let next = left_tap(&table, &trace, 11);
+            assert_eq!(next, state[..4], "seed {SEED}: {}", case.name);
+            let row_31 = in_row_31(&table, case.words);
+            assert_eq!(row_31, state, "seed {SEED}: {}", case.name);
         }
         seen.note(case.refusal);
     }

@@ -5,7 +5,7 @@ use crate::calls::lemoncolumn_interface;
 
 /// The interface that [`crate::calls`] declares: `LEMONCOLUMN_INTERFACE` of
 /// include/lemoncolumn.h, and raised with it.
-pub const INTERFACE: u64 = 1;
+pub const INTERFACE: u64 = 2;
 
 /// Makes a call, where the linked library has this crate's interface. Where it
 /// has another, it might take a pointer for a count, so this panics before the
@@ -42,7 +42,8 @@ mod tests {
 
     #[test]
     fn a_library_of_another_number_is_not_called() {
-        for linked in [0, INTERFACE + 1, INTERFACE + (1 << 32), u64::MAX] {
+        let higher = [INTERFACE + 1, INTERFACE + (1 << 32), u64::MAX];
+        for linked in (0..INTERFACE).chain(higher) {
             let panic = catch_unwind(|| call_of(linked, || unreachable!("called")));
             let said = panic.expect_err("a panic");
             let expected = format!(

@@ -31,6 +31,8 @@ pub const P: u64 = (1 << 61) + 20 * (1 << 32) + 1;
 pub const RAW_WORDS: usize = 396;
 /// Words of a prepared table: M, its inverse, then K_0 to K_20.
 pub const TABLE_WORDS: usize = 540;
+/// Words of a hash's final state.
+pub const STATE_WORDS: usize = 12;
 
 /// Words of the tap list of k batches.
 pub const fn tap_words(k: usize) -> usize {
@@ -57,10 +59,12 @@ pub fn prepare(raw: &[u64], table: &mut [u64]) -> Result<(), Refusal> {
     accepted(code)
 }
 
-/// The hash of two taps: words 0 to 3, and words 4 to 7.
-pub fn hash(table: &[u64], words: [u64; 8]) -> Result<[u64; 4], Refusal> {
+/// Hashes two taps, words 0 to 3 and words 4 to 7; answers the final state, all
+/// twelve cells. Cells 0 to 3 are the documentation's hash, with which [`chain`],
+/// [`build`] and [`edit`] go on.
+pub fn hash(table: &[u64], words: [u64; 8]) -> Result<[u64; STATE_WORDS], Refusal> {
     let [a, b, c, d, e, f, g, h] = words;
-    let mut output = [0; 4];
+    let mut state = [0; STATE_WORDS];
     let code = call(|| unsafe {
         lemoncolumn_hash(
             table.as_ptr(),
@@ -73,11 +77,11 @@ pub fn hash(table: &[u64], words: [u64; 8]) -> Result<[u64; 4], Refusal> {
             f,
             g,
             h,
-            output.as_mut_ptr(),
-            output.len(),
+            state.as_mut_ptr(),
+            state.len(),
         )
     });
-    accepted(code).map(|()| output)
+    accepted(code).map(|()| state)
 }
 
 /// The output of the chain of a list of taps.

@@ -1,5 +1,5 @@
-//! Document 01's known days, and edits of them worked out by hand, through the
-//! safe calls.
+//! Document 01's known days, with cells 4 to 11 of the hashes (document 02, U3) and
+//! edits worked out by hand, through the safe calls.
 
 use lemoncolumn::*;
 
@@ -15,13 +15,64 @@ fn table(shift: usize, first: u64) -> [u64; TABLE_WORDS] {
     table
 }
 
+/// Under Z the final state is the input, under A the input plus K_0. S moves each
+/// cell one up at every step, and there are twenty: eight up.
 #[test]
 fn hashes_and_chains() {
     let (z, a, s) = (table(0, 0), table(0, 1), table(11, 0));
-    assert_eq!(hash(&z, [8, 27, 1, 0, 0, 0, 0, 0]), Ok([8, 27, 1, 0]));
-    assert_eq!(hash(&a, [0; 8]), Ok([1, 0, 0, 0]));
-    assert_eq!(hash(&s, [1, 2, 3, P - 1, 5, 6, 7, 9]), Ok([5, 6, 7, 9]));
+    for (table, words, state) in [
+        (
+            &z,
+            [8, 27, 1, 0, 0, 0, 0, 0],
+            [8, 27, 1, 0, 0, 0, 0, 0, 0, 0, 0, 0],
+        ),
+        (
+            &z,
+            [P - 1, 2, 3, 4, 5, 6, 7, P - 1],
+            [P - 1, 2, 3, 4, 5, 6, 7, P - 1, 0, 0, 0, 0],
+        ),
+        (&a, [0; 8], [1, 0, 0, 0, 0, 0, 0, 0, 0, 0, 0, 0]),
+        (
+            &a,
+            [P - 1, 0, 0, 0, 1, 2, 3, 4],
+            [0, 0, 0, 0, 1, 2, 3, 4, 0, 0, 0, 0],
+        ),
+        (
+            &s,
+            [1, 2, 3, P - 1, 5, 6, 7, 9],
+            [5, 6, 7, 9, 0, 0, 0, 0, 1, 2, 3, P - 1],
+        ),
+    ] {
+        assert_eq!(hash(table, words), Ok(state), "{words:?}");
+    }
     assert_eq!(chain(&a, &[0; 16]), Ok([3, 0, 0, 0]));
+}
+
+/// A day of two batches under S: each hash ends in its second tap, four zeros and
+/// its first, which is the output of the one before.
+#[test]
+fn final_states() {
+    let s = table(11, 0);
+    let taps: Vec<u64> = (1..=28).collect();
+    let mut trace = [7; 768];
+    let output = [25, 26, 27, 28];
+    assert_eq!(build(&s, &taps, &mut trace), Ok(output));
+    assert_eq!(chain(&s, &taps), Ok(output));
+    for (row, third, words) in [
+        (
+            31,
+            [13, 14, 15, 16, 0, 0, 0, 0, 9, 10, 11, 12],
+            [9, 10, 11, 12, 13, 14, 15, 16],
+        ),
+        (
+            63,
+            [25, 26, 27, 28, 0, 0, 0, 0, 21, 22, 23, 24],
+            [21, 22, 23, 24, 25, 26, 27, 28],
+        ),
+    ] {
+        assert_eq!(trace[12 * row..12 * row + 12], third, "row {row}");
+        assert_eq!(hash(&s, words), Ok(third), "row {row}");
+    }
 }
 
 #[test]
@@ -71,10 +122,10 @@ fn traces() {
     assert_eq!(taps, [0, 0, 0, 0, 0, 0, 0, 0, 0, 1, 0, 0, 0, 0, 0, 0]);
 }
 
-/// Under Z a round is a root and then a cube. So a hash answers its first tap, and
-/// its ten rows hold the roots of its input: rows 1 to 10, 11 to 20 and 21 to 30 have
-/// w_0 in columns 0 to 3, and w_1, w_2 and w_3 in columns 4 to 7. Row 31 is the last
-/// input again. The edit of tap 2 is the known day above.
+/// Under Z a round is a root and then a cube. So the final state of a hash is its
+/// input, its first tap goes on, and its ten rows hold the roots of its input: rows 1
+/// to 10, 11 to 20 and 21 to 30 have w_0 in columns 0 to 3, and w_1, w_2 and w_3 in
+/// columns 4 to 7. Row 31 is the last input again. The edit of tap 2 is the known day above.
 #[test]
 fn edits() {
     let z = table(0, 0);

@@ -1,11 +1,11 @@
-//! Hash and chain (document 01, "Hash and chain"; 004, Algorithm 1 and
-//! equation (1)).
+//! Hash and chain (document 01, "Hash and chain"; document 02, U3; 004,
+//! Algorithm 1 and equation (1)).
 
 use crate::field::{add, cube, first_not_canonical, mul, root};
 use crate::refusal::Refusal;
 use crate::table::{Table, CELLS};
 
-/// Words of a tap, of a hash's answer and of a claim.
+/// Words of a tap, of a chain's output and of a claim.
 pub const TAP: usize = 4;
 /// Rounds of a hash.
 pub const ROUNDS: usize = 10;
@@ -14,7 +14,7 @@ pub const HASHES: usize = 3;
 /// The largest permitted k.
 pub const LARGEST_K: usize = 1024;
 
-/// The twelve cells of a hash under way.
+/// The twelve cells of a hash under way, and of its final state.
 pub type State = [u64; CELLS];
 
 /// Is k permitted: from 1 to 1024, with exactly one set bit?
@@ -71,7 +71,8 @@ fn step(table: &Table, cells: State, number: usize) -> State {
     })
 }
 
-/// All rounds of a hash. `see` is shown each middle state, in order.
+/// All rounds of a hash: its final state. `see` is shown each middle state, in
+/// order.
 pub fn rounds(table: &Table, start: State, mut see: impl FnMut(State)) -> State {
     let mut state = start;
     for round in 0..ROUNDS {
@@ -82,7 +83,7 @@ pub fn rounds(table: &Table, start: State, mut see: impl FnMut(State)) -> State 
     state
 }
 
-/// Cells 0 to 3.
+/// Cells 0 to 3 of a final state: what the chain goes on with.
 pub fn output(state: State) -> [u64; TAP] {
     tap(&state, 0)
 }
@@ -98,26 +99,27 @@ pub fn tap(list: &[u64], number: usize) -> [u64; TAP] {
     ]
 }
 
-/// Hash of two taps under an accepted table.
-fn hash_taps(table: &Table, left: [u64; TAP], right: [u64; TAP]) -> [u64; TAP] {
-    output(rounds(table, start(table, left, right), |_| {}))
+/// The final state of the hash of two taps, under an accepted table.
+fn final_state(table: &Table, left: [u64; TAP], right: [u64; TAP]) -> State {
+    rounds(table, start(table, left, right), |_| {})
 }
 
-/// Hash: 1, 2, 4, 6.
-pub fn hash(table: &[u64], words: [u64; 2 * TAP]) -> Result<[u64; TAP], Refusal> {
+/// Hash: 1, 2, 4, 6. Answers the whole final state (document 02, U3); document
+/// 01's answer is its cells 0 to 3.
+pub fn hash(table: &[u64], words: [u64; 2 * TAP]) -> Result<State, Refusal> {
     let table = Table::test(table)?;
     test_tap_words(&words)?;
-    Ok(hash_taps(&table, tap(&words, 0), tap(&words, 1)))
+    Ok(final_state(&table, tap(&words, 0), tap(&words, 1)))
 }
 
-/// Chain: 1, 2, 4, 5, 6.
+/// Chain: 1, 2, 4, 5, 6. Answers cells 0 to 3 of the last final state.
 pub fn chain(table: &[u64], taps: &[u64]) -> Result<[u64; TAP], Refusal> {
     let table = Table::test(table)?;
     let k = k_of_list(taps.len()).ok_or(Refusal::TapLength)?;
     test_tap_words(taps)?;
     let mut last = tap(taps, 0);
     for number in 1..=HASHES * k {
-        last = hash_taps(&table, last, tap(taps, number));
+        last = output(final_state(&table, last, tap(taps, number)));
     }
     Ok(last)
 }

@@ -1,5 +1,5 @@
-//! A second implementation of document 01, and of what document 02 adds to it,
-//! written from the documents alone.
+//! A second implementation of document 01, and of what document 02 adds to it
+//! or alters in it, written from the documents alone.
 //!
 //! It is plain and slow on purpose: one module for each section of document 01
 //! and each operation of document 02, the field on `u128`, and a checker that

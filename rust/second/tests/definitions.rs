@@ -175,7 +175,48 @@ fn hash_is_algorithm_1() {
         let words: [u64; 8] = std::array::from_fn(|_| random.canonical());
         let (_, last) = algorithm_1(&raw, &words[..4], &words[4..]);
         let answer = hash(&prepared(&raw), words).expect("hashes");
-        assert_eq!(answer[..], last[..4]);
+        assert_eq!(answer[..], last);
+    }
+}
+
+/// The final state of each hash of a list: cells 0 to 3 of one are the first tap
+/// of the next.
+fn final_states(table: &[u64], taps: &[u64]) -> Vec<[u64; 12]> {
+    let mut left = taps[..4].to_vec();
+    let right = taps[4..].chunks(4);
+    right
+        .map(|right| {
+            let words = [&left, right].concat().try_into().expect("two taps");
+            let state = hash(table, words).expect("hashes");
+            left = state[..4].to_vec();
+            state
+        })
+        .collect()
+}
+
+/// Cells 0 to 3 of the last final state are the chain's output, and row 31 of each
+/// batch is the final state of its third hash.
+#[test]
+fn final_states_of_a_list() {
+    let mut random = Random(13);
+    for k in [1, 2, 4, 8] {
+        let raw = random_raw(&mut random);
+        let table = prepared(&raw);
+        let taps = random.canonicals(12 * k + 4);
+        let states = final_states(&table, &taps);
+        assert_eq!(states.len(), 3 * k);
+        let last = states[3 * k - 1];
+        assert_eq!(chain(&table, &taps).expect("chains"), last[..4]);
+        let mut trace = vec![7; 384 * k];
+        let output = build(&table, &taps, &mut trace).expect("builds");
+        assert_eq!(output, last[..4]);
+        let (rows, _) = section_3_1(&raw, &taps);
+        for batch in 0..k {
+            let row_31 = 384 * batch + 12 * 31..384 * (batch + 1);
+            let third = states[3 * batch + 2];
+            assert_eq!(trace[row_31.clone()], third, "batch {batch}, k = {k}");
+            assert_eq!(rows[row_31], third, "batch {batch}, k = {k}");
+        }
     }
 }
 

@@ -1,6 +1,6 @@
 //! Every line of document 01's "Known days", and the program's lines. The
-//! expected values stand in document 01; those of the edits are worked out by hand
-//! from its definitions.
+//! expected values stand in document 01; those of the edits, and cells 4 to 11 of
+//! the hashes (document 02, U3), are worked out by hand from its definitions.
 
 mod common;
 use common::*;
@@ -37,23 +37,37 @@ fn roots_of_0_8_and_minus_1() {
     assert_eq!(root(P - 1), P - 1);
 }
 
+/// Under Z a round is a root and then a cube, so the final state is the input.
 #[test]
 fn hash_under_z() {
-    assert_eq!(hash(&z(), [8, 27, 1, 0, 0, 0, 0, 0]), Ok([8, 27, 1, 0]));
+    assert_eq!(
+        hash(&z(), [8, 27, 1, 0, 0, 0, 0, 0]),
+        Ok([8, 27, 1, 0, 0, 0, 0, 0, 0, 0, 0, 0])
+    );
+    assert_eq!(
+        hash(&z(), [8, 27, 1, 0, 5, 6, 7, P - 1]),
+        Ok([8, 27, 1, 0, 5, 6, 7, P - 1, 0, 0, 0, 0])
+    );
 }
 
+/// Under A it is the input plus K_0.
 #[test]
 fn hash_of_zeros_under_a() {
-    assert_eq!(hash(&a(), [0; 8]), Ok([1, 0, 0, 0]));
+    let state = [1, 0, 0, 0, 0, 0, 0, 0, 0, 0, 0, 0];
+    assert_eq!(hash(&a(), [0; 8]), Ok(state));
 }
 
+/// S moves each cell one up at every step. There are twenty, so cells 4 to 7 come
+/// to 0 to 3, the four zeros to 4 to 7, and the first tap to 8 to 11.
 #[test]
-fn hash_under_s_is_its_second_tap() {
+fn hash_under_s() {
     let mut random = Random(1);
-    for _ in 0..5 {
-        let mut words = [0, 0, 0, 0, 5, 6, 7, 9];
-        words[..4].copy_from_slice(&random.canonicals(4));
-        assert_eq!(hash(&s(), words), Ok([5, 6, 7, 9]), "{words:?}");
+    let mut first: Vec<[u64; 4]> = vec![[0; 4], [1, 2, 3, 4], [P - 1; 4]];
+    first.extend((0..4).map(|cell| std::array::from_fn(|j| if j == cell { P - 1 } else { 0 })));
+    first.extend((0..5).map(|_| std::array::from_fn(|_| random.canonical())));
+    for [a, b, c, d] in first {
+        let hashed = hash(&s(), [a, b, c, d, 5, 6, 7, 9]);
+        assert_eq!(hashed, Ok([5, 6, 7, 9, 0, 0, 0, 0, a, b, c, d]));
     }
 }
 
@@ -179,7 +193,8 @@ fn p_minus_1_passes_and_p_does_not_in_taps() {
     assert_eq!(build(&z(), &taps, &mut [0; 384]), Ok(NO_CLAIM));
     assert_eq!(pack(&taps, NO_CLAIM, &mut [0; 244]), Ok(()));
     let hashed = hash(&z(), [P - 1, 0, 0, 0, 0, 0, 0, P - 1]);
-    assert_eq!(hashed, Ok([P - 1, 0, 0, 0]));
+    let state = [P - 1, 0, 0, 0, 0, 0, 0, P - 1, 0, 0, 0, 0];
+    assert_eq!(hashed, Ok(state));
     taps[15] = P;
     let refused = Refusal::TapWord { index: 15 };
     assert_eq!(chain(&z(), &taps), Err(refused));

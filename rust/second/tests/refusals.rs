@@ -113,7 +113,8 @@ fn hash_1_2_4_6() {
     words[5] = 0;
     assert_eq!(hash(&mended, words), Err(Refusal::TapWord { index: 7 }));
     words[7] = 0;
-    assert_eq!(hash(&mended, words), Ok([1, 0, 0, 0]));
+    let state = [1, 0, 0, 0, 0, 0, 0, 0, 0, 0, 0, 0];
+    assert_eq!(hash(&mended, words), Ok(state));
 }
 
 #[test]

@@ -1,5 +1,5 @@
-//! Document 01's "Traps", one test each. Each is a case where the mistake
-//! would give another answer than the one asserted.
+//! Document 01's "Traps", one test each, and those of document 02's U3. Each is
+//! a case where the mistake would give another answer than the one asserted.
 
 mod common;
 use common::*;
@@ -8,12 +8,12 @@ use second::field::{mul, P};
 use second::{build, chain, check, hash, read_off, unpack, Refusal};
 
 /// S moves each cell one up at every step, twenty steps, so eight up; read
-/// transposed it would move them down, and the answer would be the four zeros.
+/// transposed it would move them down, and cells 0 to 3 would be the four zeros.
 #[test]
 fn m_read_transposed() {
     assert_eq!(
         hash(&s(), [1, 2, 3, 4, 5, 6, 7, 9]),
-        Ok([5, 6, 7, 9]),
+        Ok([5, 6, 7, 9, 0, 0, 0, 0, 1, 2, 3, 4]),
         "cells 4 to 7 reach 0 to 3"
     );
     let mut trace = vec![0; 384];
@@ -159,4 +159,83 @@ fn every_tap_of_two_batches_is_read_off() {
     let mut read = vec![0; 28];
     assert_eq!(read_off(&s(), &trace, claim, &mut read), Ok(744));
     assert_eq!(read, taps);
+}
+
+/// A hash whose final state is this, where the mistake gives another.
+fn told_apart(table: &[u64], words: [u64; 8], state: [u64; 12], mistaken: [u64; 12]) {
+    assert_ne!(mistaken, state);
+    assert_eq!(hash(table, words), Ok(state));
+}
+
+/// S with K_20[j] = 100 + j. Up to K_20 a hash is that of S, which moves each cell
+/// of its input eight up: (5, 6, 7, 9, 0, 0, 0, 0, 1, 2, 3, 4) for the one below.
+fn s_with_last_constants() -> Vec<u64> {
+    let mut raw = s_raw();
+    for (j, word) in (0..).zip(&mut raw[144 + 12 * 20..]) {
+        *word = 100 + j;
+    }
+    prepared(&raw)
+}
+
+const WORDS: [u64; 8] = [1, 2, 3, 4, 5, 6, 7, 9];
+const STATE: [u64; 12] = [105, 107, 109, 112, 104, 105, 106, 107, 109, 111, 113, 115];
+
+#[test]
+fn the_old_answer_and_eight_zeros() {
+    let mistaken = [105, 107, 109, 112, 0, 0, 0, 0, 0, 0, 0, 0];
+    told_apart(&s_with_last_constants(), WORDS, STATE, mistaken);
+}
+
+/// In every column, or in those that the old answer did not have.
+#[test]
+fn the_state_before_the_last_constants() {
+    let everywhere = [5, 6, 7, 9, 0, 0, 0, 0, 1, 2, 3, 4];
+    let from_4_on = [105, 107, 109, 112, 0, 0, 0, 0, 1, 2, 3, 4];
+    for mistaken in [everywhere, from_4_on] {
+        told_apart(&s_with_last_constants(), WORDS, STATE, mistaken);
+    }
+}
+
+#[test]
+fn cells_4_to_11_of_the_input() {
+    let mistaken = [105, 107, 109, 112, 5, 6, 7, 9, 0, 0, 0, 0];
+    told_apart(&s_with_last_constants(), WORDS, STATE, mistaken);
+}
+
+/// Under Z the final state is the input, and each middle state its roots.
+#[test]
+fn the_middle_state_of_the_last_round() {
+    let everywhere = [2, 3, 1, 0, 4, 5, 0, P - 1, 0, 0, 0, 0];
+    let from_4_on = [8, 27, 1, 0, 4, 5, 0, P - 1, 0, 0, 0, 0];
+    for mistaken in [everywhere, from_4_on] {
+        told_apart(
+            &z(),
+            [8, 27, 1, 0, 64, 125, 0, P - 1],
+            [8, 27, 1, 0, 64, 125, 0, P - 1, 0, 0, 0, 0],
+            mistaken,
+        );
+    }
+}
+
+/// S turned about moves each cell eight down, so that (a, b, four zeros) ends as
+/// (four zeros, a, b). Where a hash begins with four zeros in cells 8 to 11, the
+/// output is zeros too; where it keeps those cells of the state before, the output
+/// is w_2.
+#[test]
+fn a_chain_that_goes_on_with_all_twelve_cells() {
+    let mut raw = vec![0; 396];
+    for i in 0..12 {
+        raw[12 * i + (i + 1) % 12] = 1;
+    }
+    let table = prepared(&raw);
+    let taps: Vec<u64> = (1..=16).collect();
+    assert_eq!(
+        hash(&table, WORDS),
+        Ok([0, 0, 0, 0, 1, 2, 3, 4, 5, 6, 7, 9])
+    );
+    assert_eq!(chain(&table, &taps), Ok([0; 4]));
+    let mut trace = vec![7; 384];
+    assert_eq!(build(&table, &taps, &mut trace), Ok([0; 4]));
+    let row_31 = [0, 0, 0, 0, 0, 0, 0, 0, 13, 14, 15, 16];
+    assert_eq!(trace[12 * 31..], row_31);
 }

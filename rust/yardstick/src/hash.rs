@@ -26,8 +26,8 @@ fn rounds<const LATE: bool>(
     state
 }
 
-/// Hash: 1, 2, 4, 6.
-pub fn hash<const LATE: bool>(table: &[u64], words: [u64; 8]) -> Result<[u64; 4], Refusal> {
+/// Hash: 1, 2, 4, 6. Hands out the whole final state, as `second` does.
+pub fn hash<const LATE: bool>(table: &[u64], words: [u64; 8]) -> Result<Cells, Refusal> {
     test::<LATE>(table)?;
     if let Some(index) = first_not_canonical(&words) {
         return Err(Refusal::TapWord { index });
@@ -38,7 +38,7 @@ pub fn hash<const LATE: bool>(table: &[u64], words: [u64; 8]) -> Result<[u64; 4]
         *cell = from_word(word);
     }
     let state = rounds(&table, &input, |_| {});
-    Ok(std::array::from_fn(|j| to_word(state[j])))
+    Ok(state.map(to_word))
 }
 
 /// Build: 1, 2, 4, 5, 8, 6.

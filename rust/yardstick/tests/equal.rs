@@ -72,6 +72,31 @@ fn hash() {
     }
 }
 
+/// Row 31 of a built trace is the whole final state of its third hash, and row 0 of
+/// the next batch begins with cells 0 to 3 of it.
+#[test]
+fn final_states() {
+    let mut random = Random(15);
+    let table = random.table();
+    let taps = random.canonicals(28);
+    for yardstick in BOTH {
+        let mut trace = vec![7; 768];
+        let output = (yardstick.build)(&table, &taps, &mut trace).expect("builds");
+        let mut left = taps[..4].to_vec();
+        for (number, right) in (1..).zip(taps[4..].chunks(4)) {
+            let words = [&left, right].concat().try_into().expect("two taps");
+            let state = (yardstick.hash)(&table, words).expect("hashes");
+            if number % 3 == 0 {
+                let end = 128 * number;
+                assert_eq!(trace[end - 12..end], state, "{number}");
+            }
+            left = state[..4].to_vec();
+        }
+        assert_eq!(trace[384..388], trace[372..376]);
+        assert_eq!(output[..], left);
+    }
+}
+
 /// M with p - 1 everywhere but on the diagonal, and constants p - 1: the sums
 /// reach their bounds.
 #[test]

@@ -3,7 +3,7 @@
 use mathlib.Core.Path.{ap, _∙_}
 use Rattle.export.specs.Code.{answerCode}
 use Rattle.export.specs.Calls.{hashCall}
-use Rattle.export.proofs.Answers.{stopped, handed-as, hash-short, hash-no-room-refuses, hash-answer}
+use Rattle.export.proofs.Answers.{state-stopped, state-handed-as, hash-short, hash-no-room-refuses, hash-answer}
 use borrow.Author.Needs.{needs}
 use Rattle.export.proofs.lemoncolumn_hash.Statement.{statement}
 use Rattle.export.proofs.lemoncolumn_hash.Tie as tie
@@ -20,13 +20,13 @@ returns c =
     let n = c .before in
     let short = hash-short _ _ _ (n .before .if1 .taken) in
     let coded = c .answer-code .ensures ∙ ap answerCode (n .hash-no-room .ensures) in
-    stopped _ _ short (hash-no-room-refuses _) _ _ _ coded
+    state-stopped _ _ short (hash-no-room-refuses _) _ _ _ coded
 
 hash-requires : tie.Need-hash-requires
 hash-requires c κs = search needs
 
-hand-over-requires : tie.Need-hand-over-requires
-hand-over-requires c κs = search needs
+hand-over-state-requires : tie.Need-hand-over-state-requires
+hand-over-state-requires c κs = search needs
 
 same-length : tie.Need-same-length
 same-length c = search needs
@@ -36,7 +36,7 @@ returns-2 c =
     let handed = c .before .before in
     let called = handed .before .before in
     let same = called .hash .ensures ∙ hash-answer _ (called .before .if1 .left) _ _ in
-    handed-as _ _ _ _ _ same (handed .hand-over .ensures)
+    state-handed-as _ _ _ _ _ same (handed .hand-over-state .ensures)
 
 pub lemoncolumn-hash-spec : {M : Type 1} → statement M
 lemoncolumn-hash-spec =
@@ -46,6 +46,6 @@ lemoncolumn-hash-spec =
     answer-code-requires
     returns
     hash-requires
-    hand-over-requires
+    hand-over-state-requires
     same-length
     returns-2)

@@ -1,0 +1,176 @@
+-- Request 3: Hash returns the whole final state. From demand 2's hashes, the outputs along a chain, and the last row of
+-- a batch (crate `exact`, proofs/Built.antt); for an edit from request 1.
+-- Assumes nothing.
+use mathlib.Core.Path.{_≡_, refl, sym, ap, ap₂, _∙_, subst, subst₂}
+use mathlib.Core.List.{List, _++_}
+use mathlib.Core.Logic.{_↔_}
+use Prim.Native.Nat.{ℕ, _+_, _*_, _-_, _<_}
+use native.Mathlib.Omega.{arith}
+use lib.ListN.{length, take, drop}
+use lib.Seq.{take-at, drop-at}
+use Rattle.words.specs.Words.{AllCanonical}
+use Rattle.numbers.specs.Numbers.{IsPermitted, tapWordBatches}
+use Rattle.refusals.specs.Refusals.{digest, digestWords, state, stateWords}
+use Rattle.refusals.specs.Answers.{after, stateAfter}
+use Rattle.refusals.specs.declared.Refusal.the-variants.{DestinationLength}
+use Rattle.refusals.specs.declared.Answer.{Answer}
+use Rattle.refusals.specs.declared.Answer.the-variants as answer
+use Rattle.refusals.specs.declared.Digest.{Digest}
+use Rattle.refusals.specs.declared.DigestAnswer.the-variants as four
+use Rattle.refusals.specs.declared.State.{State}
+use Rattle.refusals.specs.declared.StateAnswer.the-variants as final
+use Rattle.refusals.proofs.Laws.{digest-accepted, state-accepted}
+use Rattle.table.specs.Table.{tableTest, IsTable}
+use Rattle.table.proofs.Theorems.{test-sound, test-complete}
+use Rattle.hash.specs.Hash.{finalState, input, hash, tap, outputAt, chain}
+use Rattle.hash.specs.Answers.{hashTest, hashAnswer, chainTest, chainAnswer}
+use Rattle.hash.proofs.States.{finalState-state}
+use Rattle.hash.proofs.Answers.{hash-inputs, hash-passes, chain-inputs}
+use Rattle.trace.specs.Trace.{hashInput, trace, row}
+use Rattle.trace.specs.Answers.{buildTest, buildAnswer, buildLeaves}
+use Rattle.trace.proofs.Answers.{build-inputs}
+use Rattle.trace.proofs.TraceCells.{next-output, output-is-tap, next-tap-is-tap}
+use Rattle.trace.proofs.Theorems.{build-leaves}
+use Rattle.exact.specs.Exact.{IsListFor}
+use Rattle.exact.proofs.Built.{end-row}
+use Rattle.edit.specs.Edit.{altered}
+use Rattle.edit.specs.Answers.{editAnswer, editLeaves}
+use Rattle.export.specs.Calls.{hashNoRoom, hashCall}
+use Rattle.export.proofs.Answers.{hash-short, hash-answer}
+use Rattle.demands.specs.Request3.{Hashed, HasState, HasOutput, Ends, Request3}
+use Rattle.demands.proofs.Returned.{four-words, twelve-words}
+use Rattle.demands.proofs.Demand2.{demand-2}
+use Rattle.demands.proofs.Request1.{request-1}
+
+-- ---- Hash by itself
+accepts-exactly : (T words : List ℕ)
+    → ((s : State) × (hashAnswer T words ≡ final.Accepted s)) ↔ ((tableTest T ≡ answer.Accepted) × AllCanonical words)
+unfolding hashAnswer
+accepts-exactly T words = (
+  λ a.
+      let i = hash-inputs T words (state-accepted (hashTest T words) _ (a .0) (a .1) .0) in
+      (test-complete T (i .table), i .canonical),
+  λ h.
+      let passes = hash-passes T words (record { table = test-sound T (h .0); canonical = h .1 }) in
+      (last, ap (λ t. stateAfter t last) passes),
+)
+  where
+    last : State
+    last = state (finalState T (input (take 4 words) (drop 4 words)))
+
+hashes : (T a b : List ℕ) (s : State) → length a ≡ 4 → length b ≡ 4 → hashAnswer T (a ++ b) ≡ final.Accepted s
+    → Hashed T a b s
+unfolding hashAnswer hash
+hashes T a b s la lb e =
+    let last = finalState-state T (input a b) in
+    let cells : stateWords s ≡ finalState T (input a b) =
+    sym (ap stateWords (state-accepted (hashTest T (a ++ b)) _ s e .1))
+    ∙ ap₂ (λ x y. stateWords (state (finalState T (input x y)))) (take-at a b 4 la) (drop-at a b 4 la)
+    ∙ twelve-words (finalState T (input a b)) (last .size) in
+    record {
+      cells-are = cells;
+      canonical = subst AllCanonical (sym cells) (last .canonical);
+      first-four = ap (take 4) cells;
+    }
+
+-- ---- its call from another language
+call-without : (T words : List ℕ) (size : ℕ) (s : State) → (size ≡ 12 → ⊥)
+    → hashCall T words size ≡ stateAfter (after (tableTest T) (answer.Refused DestinationLength)) s
+unfolding hashCall hashNoRoom
+call-without T words size s short =
+    ap (λ t. stateAfter t last) (hash-short T words size short) ∙ same (tableTest T)
+  where
+    last : State
+    last = state (finalState T (input (take 4 words) (drop 4 words)))
+
+    -- a refusal has no state
+    same : (t : Answer) → let a = after t (answer.Refused DestinationLength) in stateAfter a last ≡ stateAfter a s
+    same answer.Accepted = refl
+    same (answer.Refused r) = refl
+
+-- ---- the hashes of a list
+module _ (T w : List ℕ) (k : ℕ) (table : IsTable T) (permitted : IsPermitted k) (size : length w ≡ 12 * k + 4)
+    (canonical : AllCanonical w) where
+  has-state : (h : ℕ) → h < 3 * k → HasState T w h (finalState T (hashInput T w h))
+  unfolding hashInput
+  has-state h l =
+      let a = output-is-tap T w k size canonical h in
+      let b = next-tap-is-tap T w k size canonical h l in
+      let r =
+      demand-2 .hashes T (outputAt T w h) (tap w (h + 1)) (test-complete T table) (a .size) (a .canonical) (b .size)
+      (b .canonical) in
+      (r .0, r .1, r .2)
+
+  has-output : (h : ℕ) → h < 3 * k → HasOutput T w h (outputAt T w (h + 1))
+  has-output h l =
+      let r = has-state h l in
+      (r .0, r .1, ap (take 4) (r .2) ∙ sym (next-output T w h))
+
+  -- the last output, as it is returned
+  returned : (d : Digest) → digest (chain T w k) ≡ d → HasOutput T w (3 * k - 1) (digestWords d)
+  unfolding chain
+  returned d e =
+      let last : 3 * k - 1 + 1 ≡ 3 * k = omega (arith, permitted .low) in
+      let words = four-words (outputAt T w (3 * k)) (output-is-tap T w k size canonical (3 * k) .size) in
+      subst (HasOutput T w (3 * k - 1))
+      (ap (outputAt T w) last ∙ sym words ∙ ap digestWords e)
+      (has-output (3 * k - 1) (omega (arith, permitted .low)))
+
+  ends : (t : List ℕ) (d : Digest) → t ≡ trace T w k → digest (chain T w k) ≡ d → Ends T w k t d
+  ends t d e f = record {
+    rows-31 = λ b l.
+        let shown = ap (λ s. row s (32 * b + 31)) e ∙ end-row T w k table size canonical b l in
+        subst (HasState T w (3 * b + 2)) (sym shown) (has-state (3 * b + 2) (omega arith));
+    output-is = returned d f;
+  }
+
+chains : (T w : List ℕ) (d : Digest) → chainAnswer T w ≡ four.Accepted d
+    → (h : ℕ) → h < 3 * tapWordBatches (length w) → HasOutput T w h (outputAt T w (h + 1))
+unfolding chainAnswer
+chains T w d e =
+    let i = chain-inputs T w (digest-accepted (chainTest T w) _ d e .0) in
+    has-output T w (tapWordBatches (length w)) (i .table) (i .permitted) (i .size) (i .canonical)
+
+chain-output : (T w : List ℕ) (d : Digest) → chainAnswer T w ≡ four.Accepted d
+    → HasOutput T w (3 * tapWordBatches (length w) - 1) (digestWords d)
+unfolding chainAnswer
+chain-output T w d e =
+    let a = digest-accepted (chainTest T w) _ d e in
+    let i = chain-inputs T w (a .0) in
+    returned T w (tapWordBatches (length w)) (i .table) (i .permitted) (i .size) (i .canonical) d (a .1)
+
+builds : (T w old : List ℕ) (d : Digest) → buildAnswer T w (length old) ≡ four.Accepted d
+    → (length old ≡ 384 * tapWordBatches (length w)) × Ends T w (tapWordBatches (length w)) (buildLeaves T w old) d
+unfolding buildAnswer
+builds T w old d e =
+    let k = tapWordBatches (length w) in
+    let a = digest-accepted (buildTest T w (length old)) _ d e in
+    let i = build-inputs T w (length old) (a .0) in
+    let left = build-leaves T w k (i .table) (i .permitted) (i .taps) (i .canonical) old (i .room) in
+    (i .room, ends T w k (i .table) (i .permitted) (i .taps) (i .canonical) (buildLeaves T w old) d left (a .1))
+
+-- an edit is a build of the altered list
+edits : (T t claim : List ℕ) (n : ℕ) (new : List ℕ) (d : Digest) → length claim ≡ 4 → length new ≡ 4
+    → editAnswer T t claim n new ≡ four.Accepted d
+    → (k : ℕ) × (w : List ℕ) × IsListFor T t claim k w × Ends T (altered w n new) k (editLeaves T t claim n new) d
+edits T t claim n new d four′ four″ e =
+    let r = request-1 .edits T t claim n new d four′ four″ e in
+    let k = r .0 in
+    let w = r .1 in
+    let built = r .2 .as-built t (r .2 .size) in
+    let b = builds T (altered w n new) t d (built .0) in
+    let batches : tapWordBatches (length (altered w n new)) ≡ k = omega (arith, b .0, r .2 .size) in
+    (k, w, r .2 .stands-for, subst₂ (λ m s. Ends T (altered w n new) m s d) batches (built .1) (b .1))
+
+-- ---- the request
+pub request-3 : Request3
+request-3 = record {
+  accepts-exactly = accepts-exactly;
+  hashes = hashes;
+  call-with-room = λ T words. sym (hash-answer 12 refl T words);
+  call-without = call-without;
+  chains = chains;
+  chain-output = chain-output;
+  builds = λ T w old d e. builds T w old d e .1;
+  edits = edits;
+}
