@@ -43,6 +43,11 @@ use Rattle.demands.proofs.Demand2.{demand-2}
 use Rattle.demands.proofs.Request1.{request-1}
 
 -- ---- Hash by itself
+
+-- what it returns for eight words
+abbrev returned : List ℕ → List ℕ → State
+returned T words = state (finalState T (input (take 4 words) (drop 4 words)))
+
 accepts-exactly : (T words : List ℕ)
     → ((s : State) × (hashAnswer T words ≡ final.Accepted s)) ↔ ((tableTest T ≡ answer.Accepted) × AllCanonical words)
 unfolding hashAnswer
@@ -52,11 +57,8 @@ accepts-exactly T words = (
       (test-complete T (i .table), i .canonical),
   λ h.
       let passes = hash-passes T words (record { table = test-sound T (h .0); canonical = h .1 }) in
-      (last, ap (λ t. stateAfter t last) passes),
+      (returned T words, ap (λ t. stateAfter t (returned T words)) passes),
 )
-  where
-    last : State
-    last = state (finalState T (input (take 4 words) (drop 4 words)))
 
 hashes : (T a b : List ℕ) (s : State) → length a ≡ 4 → length b ≡ 4 → hashAnswer T (a ++ b) ≡ final.Accepted s
     → Hashed T a b s
@@ -78,13 +80,11 @@ call-without : (T words : List ℕ) (size : ℕ) (s : State) → (size ≡ 12 �
     → hashCall T words size ≡ stateAfter (after (tableTest T) (answer.Refused DestinationLength)) s
 unfolding hashCall hashNoRoom
 call-without T words size s short =
-    ap (λ t. stateAfter t last) (hash-short T words size short) ∙ same (tableTest T)
+    ap (λ t. stateAfter t (returned T words)) (hash-short T words size short) ∙ same (tableTest T)
   where
-    last : State
-    last = state (finalState T (input (take 4 words) (drop 4 words)))
-
     -- a refusal has no state
-    same : (t : Answer) → let a = after t (answer.Refused DestinationLength) in stateAfter a last ≡ stateAfter a s
+    same : (t : Answer) → let a = after t (answer.Refused DestinationLength) in
+        stateAfter a (returned T words) ≡ stateAfter a s
     same answer.Accepted = refl
     same (answer.Refused r) = refl
 
@@ -107,9 +107,9 @@ module _ (T w : List ℕ) (k : ℕ) (table : IsTable T) (permitted : IsPermitted
       (r .0, r .1, ap (take 4) (r .2) ∙ sym (next-output T w h))
 
   -- the last output, as it is returned
-  returned : (d : Digest) → digest (chain T w k) ≡ d → HasOutput T w (3 * k - 1) (digestWords d)
+  output-returned : (d : Digest) → digest (chain T w k) ≡ d → HasOutput T w (3 * k - 1) (digestWords d)
   unfolding chain
-  returned d e =
+  output-returned d e =
       let last : 3 * k - 1 + 1 ≡ 3 * k = omega (arith, permitted .low) in
       let words = four-words (outputAt T w (3 * k)) (output-is-tap T w k size canonical (3 * k) .size) in
       subst (HasOutput T w (3 * k - 1))
@@ -121,7 +121,7 @@ module _ (T w : List ℕ) (k : ℕ) (table : IsTable T) (permitted : IsPermitted
     rows-31 = λ b l.
         let shown = ap (λ s. row s (32 * b + 31)) e ∙ end-row T w k table size canonical b l in
         subst (HasState T w (3 * b + 2)) (sym shown) (has-state (3 * b + 2) (omega arith));
-    output-is = returned d f;
+    output-is = output-returned d f;
   }
 
 chains : (T w : List ℕ) (d : Digest) → chainAnswer T w ≡ four.Accepted d
@@ -137,7 +137,7 @@ unfolding chainAnswer
 chain-output T w d e =
     let a = digest-accepted (chainTest T w) _ d e in
     let i = chain-inputs T w (a .0) in
-    returned T w (tapWordBatches (length w)) (i .table) (i .permitted) (i .size) (i .canonical) d (a .1)
+    output-returned T w (tapWordBatches (length w)) (i .table) (i .permitted) (i .size) (i .canonical) d (a .1)
 
 builds : (T w old : List ℕ) (d : Digest) → buildAnswer T w (length old) ≡ four.Accepted d
     → (length old ≡ 384 * tapWordBatches (length w)) × Ends T w (tapWordBatches (length w)) (buildLeaves T w old) d
