@@ -96,7 +96,7 @@ enum lemoncolumn_refusal {
     LEMONCOLUMN_DESTINATION_LENGTH = 8, /* a destination not of the exact length */
     LEMONCOLUMN_CLAIM_WORD = 9,         /* claim word not canonical: its lowest index */
     LEMONCOLUMN_TRACE_WORD = 10,        /* trace word not canonical: its lowest index */
-    LEMONCOLUMN_CONSTRAINT = 11,        /* a constraint fails: the row in the whole trace, the constraint, the tests walked */
+    LEMONCOLUMN_CONSTRAINT = 11,        /* a constraint fails: the row in the whole trace, the constraint, the test's place in the order */
     LEMONCOLUMN_FILE_LENGTH = 12,       /* file below 4 bytes, or not 144k + 100 */
     LEMONCOLUMN_WRONG_KIND = 13,        /* wrong kind: index of the 32-bit word */
     LEMONCOLUMN_WRONG_VALUE = 14,       /* spare bits or k not permitted: index 0; element not canonical: index of its first 32-bit word */
@@ -144,7 +144,8 @@ static inline uint64_t lemoncolumn_index(lemoncolumn_code code)
     return code >> 36;
 }
 
-/* The same bits: the tests walked, of refusal 11, and of an accepted check or read-off. */
+/* The same bits: the tests walked, of an accepted check or read-off, which are all; and of refusal 11, the failing one included:
+ * its place in the order of the tests, counted from 1. All tests before it hold. */
 static inline uint64_t lemoncolumn_tests(lemoncolumn_code code)
 {
     return code >> 36;

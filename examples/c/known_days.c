@@ -5,12 +5,13 @@
 #include <inttypes.h>
 #include <stdio.h>
 
-/* The refusal, then its place if there is one. */
+/* The refusal, then what is returned with it: for 11 row, constraint and the failing test's place in the order; else an index, if
+ * there is one. */
 static void show_refusal(lemoncolumn_code code)
 {
     printf("refused %d", (int)lemoncolumn_number(code));
     if (lemoncolumn_number(code) == LEMONCOLUMN_CONSTRAINT)
-        printf(" %" PRIu64 " %" PRIu64, lemoncolumn_row(code), lemoncolumn_constraint(code));
+        printf(" %" PRIu64 " %" PRIu64 ", test %" PRIu64, lemoncolumn_row(code), lemoncolumn_constraint(code), lemoncolumn_tests(code));
     else if (lemoncolumn_has_index(code))
         printf(" %" PRIu64, lemoncolumn_index(code));
     printf("\n");
@@ -125,6 +126,9 @@ static void traces(const uint64_t *z)
                            LEMONCOLUMN_DIGEST_WORDS));
     show_tests("checked", lemoncolumn_check(z, LEMONCOLUMN_TABLE_WORDS, trace, LEMONCOLUMN_TRACE_WORDS(1), 0, 0, 0, 0));
     show_tests("claim (1,0,0,0)", lemoncolumn_check(z, LEMONCOLUMN_TABLE_WORDS, trace, LEMONCOLUMN_TRACE_WORDS(1), 1, 0, 0, 0));
+    trace[12 * 31 + 5] = 1;
+    show_tests("row 31 column 5", lemoncolumn_check(z, LEMONCOLUMN_TABLE_WORDS, trace, LEMONCOLUMN_TRACE_WORDS(1), 0, 0, 0, 0));
+    trace[12 * 31 + 5] = 0;
     trace[12 * 11 + 5] = 1;
     show_tests("row 11 column 5", lemoncolumn_check(z, LEMONCOLUMN_TABLE_WORDS, trace, LEMONCOLUMN_TRACE_WORDS(1), 0, 0, 0, 0));
     for (int row = 11; row <= 20; row++)

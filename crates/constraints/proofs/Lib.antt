@@ -7,3 +7,4 @@ pub mod TestList
 pub mod WalkLaws
 pub mod ForwardBack
 pub mod TestOrder
+pub mod TestPlace

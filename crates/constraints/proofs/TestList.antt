@@ -3,7 +3,7 @@
 use mathlib.Core.Path.{_≡_, refl, sym, ap, _∙_}
 use mathlib.Core.Bool.{Bool, true, false}
 use mathlib.Core.Logic.{_⊎_, inl, inr, _↔_}
-use mathlib.Core.List.{List, _++_, List·Memᴰ, List·Memᴰ·cases-cons, List·Memᴰ·append-cases}
+use mathlib.Core.List.{List, _∷_, _++_, List·Memᴰ, List·Memᴰ·cases-cons, List·Memᴰ·append-cases}
 use mathlib.Core.List.{List·Memᴰ·not-nil, Memᴰ·append-left, Memᴰ·append-right, Memᴰ·cast}
 use Prim.Native.Nat.{ℕ, zero, suc, _+_, _*_, _≤_, _<_}
 use native.Mathlib.Decide.{ℕ-discrete}
@@ -11,6 +11,10 @@ use native.Mathlib.Omega.{arith}
 use Rattle.constraints.specs.Constraints.{Test, keep, applies, rowTests, testsFrom, tests}
 use Rattle.constraints.proofs.Families.{Applies, applies-cases, zero-columns, new-zeros, starts}
 use Rattle.constraints.proofs.Families.{output-kept, goes-on, ends, joins, claims}
+
+-- ---- where a list is cut before a test, the test is one of it
+pub in-middle : (x : Test) (before after : List Test) → List·Memᴰ x (before ++ x ∷ after)
+in-middle x before after = Memᴰ·append-right before (List·Memᴰ.List·Memᴰ·head refl)
 
 -- ---- a test of the list is one of a row of the trace, and its constraint applies there
 pub in-row : (k i c n : ℕ) (x : Test) → List·Memᴰ x (rowTests k i c n)

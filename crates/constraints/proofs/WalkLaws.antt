@@ -3,7 +3,7 @@
 use mathlib.Core.Path.{_≡_, refl, sym, ap, _∙_, subst, subst₃}
 use mathlib.Core.Bool.{Bool, true, false, true≢false}
 use mathlib.Core.Logic.{_⊎_, inl, inr}
-use mathlib.Core.List.{List, [], _∷_, _++_, List·Memᴰ, List·Memᴰ·cases-cons, List·Memᴰ·not-nil, Memᴰ·append-right}
+use mathlib.Core.List.{List, [], _∷_, _++_, List·Memᴰ, List·Memᴰ·cases-cons, List·Memᴰ·not-nil}
 use Prim.Native.Nat.{ℕ, suc, _+_}
 use native.Mathlib.Omega.{arith}
 use lib.ListN.{length}
@@ -15,6 +15,7 @@ use Rattle.refusals.specs.Answers.{unless}
 use Rattle.refusals.proofs.Laws.{not-accepted}
 use Rattle.constraints.specs.Constraints.{Test, holds, tests, walk, constraintTest}
 use Rattle.constraints.specs.FirstFailing.{AllHold, IsFirstFailing}
+use Rattle.constraints.proofs.TestList.{in-middle}
 
 module _ (T t claim : List ℕ) where
   none-to-hold : AllHold T t claim []
@@ -67,9 +68,7 @@ module _ (T t claim : List ℕ) where
   pub not-both : (xs : List Test) (i c n : ℕ) → AllHold T t claim xs → IsFirstFailing T t claim xs i c n → ⊥
   not-both xs i c n a f =
       true≢false
-      (sym (a x
-      (subst (λ l. List·Memᴰ x l) (sym (f .order)) (Memᴰ·append-right (f .before) (List·Memᴰ.List·Memᴰ·head refl))))
-      ∙ f .fails)
+      (sym (a x (subst (λ l. List·Memᴰ x l) (sym (f .order)) (in-middle x (f .before) (f .after)))) ∙ f .fails)
     where
       x : Test
       x = record { at = i; number = c }

@@ -1,11 +1,13 @@
--- What the walk decides: that every test holds, or which is the first that fails (document 01, "The 52 constraints").
+-- What the walk decides: that every test holds, or which is the first that fails (document 01, "The 52 constraints");
+-- and the places of the tests in their order, counted from 1 (document 02, U4).
 -- Assumes nothing.
 use mathlib.Core.Path.{_≡_}
 use mathlib.Core.Bool.{true, false}
 use mathlib.Core.List.{List, _∷_, _++_, List·Memᴰ}
 use Prim.Native.Nat.{ℕ, _+_}
 use lib.ListN.{length}
-use Rattle.constraints.specs.Constraints.{Test, holds}
+use Rattle.lists.specs.Lists.{choose, sum}
+use Rattle.constraints.specs.Constraints.{Test, applies, holds}
 
 -- every test of the list holds
 abbrev pub AllHold : List ℕ → List ℕ → List ℕ → List Test → Type 0
@@ -19,3 +21,13 @@ pub record IsFirstFailing (T t claim : List ℕ) (tests : List Test) (i q n : �
   pub passed : AllHold T t claim before
   pub fails : holds T t claim i q ≡ false
   pub place : n ≡ length before + 1
+
+-- ---- places: how many tests of a trace of k batches stand in the order up to a test, itself included
+
+-- the tests of row i among the constraints 1 to q
+abbrev pub testsUpTo : ℕ → ℕ → ℕ → ℕ
+testsUpTo k i q = sum q (λ n. choose (applies k i (n + 1)) 1 0)
+
+-- constraint q at row i: all tests of the rows before, and those of its row up to its own number
+unfoldable pub placeOf : ℕ → ℕ → ℕ → ℕ
+placeOf k i q = sum i (λ n. testsUpTo k n 52) + testsUpTo k i q

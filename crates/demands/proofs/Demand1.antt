@@ -102,15 +102,15 @@ check-numbers : (T t claim : List ℕ) → AnswerEnds (OneOf (numbers check)) (c
 check-numbers T t claim =
     let ns = numbers check in
     ends.check-ends (OneOf ns) (table-causes ns refl refl refl) T t claim (one-of 7 ns refl) (λ i h. one-of 9 ns refl)
-    (λ k s p i h. one-of 10 ns refl) (λ k p i c n f. one-of 11 ns refl)
+    (λ k s p i h. one-of 10 ns refl) (λ h i c n f. one-of 11 ns refl)
 
 read-off-numbers : (T t claim : List ℕ) (size : ℕ)
     → AnswerEnds (OneOf (numbers read-off)) (readOffTest T t claim size)
 read-off-numbers T t claim size =
     let ns = numbers read-off in
     ends.read-off-ends (OneOf ns) (table-causes ns refl refl refl) T t claim (one-of 7 ns refl)
-    (λ i h. one-of 9 ns refl) (λ k s p i h. one-of 10 ns refl) (λ k p i c n f. one-of 11 ns refl) size
-    (one-of 8 ns refl)
+    (λ i h. one-of 9 ns refl) (λ k s p i h. one-of 10 ns refl) size (one-of 8 ns refl)
+    (λ s h i c n f. one-of 11 ns refl)
 
 pack-numbers : (w claim : List ℕ) (size : ℕ) → AnswerEnds (OneOf (numbers pack)) (packTest w claim size)
 pack-numbers w claim size =
@@ -144,8 +144,8 @@ numbered o r (edit-refuses T t claim n new q e) =
     let ns = numbers edit in
     subst (AnswerEnds (OneOf ns)) (digest-refused (editTest T t claim n new) _ q e)
     (ends.edit-ends (OneOf ns) (table-causes ns refl refl refl) T t claim (one-of 7 ns refl) (λ i h. one-of 9 ns refl)
-    (λ k s p i h. one-of 10 ns refl) (λ k p i c m f. one-of 11 ns refl) n new (one-of 15 ns refl)
-    (λ i h. one-of 6 ns refl))
+    (λ k s p i h. one-of 10 ns refl) n new (one-of 15 ns refl) (λ i h. one-of 6 ns refl)
+    (λ l a h i c m f. one-of 11 ns refl))
 numbered o r (pack-refuses w claim size q e) =
     subst (AnswerEnds (OneOf (numbers pack))) e (pack-numbers w claim size)
 numbered o r (unpack-refuses file size q e) =
@@ -181,7 +181,7 @@ unfolding answerCode testsCode code-of
 answer-none answer.Accepted = refl
 answer-none (answer.Refused r) = refl
 
-digest-none : (t : Answer) (d : Digest) → digestCode (digestAfter t d) ≡ testsCode (testsAfter t 0)
+pub digest-none : (t : Answer) (d : Digest) → digestCode (digestAfter t d) ≡ testsCode (testsAfter t 0)
 unfolding digestCode testsCode code-of
 digest-none answer.Accepted d = refl
 digest-none (answer.Refused r) d = refl
@@ -390,8 +390,8 @@ edit-call T t t′ output output′ c0 c1 c2 c3 n w0 w1 w2 w3 code h =
     digest-says code ns (EditResult T t n new t′ output′) ((t′ ≡ t) × (output′ ≡ output)) tested d (h .four .coded)
     (bits.edit-bits T t claim refl n new (length output) refl)
     (ends.edit-call-ends (OneOf ns) (table-causes ns refl refl refl) T t claim (one-of 7 ns refl)
-    (λ i l. one-of 9 ns refl) (λ k s p i l. one-of 10 ns refl) (λ k p i c m f. one-of 11 ns refl) n new
-    (one-of 15 ns refl) (λ i l. one-of 6 ns refl) (length output) (one-of 8 ns refl))
+    (λ i l. one-of 9 ns refl) (λ k s p i l. one-of 10 ns refl) n new (one-of 15 ns refl) (λ i l. one-of 6 ns refl)
+    (length output) (one-of 8 ns refl) (λ s l a h i c m f. one-of 11 ns refl))
     (λ e. (let i = edit-call-inputs T t claim n new (length output) e in record {
       none = refl;
       k = k;

@@ -4,7 +4,7 @@
 use mathlib.Core.Path.{_≡_}
 use mathlib.Core.List.{List}
 use mathlib.Core.Logic.{_⊎_, _↔_}
-use Prim.Native.Nat.{ℕ, _+_, _*_}
+use Prim.Native.Nat.{ℕ, _*_}
 use lib.ListN.{length}
 use Rattle.words.specs.Words.{AllCanonical}
 use Rattle.numbers.specs.Numbers.{tapWords, traceWords, IsPermitted}
@@ -35,7 +35,7 @@ pub record Exact (T t claim : List ℕ) (k : ℕ) : Type 0 where
       → IsListFor T t claim k (readOffLeaves T t claim old)
   -- an accepted trace reports 372 × k tests, the whole of the order
   pub whole-order : (n : ℕ) → checkAnswer T t claim ≡ Accepted n → (n ≡ 372 * k) × (n ≡ length (tests k))
-  -- every other trace is refused with 11, with row and constraint of the first test that fails in that order
+  -- every other trace is refused with 11, with row, constraint and place of the first test that fails in that order
   pub refused-by-11 : (checkAnswer T t claim ≡ Accepted (372 * k))
       ⊎ ((i : ℕ) × (q : ℕ) × (n : ℕ) × (checkAnswer T t claim ≡ Refused (Constraint (record { 0 = i }) q n))
       × IsFirstFailing T t claim (tests k) i q n)

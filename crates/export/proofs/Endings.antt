@@ -7,12 +7,12 @@ use mathlib.Core.Bool.{Bool, true, false, _&&_}
 use mathlib.Core.List.{List}
 use Prim.Native.Nat.{ℕ, zero, suc, _+_, _*_, _<_, _≤_}
 use native.Mathlib.Omega.{arith}
-use borrow.Author.Tests.{eqb-true, eqb-false}
+use borrow.Author.Tests.{eqb-true, eqb-false, leb-true}
 use lib.Dec.{eqb, leb, ltb}
 use lib.ListN.{length}
 use Rattle.field.specs.Field.{P}
-use Rattle.words.specs.Words.{firstBad, canonicalWords}
-use Rattle.words.proofs.Laws.{within, bad-test}
+use Rattle.words.specs.Words.{AllCanonical, firstBad, canonicalWords}
+use Rattle.words.proofs.Laws.{within, bad-test, good-test}
 use Rattle.numbers.specs.Numbers.{width, IsPermitted, mostBatches, permitted}
 use Rattle.numbers.specs.Numbers.{isTapLength, tapWordBatches, isTraceLength, traceWordBatches}
 use Rattle.numbers.proofs.Laws.{tap-length-sound, trace-length-sound}
@@ -32,6 +32,7 @@ use Rattle.constraints.specs.Constraints.{tests, walk, constraintTest}
 use Rattle.constraints.specs.FirstFailing.{IsFirstFailing}
 use Rattle.constraints.proofs.WalkLaws.{Ends, passes, stops, walk-ends}
 use Rattle.checker.specs.Answers.{checkTest}
+use Rattle.checker.proofs.Answers.{CheckInputs}
 use Rattle.readoff.specs.Answers.{readOffTest}
 use Rattle.edit.specs.Answers.{editTest}
 use Rattle.elements.specs.Words.{kindOf, wordAt}
@@ -75,21 +76,21 @@ module _ (Q : Refusal → Type 0) (causes : TableCauses Q) where
 
   -- ---- Hash: 1, 2, 4, 6; from another language 1, 2, 4, 8, 6
   module _ (T words : List ℕ) (q6 : (i : ℕ) → i < length words → Q (TapWord i)) where
-    words-end : (rest : Answer) → AnswerEnds Q rest
+    words-end : (rest : Answer) → (AllCanonical words → AnswerEnds Q rest)
         → AnswerEnds Q (unless (canonicalWords words) (TapWord (firstBad words)) rest)
     words-end rest r =
         unless-ends Q (canonicalWords words) (TapWord (firstBad words)) rest
-        (λ e. q6 (firstBad words) (bad-test words e)) λ e. r
+        (λ e. q6 (firstBad words) (bad-test words e)) λ e. r (good-test words e)
 
     pub hash-ends : AnswerEnds Q (hashTest T words)
     unfolding hashTest
-    hash-ends = after-ends Q (tableTest T) _ (table-ends T) (λ e. words-end Accepted tt)
+    hash-ends = after-ends Q (tableTest T) _ (table-ends T) (λ e. words-end Accepted (λ c. tt))
 
     pub hash-call-ends : (size : ℕ) → Q DestinationLength → AnswerEnds Q (hashCallTest T words size)
     unfolding hashCallTest
     hash-call-ends size q8 =
         after-ends Q (tableTest T) _ (table-ends T) λ e.
-        unless-ends Q (eqb size width) DestinationLength _ (λ f. q8) λ f. words-end Accepted tt
+        unless-ends Q (eqb size width) DestinationLength _ (λ f. q8) λ f. words-end Accepted (λ c. tt)
 
   -- ---- Chain: 1, 2, 4, 5, 6, from another language 1, 2, 4, 5, 8, 6; and Build: 1, 2, 4, 5, 8, 6
   module _ (T w : List ℕ) (q5 : Q TapLength)
@@ -103,7 +104,7 @@ module _ (Q : Refusal → Type 0) (causes : TableCauses Q) where
 
     pub chain-ends : AnswerEnds Q (chainTest T w)
     unfolding chainTest
-    chain-ends = after-ends Q (tableTest T) _ (table-ends T) (λ e. taps-end _ (λ q. words-end T w q Accepted tt))
+    chain-ends = after-ends Q (tableTest T) _ (table-ends T) (λ e. taps-end _ (λ q. words-end T w q Accepted (λ c. tt)))
 
     room-ends : Q DestinationLength → (room : Bool)
         → AnswerEnds Q (unless (isTapLength mostBatches (length w)) TapLength
@@ -111,7 +112,7 @@ module _ (Q : Refusal → Type 0) (causes : TableCauses Q) where
         (unless (canonicalWords w) (TapWord (firstBad w)) Accepted)))
     room-ends q8 room =
         taps-end _ λ q.
-        unless-ends Q room DestinationLength _ (λ f. q8) λ f. words-end T w q Accepted tt
+        unless-ends Q room DestinationLength _ (λ f. q8) λ f. words-end T w q Accepted (λ c. tt)
 
     pub chain-call-ends : (size : ℕ) → Q DestinationLength → AnswerEnds Q (chainCallTest T w size)
     unfolding chainCallTest
@@ -130,75 +131,93 @@ module _ (Q : Refusal → Type 0) (causes : TableCauses Q) where
         room-ends q8 (eqb size 4 && eqb rows (384 * tapWordBatches (length w)))
 
   -- ---- Check: 1, 2, 4, 7, 9, 10, 11; Read-off: 1, 2, 4, 7, 8, 9, 10, 11; and Edit: 1, 2, 4, 7, 15, 9, 10, 6, 11, from
-  -- another language 1, 2, 4, 7, 15, 8, 9, 10, 6, 11
+  -- another language 1, 2, 4, 7, 15, 8, 9, 10, 6, 11. What is to be shown of 11 may use all that was tested before it
   module _ (T t claim : List ℕ) (q7 : Q TraceLength) (q9 : (i : ℕ) → i < length claim → Q (ClaimWord i))
-      (q10 : (k : ℕ) → length t ≡ 384 * k → IsPermitted k → (i : ℕ) → i < length t → Q (TraceWord i))
-      (q11 : (k : ℕ) → IsPermitted k → (i c n : ℕ) → IsFirstFailing T t claim (tests k) i c n
-      → Q (Constraint (record { 0 = i }) c n)) where
-    constraints-end : (k : ℕ) → IsPermitted k → AnswerEnds Q (constraintTest T t claim k)
+      (q10 : (k : ℕ) → length t ≡ 384 * k → IsPermitted k → (i : ℕ) → i < length t → Q (TraceWord i)) where
+    -- the batches of a trace whose length passes
+    abbrev k : ℕ
+    k = traceWordBatches (length t)
+
+    -- what is left to be shown of 11
+    abbrev Eleven : Type 0
+    Eleven = (i c n : ℕ) → IsFirstFailing T t claim (tests k) i c n → Q (Constraint (record { 0 = i }) c n)
+
+    constraints-end : Eleven → AnswerEnds Q (constraintTest T t claim k)
     unfolding constraintTest
-    constraints-end k p = go (walk T t claim (tests k) 0) (walk-ends T t claim (tests k) 0)
+    constraints-end q11 = go (walk T t claim (tests k) 0) (walk-ends T t claim (tests k) 0)
       where
         go : (a : Answer) → Ends T t claim (tests k) 0 a → AnswerEnds Q a
         go a (passes h) = tt
         go a (stops i c place f m e) =
             let n : place ≡ m = omega arith in
-            subst (λ x. Q (Constraint (record { 0 = i }) c x)) n (q11 k p i c place f)
+            subst (λ x. Q (Constraint (record { 0 = i }) c x)) n (q11 i c place f)
 
-    -- the words of the claim and of the trace
-    judged-end : (k : ℕ) → length t ≡ 384 * k → IsPermitted k → (rest : Answer) → AnswerEnds Q rest
-        → AnswerEnds Q (unless (canonicalWords claim) (ClaimWord (firstBad claim))
-        (unless (canonicalWords t) (TraceWord (firstBad t)) rest))
-    judged-end k s p rest r =
-        unless-ends Q (canonicalWords claim) (ClaimWord (firstBad claim)) _
-        (λ e. q9 (firstBad claim) (bad-test claim e)) λ e.
-        unless-ends Q (canonicalWords t) (TraceWord (firstBad t)) rest
-        (λ f. q10 k s p (firstBad t) (bad-test t f)) λ f. r
+    -- what the tests of the table and of the trace's length leave
+    abbrev Begun : Type 0
+    Begun = (tableTest T ≡ Accepted) × (length t ≡ 384 * k) × IsPermitted k
 
-    -- the batches of a trace whose length passes
-    abbrev k : ℕ
-    k = traceWordBatches (length t)
-
-    trace-ends : (rest : Answer) → (length t ≡ 384 * k → IsPermitted k → AnswerEnds Q rest)
+    trace-ends : (rest : Answer) → (Begun → AnswerEnds Q rest)
         → AnswerEnds Q (after (tableTest T) (unless (isTraceLength mostBatches (length t)) TraceLength rest))
     trace-ends rest n =
         after-ends Q (tableTest T) _ (table-ends T) λ e.
         unless-ends Q (isTraceLength mostBatches (length t)) TraceLength rest (λ f. q7) λ f.
         let s = trace-length-sound mostBatches (length t) f in
-        n (s .0) (s .1)
+        n (e, s .0, s .1)
 
-    pub check-ends : AnswerEnds Q (checkTest T t claim)
+    -- then the words of the claim and of the trace
+    judged-end : Begun → (rest : Answer) → (CheckInputs T t claim k → AnswerEnds Q rest)
+        → AnswerEnds Q (unless (canonicalWords claim) (ClaimWord (firstBad claim))
+        (unless (canonicalWords t) (TraceWord (firstBad t)) rest))
+    judged-end b rest r =
+        unless-ends Q (canonicalWords claim) (ClaimWord (firstBad claim)) _
+        (λ e. q9 (firstBad claim) (bad-test claim e)) λ e.
+        unless-ends Q (canonicalWords t) (TraceWord (firstBad t)) rest
+        (λ f. q10 k (b .1) (b .2) (firstBad t) (bad-test t f)) λ f.
+        r (record {
+          table = table.test-sound T (b .0);
+          permitted = b .2;
+          size = b .1;
+          claim-canonical = good-test claim e;
+          canonical = good-test t f;
+        })
+
+    pub check-ends : (CheckInputs T t claim k → Eleven) → AnswerEnds Q (checkTest T t claim)
     unfolding checkTest
-    check-ends = trace-ends _ λ s p. judged-end k s p _ (constraints-end k p)
+    check-ends q11 = trace-ends _ λ b. judged-end b _ λ i. constraints-end (q11 i)
 
-    pub read-off-ends : (size : ℕ) → Q DestinationLength → AnswerEnds Q (readOffTest T t claim size)
+    pub read-off-ends : (size : ℕ) → Q DestinationLength → (size ≡ 12 * k + 4 → CheckInputs T t claim k → Eleven)
+        → AnswerEnds Q (readOffTest T t claim size)
     unfolding readOffTest
-    read-off-ends size q8 =
-        trace-ends _ λ s p.
+    read-off-ends size q8 q11 =
+        trace-ends _ λ b.
         unless-ends Q (eqb size (12 * k + 4)) DestinationLength _ (λ g. q8) λ g.
-        judged-end k s p _ (constraints-end k p)
+        judged-end b _ λ i. constraints-end (q11 (eqb-true size (12 * k + 4) g) i)
 
     -- n is the number of the tap, new the new one
     module _ (n : ℕ) (new : List ℕ) (q15 : Q NoSuchTap) (q6 : (i : ℕ) → i < length new → Q (TapWord i)) where
-      edited-end : length t ≡ 384 * k → IsPermitted k
+      edited-end : Begun → (AllCanonical new → CheckInputs T t claim k → Eleven)
           → AnswerEnds Q (unless (canonicalWords claim) (ClaimWord (firstBad claim))
           (unless (canonicalWords t) (TraceWord (firstBad t))
           (unless (canonicalWords new) (TapWord (firstBad new))
           (constraintTest T t claim k))))
-      edited-end s p = judged-end k s p _ (words-end T new q6 _ (constraints-end k p))
+      edited-end b q11 = judged-end b _ λ i. words-end T new q6 _ λ c. constraints-end (q11 c i)
 
-      pub edit-ends : AnswerEnds Q (editTest T t claim n new)
+      pub edit-ends : (n ≤ 3 * k → AllCanonical new → CheckInputs T t claim k → Eleven)
+          → AnswerEnds Q (editTest T t claim n new)
       unfolding editTest
-      edit-ends =
-          trace-ends _ λ s p.
-          unless-ends Q (leb n (3 * k)) NoSuchTap _ (λ g. q15) λ g. edited-end s p
+      edit-ends q11 =
+          trace-ends _ λ b.
+          unless-ends Q (leb n (3 * k)) NoSuchTap _ (λ g. q15) λ g. edited-end b (q11 (leb-true n (3 * k) g))
 
-      pub edit-call-ends : (size : ℕ) → Q DestinationLength → AnswerEnds Q (editCallTest T t claim n new size)
+      pub edit-call-ends : (size : ℕ) → Q DestinationLength
+          → (size ≡ 4 → n ≤ 3 * k → AllCanonical new → CheckInputs T t claim k → Eleven)
+          → AnswerEnds Q (editCallTest T t claim n new size)
       unfolding editCallTest
-      edit-call-ends size q8 =
-          trace-ends _ λ s p.
+      edit-call-ends size q8 q11 =
+          trace-ends _ λ b.
           unless-ends Q (leb n (3 * k)) NoSuchTap _ (λ g. q15) λ g.
-          unless-ends Q (eqb size 4) DestinationLength _ (λ h. q8) λ h. edited-end s p
+          unless-ends Q (eqb size 4) DestinationLength _ (λ h. q8) λ h.
+          edited-end b (q11 (eqb-true size 4 h) (leb-true n (3 * k) g))
 
 -- ---- Pack: 5, 8, 9, 6
 pub pack-ends : (Q : Refusal → Type 0) (taps claim : List ℕ) (size : ℕ) → Q TapLength → Q DestinationLength

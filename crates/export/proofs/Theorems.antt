@@ -1,22 +1,23 @@
 -- What a call returns says all of its answer: number and values are read back from the code, for every input.
 -- Assumes nothing.
-use mathlib.Core.Path.{_≡_, refl, sym, ap, subst, _∙_}
-use mathlib.Core.List.{List, _∷_, List·Memᴰ, Memᴰ·append-right}
+use mathlib.Core.Path.{_≡_, sym, ap, subst, _∙_}
+use mathlib.Core.List.{List, _∷_, List·Memᴰ}
 use Prim.Native.Nat.{ℕ, _+_, _*_, _^_, _<_}
 use native.Mathlib.Omega.{arith}
 use lib.Dec.{lit<}
 use lib.ListN.{length, length-append}
-use Rattle.numbers.specs.Numbers.{IsPermitted}
+use Rattle.numbers.specs.Numbers.{IsPermitted, traceWordBatches}
 use Rattle.refusals.specs.Refusals.{indexed, alone}
 use Rattle.constraints.specs.Constraints.{Test, tests}
 use Rattle.constraints.specs.FirstFailing.{IsFirstFailing}
 use Rattle.constraints.proofs.Families.{applies-cases}
-use Rattle.constraints.proofs.TestList.{number-range, test-list}
+use Rattle.constraints.proofs.TestList.{in-middle, number-range, test-list}
 use Rattle.constraints.proofs.TestCount.{length-tests}
 use Rattle.refusals.specs.declared.Answer.{Answer}
 use Rattle.refusals.proofs.Laws.{AnswerEnds}
 use Rattle.table.specs.Table.{Prepares}
 use Rattle.checker.specs.Answers.{checkTest}
+use Rattle.checker.proofs.Answers.{CheckInputs}
 use Rattle.readoff.specs.Answers.{readOffTest}
 use Rattle.board.specs.Board.{packTest, batchesIn}
 use Rattle.export.specs.Calls.{hashCallTest, chainCallTest, buildCallTest, editCallTest, unpackCallTest}
@@ -69,7 +70,7 @@ file-bits file n j l h = indexed-bits n j l (omega arith)
 failing-bits : (T t claim : List ℕ) (k : ℕ) → IsPermitted k → (i c n : ℕ) → IsFirstFailing T t claim (tests k) i c n
     → InBits (record { number = 11; values = 3; row = i; constraint = c; value = n })
 failing-bits T t claim k p i c n f =
-    let among = Memᴰ·append-right (f .before) (List·Memᴰ.List·Memᴰ·head refl) in
+    let among = in-middle x (f .before) (f .after) in
     let in-list = test-list k x .0 (subst (List·Memᴰ x) (sym (f .order)) among) in
     let count = ap length (f .order) ∙ length-append (f .before) (x ∷ f .after) in
     record {
@@ -100,22 +101,25 @@ pub build-bits : (T w : List ℕ) (rows size : ℕ) → AnswerEnds RefusalInBits
 build-bits T w rows size = ends.build-call-ends RefusalInBits table-bits T w five (taps-bits w) rows size eight
 
 module _ (T t claim : List ℕ) (four : length claim ≡ 4) where
+  failing : let k = traceWordBatches (length t) in
+      CheckInputs T t claim k → (i c n : ℕ) → IsFirstFailing T t claim (tests k) i c n
+      → InBits (record { number = 11; values = 3; row = i; constraint = c; value = n })
+  failing h = failing-bits T t claim (traceWordBatches (length t)) (h .permitted)
+
   pub check-bits : AnswerEnds RefusalInBits (checkTest T t claim)
   check-bits =
-      ends.check-ends RefusalInBits table-bits T t claim seven (claim-bits claim four) (trace-bits t)
-      (failing-bits T t claim)
+      ends.check-ends RefusalInBits table-bits T t claim seven (claim-bits claim four) (trace-bits t) failing
 
   pub read-off-bits : (size : ℕ) → AnswerEnds RefusalInBits (readOffTest T t claim size)
   read-off-bits size =
-      ends.read-off-ends RefusalInBits table-bits T t claim seven (claim-bits claim four) (trace-bits t)
-      (failing-bits T t claim) size eight
+      ends.read-off-ends RefusalInBits table-bits T t claim seven (claim-bits claim four) (trace-bits t) size eight
+      (λ s. failing)
 
   pub edit-bits : (n : ℕ) (new : List ℕ) (size : ℕ) → length new ≡ 4
       → AnswerEnds RefusalInBits (editCallTest T t claim n new size)
   edit-bits n new size h =
-      ends.edit-call-ends RefusalInBits table-bits T t claim seven (claim-bits claim four) (trace-bits t)
-      (failing-bits T t claim) n new (alone-bits 15 (lit< tt)) (λ i l. indexed-bits 6 i (lit< tt) (omega arith)) size
-      eight
+      ends.edit-call-ends RefusalInBits table-bits T t claim seven (claim-bits claim four) (trace-bits t) n new
+      (alone-bits 15 (lit< tt)) (λ i l. indexed-bits 6 i (lit< tt) (omega arith)) size eight (λ s l c. failing)
 
 -- 372 × k tests, of an acceptance
 pub tests-bits : (k : ℕ) → IsPermitted k → length (tests k) < 2 ^ 28

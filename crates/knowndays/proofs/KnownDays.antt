@@ -36,6 +36,7 @@ use Rattle.hash.proofs.Inputs.{IsTap}
 use Rattle.trace.specs.Trace.{row}
 use Rattle.constraints.specs.Constraints.{plusFirst, forward, minus, backStep, back, families, ofFamily, applies, holds}
 use Rattle.constraints.specs.Constraints.{rowTests, testsFrom, tests, walk, constraintTest}
+use Rattle.constraints.specs.FirstFailing.{placeOf}
 use Rattle.constraints.specs.ReadOff.{readInput, readWord, readTaps}
 use Rattle.checker.specs.Answers.{checkTest, checkAnswer}
 use Rattle.readoff.specs.Answers.{readOffTest, readOffAnswer, readOffLeaves}
@@ -133,7 +134,7 @@ pub known-days : KnownDays
 unfolding ones tab sum first firstBad halving power root timesColumn times matrixOf inverseOf constant initialConstant
     firstStepConstant secondStepConstant roots cubes plus mix firstStep secondStep stateAt finalState input hash tap
     outputAt chain row plusFirst forward minus backStep back families ofFamily applies holds rowTests testsFrom tests
-    walk constraintTest shifted Z A zeroTrace altered zeros
+    walk constraintTest placeOf shifted Z A zeroTrace altered zeros
 known-days = record {
   product-of-negatives = refl;
   product-of-powers = refl;
@@ -149,6 +150,7 @@ known-days = record {
   altered-0-8 = judges Z accepted-Z (altered 0 8) zeros refl;
   altered-31-5 = judges Z accepted-Z (altered 31 5) zeros refl;
   altered-11-5 = judges Z accepted-Z (altered 11 5) zeros refl;
+  places = (refl, refl, refl, refl);
   tapped-accepted = tapped-accepted;
   tapped-read-off = tapped-read-off;
   tapped-read = tapped-read;

@@ -18,6 +18,7 @@ use Rattle.refusals.specs.declared.TestsAnswer.the-variants as tests
 use Rattle.table.specs.Table.{rawWords, tableWords, tableTest, Prepares}
 use Rattle.hash.specs.Hash.{tap}
 use Rattle.hash.specs.Answers.{hashAnswer, chainAnswer}
+use Rattle.constraints.specs.FirstFailing.{placeOf}
 use Rattle.checker.specs.Answers.{checkAnswer}
 use Rattle.readoff.specs.Answers.{readOffAnswer, readOffLeaves}
 
@@ -82,7 +83,8 @@ tapped = tab 384 (λ n. choose (eqb (n % width) 5) (choose (eqb ((n / width - 1)
 unfoldable pub zeros : List ℕ
 zeros = replicate 4 0
 
--- the list, over what the operations answer; 11's count is the failing test's place
+-- the list, over what the operations answer. The counts of refusal 11 are the failing tests' places: 362 stands in
+-- document 02, U4, the others follow from document 01's order
 pub record KnownDays : Type 0 where
   pub product-of-negatives : mul (P - 1) (P - 1) ≡ 1
   pub product-of-powers : mul 2147483648 2147483648 ≡ 2305842923314348031
@@ -102,6 +104,8 @@ pub record KnownDays : Type 0 where
   pub altered-0-8 : checkAnswer Z (altered 0 8) zeros ≡ tests.Refused (Constraint (record { 0 = 0 }) 1 1)
   pub altered-31-5 : checkAnswer Z (altered 31 5) zeros ≡ tests.Refused (Constraint (record { 0 = 30 }) 38 362)
   pub altered-11-5 : checkAnswer Z (altered 11 5) zeros ≡ tests.Refused (Constraint (record { 0 = 11 }) 26 138)
+  -- the places of the four tests that fail there, counted by themselves
+  pub places : (placeOf 1 31 49 ≡ 369) × (placeOf 1 0 1 ≡ 1) × (placeOf 1 30 38 ≡ 362) × (placeOf 1 11 26 ≡ 138)
   pub tapped-accepted : checkAnswer Z tapped zeros ≡ tests.Accepted 372
   pub tapped-read-off : readOffAnswer Z tapped zeros 16 ≡ tests.Accepted 372
   pub tapped-read : (old : List ℕ) → length old ≡ 16 → tap (readOffLeaves Z tapped zeros old) 2 ≡ 0 ∷ 1 ∷ 0 ∷ 0 ∷ []

@@ -19,7 +19,8 @@ alone n = record { number = n; values = 0; row = 0; constraint = 0; value = 0 }
 abbrev pub indexed : ℕ → ℕ → Particulars
 indexed n i = record { number = n; values = 1; row = 0; constraint = 0; value = i }
 
--- the refusal's number, and what is returned with it: nothing, an index, or row, constraint and tests
+-- the refusal's number, and what is returned with it: nothing, an index, or row, constraint and the tests up to the
+-- failing one
 abbrev pub told : Refusal → Particulars
 told TableLength = alone 1
 told (TableWord i) = indexed 2 i

@@ -5,7 +5,8 @@ ghost use Rattle.refusals.specs.Answers.{Refuses};
 use numbers::RowNumber;
 use numbers::WIDTH;
 
-// A cause, with what is returned with its number. `told` lists number and values for each.
+// A cause, with what is returned with its number. `told` lists number and values for each. `tests` of `Constraint` is
+// the failing test's place in their order (document 02, U4).
 pub enum Refusal {
     TableLength,
     TableWord(usize),

@@ -113,33 +113,12 @@ pub fn named(refusal: lemoncolumn::Refusal) -> second::Refusal {
     }
 }
 
-/// Refusal 11 of the two, for the same trace: row and constraint are equal, and
-/// the tests lie from 1 to the place, which `second` counts (document 01, "What
-/// is turned back"). The proved checker walks every test up to the failing one,
-/// so its count is the place itself. Every other answer is equal.
+/// The proved library answers what `second` does, or what a case was made for; in
+/// refusal 11 with the same count too (document 02, U4).
 pub fn same_verdict<T: PartialEq + std::fmt::Debug>(
     proved: Result<T, lemoncolumn::Refusal>,
-    second: Result<T, second::Refusal>,
+    expected: Result<T, second::Refusal>,
     about: &str,
 ) {
-    let proved = proved.map_err(named);
-    if let (
-        Err(second::Refusal::Constraint {
-            row,
-            constraint,
-            tests,
-        }),
-        Err(second::Refusal::Constraint {
-            row: other_row,
-            constraint: other_constraint,
-            tests: place,
-        }),
-    ) = (&proved, &second)
-    {
-        assert_eq!((row, constraint), (other_row, other_constraint), "{about}");
-        assert!((1..=*place).contains(tests), "{about}: {tests} of {place}");
-        assert_eq!(tests, place, "{about}: the count is not the place");
-    } else {
-        assert_eq!(proved, second, "{about}");
-    }
+    assert_eq!(proved.map_err(named), expected, "{about}");
 }

@@ -28,7 +28,8 @@ pub enum Refusal {
     /// 10: a trace word is not canonical; the lowest index.
     TraceWord { index: u64 },
     /// 11: a constraint fails; the row in the whole trace, the constraint, and
-    /// the tests walked.
+    /// the tests walked, this one included: its place in the order of the tests,
+    /// counted from 1. All tests before it hold.
     Constraint {
         row: u64,
         constraint: u64,
@@ -47,7 +48,8 @@ pub enum Refusal {
 
 /// Reads the number that a call returns: the tests walked, 0 for a call that
 /// has none, or the refusal. Bits 0 to 5 are the refusal's number, bits 6 to 11
-/// the constraint, bits 12 to 35 the row, bits 36 to 63 the index or the tests.
+/// the constraint, bits 12 to 35 the row, bits 36 to 63 the index, or the tests,
+/// which for refusal 11 are the failing test's place.
 ///
 /// # Panics
 ///

@@ -1,5 +1,5 @@
-//! Document 01's known days, with cells 4 to 11 of the hashes (document 02, U3) and
-//! edits worked out by hand, through the safe calls.
+//! Document 01's known days, with cells 4 to 11 of the hashes (document 02, U3), the
+//! counts of refusal 11 (U4) and edits worked out by hand, through the safe calls.
 
 use lemoncolumn::*;
 
@@ -95,23 +95,42 @@ fn lengths_and_words() {
     assert_eq!(kept, [7; TABLE_WORDS]);
 }
 
-fn fails(row: u64, constraint: u64) -> impl Fn(Result<u64, Refusal>) -> bool {
-    move |answer| {
-        matches!(answer, Err(Refusal::Constraint { row: r, constraint: c, .. })
-            if (r, c) == (row, constraint))
+/// Refusal 11 with row, constraint and count.
+fn eleven(row: u64, constraint: u64, tests: u64) -> Refusal {
+    Refusal::Constraint {
+        row,
+        constraint,
+        tests,
     }
 }
 
+/// The counts are the failing tests' places (document 02, U4), worked out by hand:
+/// 132 tests come before row 11, 356 before row 30, 368 before row 31.
 #[test]
 fn traces() {
     let z = table(0, 0);
     let zero = [0; 384];
     assert_eq!(check(&z, &zero, [0; 4]), Ok(372));
-    assert!(fails(31, 49)(check(&z, &zero, [1, 0, 0, 0])));
-    for (row, column, at) in [(0, 8, (0, 1)), (31, 5, (30, 38)), (11, 5, (11, 26))] {
+    let refused = check(&z, &zero, [1, 0, 0, 0]);
+    assert_eq!(refused, Err(eleven(31, 49, 369)));
+    let refused = read_off(&z, &zero, [1, 0, 0, 0], &mut [7; 16]);
+    assert_eq!(refused, Err(eleven(31, 49, 369)));
+    for (row, column, refusal) in [
+        (0, 8, eleven(0, 1, 1)),
+        (31, 5, eleven(30, 38, 362)),
+        (11, 5, eleven(11, 26, 138)),
+    ] {
         let mut trace = zero;
         trace[12 * row + column] = 1;
-        assert!(fails(at.0, at.1)(check(&z, &trace, [0; 4])), "{row}");
+        let altered = trace;
+        assert_eq!(check(&z, &trace, [0; 4]), Err(refusal), "{row}");
+        let mut taps = [7; 16];
+        let refused = read_off(&z, &trace, [0; 4], &mut taps);
+        assert_eq!(refused, Err(refusal), "{row}");
+        assert_eq!(taps, [7; 16], "{row}");
+        let refused = edit(&z, &mut trace, [0; 4], 2, [0, 1, 0, 0]);
+        assert_eq!(refused, Err(refusal), "{row}");
+        assert_eq!(trace, altered, "{row}");
     }
     let mut trace = zero;
     for row in 11..=20 {
@@ -190,7 +209,7 @@ fn refused_edits() {
     let edited = edit(&z, &mut trace, [0; 4], 3, [0, 0, P, P]);
     assert_eq!(edited, Err(Refusal::TapWord { index: 2 }));
     let edited = edit(&z, &mut trace, [1, 0, 0, 0], 3, [0; 4]);
-    assert!(fails(31, 49)(edited.map(|_| 0)));
+    assert_eq!(edited, Err(eleven(31, 49, 369)));
     assert_eq!(trace, [0; 384]);
 }
 

@@ -27,8 +27,8 @@ pub enum Refusal {
     /// 10: a trace word is not canonical; the lowest index.
     TraceWord { index: u64 },
     /// 11: a constraint fails; the row in the whole trace, the constraint, and
-    /// the tests walked. Here these are counted to the failing one inclusive,
-    /// so they are its place in the order.
+    /// the tests up to the failing one, which are its place in the order, counted
+    /// from 1 (document 02, U4).
     Constraint {
         row: u64,
         constraint: u64,

@@ -1,6 +1,7 @@
 //! Every line of document 01's "Known days", and the program's lines. The
-//! expected values stand in document 01; those of the edits, and cells 4 to 11 of
-//! the hashes (document 02, U3), are worked out by hand from its definitions.
+//! expected values stand in document 01, and the count 362 in document 02, U4; the
+//! other counts, what edits answer and leave, and cells 4 to 11 of the hashes
+//! (document 02, U3), are worked out by hand from its definitions.
 
 mod common;
 use common::*;
@@ -78,24 +79,38 @@ fn four_zero_taps_under_a() {
     assert_eq!(build(&a(), &[0; 16], &mut trace), Ok([3, 0, 0, 0]));
 }
 
+/// The counts are places in the order (document 02, U4): 16 tests at row 0, 12 at
+/// each of rows 1 to 9 and 8 at row 10 make 132 before row 11; 108 and 8 and again
+/// 108 more make 356 before row 30, and its 12 make 368 before row 31.
 #[test]
 fn zero_trace_under_z() {
-    let trace = zero_trace_with(&[]);
+    let mut trace = zero_trace_with(&[]);
     assert_eq!(check(&z(), &trace, NO_CLAIM), Ok(372));
-    assert_eq!(failed_at(check(&z(), &trace, [1, 0, 0, 0])), (31, 49));
+    let (claim, fails) = ([1, 0, 0, 0], (31, 49, 369));
+    assert_eq!(failed_at(check(&z(), &trace, claim)), fails);
+    let refused = read_off(&z(), &trace, claim, &mut [7; 16]);
+    assert_eq!(failed_at(refused), fails);
+    let refused = edit(&z(), &mut trace, claim, 2, [0, 1, 0, 0]);
+    assert_eq!(failed_at(refused.map(|_| 0)), fails);
 }
 
+/// The counts as above.
 #[test]
 fn one_cell_of_the_zero_trace() {
-    for ((row, column), place) in [((0, 8), (0, 1)), ((31, 5), (30, 38)), ((11, 5), (11, 26))] {
-        let trace = zero_trace_with(&[(row, column)]);
-        assert_eq!(failed_at(check(&z(), &trace, NO_CLAIM)), place);
+    for ((row, column), fails) in [
+        ((0, 8), (0, 1, 1)),
+        ((31, 5), (30, 38, 362)),
+        ((11, 5), (11, 26, 138)),
+    ] {
+        let mut trace = zero_trace_with(&[(row, column)]);
+        assert_eq!(failed_at(check(&z(), &trace, NO_CLAIM)), fails);
         let mut taps = vec![7; 16];
-        assert_eq!(
-            failed_at(read_off(&z(), &trace, NO_CLAIM, &mut taps)),
-            place
-        );
+        let refused = read_off(&z(), &trace, NO_CLAIM, &mut taps);
+        assert_eq!(failed_at(refused), fails);
         assert_eq!(taps, [7; 16]);
+        let refused = edit(&z(), &mut trace, NO_CLAIM, 2, [0, 1, 0, 0]);
+        assert_eq!(failed_at(refused.map(|_| 0)), fails);
+        assert_eq!(trace, zero_trace_with(&[(row, column)]));
     }
 }
 

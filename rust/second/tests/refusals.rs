@@ -220,10 +220,10 @@ fn tap_numbers() {
 fn acceptance_is_tested_by_an_edit_that_changes_nothing() {
     let mut trace = vec![0; 384];
     let answer = edit(&z(), &mut trace, [0, 1, 0, 0], 0, [0; 4]);
-    assert_eq!(failed_at(answer.map(|_| 0)), (31, 50));
+    assert_eq!(failed_at(answer.map(|_| 0)), (31, 50, 370));
     trace[12 * 31 + 5] = 1;
     let answer = edit(&z(), &mut trace, [0; 4], 0, [0; 4]);
-    assert_eq!(failed_at(answer.map(|_| 0)), (30, 38));
+    assert_eq!(failed_at(answer.map(|_| 0)), (30, 38, 362));
 }
 
 /// The product is M times the stored inverse, cells taken row by row. Under S

@@ -47,12 +47,14 @@ pub fn s() -> Vec<u64> {
     prepared(&s_raw())
 }
 
-/// Row and constraint of refusal 11.
-pub fn failed_at(answer: Result<u64, Refusal>) -> (u64, u64) {
+/// Row, constraint and count of refusal 11.
+pub fn failed_at(answer: Result<u64, Refusal>) -> (u64, u64, u64) {
     match answer {
         Err(Refusal::Constraint {
-            row, constraint, ..
-        }) => (row, constraint),
+            row,
+            constraint,
+            tests,
+        }) => (row, constraint, tests),
         other => panic!("not a failed constraint: {other:?}"),
     }
 }
