@@ -38,6 +38,7 @@ uint64_t lemoncolumn_interface(void);
 #define LEMONCOLUMN_TABLE_WORDS 540                            /* M, its inverse, then K_0 to K_20 */
 #define LEMONCOLUMN_DIGEST_WORDS 4                             /* the output of a chain, or a claim */
 #define LEMONCOLUMN_STATE_WORDS 12                             /* the final state of a hash */
+#define LEMONCOLUMN_PAIR_WORDS 8                               /* two taps */
 #define LEMONCOLUMN_TAP_WORDS(k) ((size_t)12 * (k) + 4)        /* 3k + 1 taps */
 #define LEMONCOLUMN_TRACE_WORDS(k) ((size_t)384 * (k))         /* 32 rows of 12 cells a batch */
 #define LEMONCOLUMN_FILE_BYTES(k) ((size_t)144 * (k) + 100)
@@ -52,6 +53,12 @@ lemoncolumn_code lemoncolumn_prepare(const uint64_t *raw, size_t raw_words, uint
  * with which chain, build and edit go on. */
 lemoncolumn_code lemoncolumn_hash(const uint64_t *table, size_t table_words, uint64_t w0, uint64_t w1, uint64_t w2, uint64_t w3, uint64_t w4,
                                   uint64_t w5, uint64_t w6, uint64_t w7, uint64_t *output, size_t output_words);
+
+/* Writes the two taps for which lemoncolumn_hash writes the state (s0 .. s11), eight words, the first tap first: 1, 2, 4, 8, 6, 16.
+ * There is at most one such pair, and it is found. The cells are tested as tap words: the index of 6 is that of the cell, 0 to 11. */
+lemoncolumn_code lemoncolumn_unhash(const uint64_t *table, size_t table_words, uint64_t s0, uint64_t s1, uint64_t s2, uint64_t s3, uint64_t s4,
+                                    uint64_t s5, uint64_t s6, uint64_t s7, uint64_t s8, uint64_t s9, uint64_t s10, uint64_t s11, uint64_t *pair,
+                                    size_t pair_words);
 
 /* Writes the four words to which the taps chain: 1, 2, 4, 5, 8, 6. */
 lemoncolumn_code lemoncolumn_chain(const uint64_t *table, size_t table_words, const uint64_t *taps, size_t tap_words, uint64_t *output,
@@ -91,7 +98,7 @@ enum lemoncolumn_refusal {
     LEMONCOLUMN_NO_INVERSE = 3,         /* M has no inverse */
     LEMONCOLUMN_WRONG_INVERSE = 4,      /* M times the stored inverse unlike the identity: 12 * row + column of the first such cell */
     LEMONCOLUMN_TAP_LENGTH = 5,         /* tap list not 12k + 4 words, k permitted */
-    LEMONCOLUMN_TAP_WORD = 6,           /* tap word not canonical: its lowest index */
+    LEMONCOLUMN_TAP_WORD = 6,           /* tap word, or cell lent to unhash, not canonical: its lowest index */
     LEMONCOLUMN_TRACE_LENGTH = 7,       /* trace not 384k words, k permitted */
     LEMONCOLUMN_DESTINATION_LENGTH = 8, /* a destination not of the exact length */
     LEMONCOLUMN_CLAIM_WORD = 9,         /* claim word not canonical: its lowest index */
@@ -100,7 +107,8 @@ enum lemoncolumn_refusal {
     LEMONCOLUMN_FILE_LENGTH = 12,       /* file below 4 bytes, or not 144k + 100 */
     LEMONCOLUMN_WRONG_KIND = 13,        /* wrong kind: index of the 32-bit word */
     LEMONCOLUMN_WRONG_VALUE = 14,       /* spare bits or k not permitted: index 0; element not canonical: index of its first 32-bit word */
-    LEMONCOLUMN_NO_SUCH_TAP = 15        /* tap number above 3k */
+    LEMONCOLUMN_NO_SUCH_TAP = 15,       /* tap number above 3k */
+    LEMONCOLUMN_NO_PAIR = 16            /* no pair of taps ends in that state */
 };
 
 /* Bits 0 to 5: the refusal, 0 for acceptance. */

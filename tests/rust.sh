@@ -15,7 +15,10 @@ for manifest in rust/*/Cargo.toml; do
     awk -v crate="$crate" '
         $1 == "Running" { target = $2 == "unittests" ? $3 : $2; sub(/^tests\//, "", target); sub(/\.rs$/, "", target) }
         $1 == "Doc-tests" { target = "doc" }
-        /^test .* \.\.\. ok$/ { sub(/^test /, ""); sub(/ \.\.\. ok$/, ""); print crate, target, $0 }
+        # where an example of the documentation stands is no part of its name
+        /^test .* \.\.\. ok$/ {
+            sub(/^test /, ""); sub(/ \.\.\. ok$/, ""); sub(/ \(line [0-9]+\)$/, ""); print crate, target, $0
+        }
     ' "$work/out" >>"$work/ran"
     grep '^test result: ' "$work/out" >>"$work/results" || :
 done

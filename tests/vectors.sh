@@ -8,12 +8,12 @@ cd "$(dirname "$0")/.."
 # FUNCTION COUNT: a function of the archive with such loops, and how many vector multiplications (pmuludq, two of 32
 # bits each) it has with the kit of kit.txt. More is as good; an edit that needs fewer says so here.
 loops='
-hash::first_step 23
 inverse::add_row 6
 lemoncolumn_prepare 6
 matrix::times 19
 mixing::mix 10
 mixing::ready 20
+roots::roots 23
 steps::montgomery_cubes 11
 '
 # FUNCTION COUNT: a function that multiplies words, and how many multiplications it has that leave 128 bits (`mul` with
@@ -27,6 +27,7 @@ lemoncolumn_prepare 1
 matrix::times 0
 mixing::mix 0
 mixing::ready 0
+roots::roots 0
 steps::montgomery_cubes 0
 '
 

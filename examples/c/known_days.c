@@ -1,5 +1,5 @@
-/* The known days of document 01, their hashes with all twelve cells, and edits of them, through the library for C. Prints one line
- * for each; known_days.expected has what they must be. */
+/* The known days of document 01, their hashes with all twelve cells, edits of them, and the two taps found again from the last row of
+ * a day, through the library for C. Prints one line for each; known_days.expected has what they must be. */
 #include "lemoncolumn.h"
 
 #include <inttypes.h>
@@ -140,6 +140,35 @@ static void traces(const uint64_t *z)
     edits(z, trace);
 }
 
+static lemoncolumn_code unhash(const uint64_t *table, const uint64_t *s, uint64_t *pair, size_t pair_words)
+{
+    return lemoncolumn_unhash(table, LEMONCOLUMN_TABLE_WORDS, s[0], s[1], s[2], s[3], s[4], s[5], s[6], s[7], s[8], s[9], s[10], s[11], pair,
+                              pair_words);
+}
+
+/* A depot that has kept row 31 of a day and lost the rest. Under A each hash adds 1 to cell 0 of its first tap, which goes on. */
+static void archive(const uint64_t *a)
+{
+    uint64_t trace[LEMONCOLUMN_TRACE_WORDS(1)] = {0};
+    uint64_t taps[LEMONCOLUMN_TAP_WORDS(1)];
+    uint64_t out[LEMONCOLUMN_DIGEST_WORDS];
+    uint64_t pair[LEMONCOLUMN_PAIR_WORDS] = {0};
+    for (uint64_t i = 0; i < LEMONCOLUMN_TAP_WORDS(1); i++)
+        taps[i] = i + 1;
+    lemoncolumn_build(a, LEMONCOLUMN_TABLE_WORDS, taps, LEMONCOLUMN_TAP_WORDS(1), trace, LEMONCOLUMN_TRACE_WORDS(1), out,
+                      LEMONCOLUMN_DIGEST_WORDS);
+    uint64_t *row_31 = trace + 12 * 31;
+    show_state("row 31 of taps 1 to 16", row_31);
+    show("unhashed", unhash(a, row_31, pair, LEMONCOLUMN_PAIR_WORDS));
+    show_words("the output before the last tap", pair);
+    show_words("the last tap", pair + 4);
+    row_31[8] = 1;
+    show("column 8 set to 1", unhash(a, row_31, pair, LEMONCOLUMN_PAIR_WORDS));
+    row_31[11] = LEMONCOLUMN_P;
+    show("column 11 set to p", unhash(a, row_31, pair, LEMONCOLUMN_PAIR_WORDS));
+    show("unhashed into four words", unhash(a, row_31, pair, LEMONCOLUMN_DIGEST_WORDS));
+}
+
 static void files(void)
 {
     uint64_t taps[LEMONCOLUMN_TAP_WORDS(1)] = {0};
@@ -159,7 +188,7 @@ static void files(void)
 static void indices(void)
 {
     printf("refusals with an index:");
-    for (lemoncolumn_code number = LEMONCOLUMN_ACCEPTED; number <= LEMONCOLUMN_NO_SUCH_TAP; number++)
+    for (lemoncolumn_code number = LEMONCOLUMN_ACCEPTED; number <= LEMONCOLUMN_NO_PAIR; number++)
         if (lemoncolumn_has_index(number))
             printf(" %" PRIu64, number);
     printf("\n");
@@ -181,6 +210,7 @@ int main(void)
     hashes(z, a, s);
     chains(a);
     traces(z);
+    archive(a);
     files();
     indices();
     return 0;

@@ -66,7 +66,14 @@ fn main() -> Result<(), Refusal> {
     let last_row = &trace[trace_words(k) - STATE_WORDS..];
     println!("the same final state: {}", state == last_row);
 
-    // A trace that was altered, a word that is no element, and a tap past the last.
+    // An archive that has kept that row alone: the output before the last tap, and
+    // the last tap.
+    let archived = last_row.try_into().expect("twelve cells");
+    let pair = unhash(&table, archived)?;
+    println!("before {:?}, last tap {:?}", &pair[..4], &pair[4..]);
+
+    // A trace that was altered, a word that is no element, a tap past the last, and
+    // a row in which no hash ends.
     trace[12 * 11 + 5] = 1;
     if let Err(refusal) = check(&table, &trace, claim) {
         println!("{refusal}: {refusal:?}");
@@ -75,6 +82,9 @@ fn main() -> Result<(), Refusal> {
         println!("{refusal}: {refusal:?}");
     }
     if let Err(refusal) = edit(&table, &mut trace, claim, 3 * k + 1, [0; 4]) {
+        println!("{refusal}: {refusal:?}");
+    }
+    if let Err(refusal) = unhash(&table, [1; STATE_WORDS]) {
         println!("{refusal}: {refusal:?}");
     }
     Ok(())

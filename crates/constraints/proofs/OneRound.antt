@@ -1,5 +1,5 @@
--- One step there and back: `backStep` undoes `firstStep`, and `firstStep` undoes `backStep`, on states of twelve
--- canonical cells.
+-- One step there and back, on states of twelve canonical cells: `backStep` undoes `firstStep`, and `firstStep` undoes
+-- `backStep`.
 -- Assumes nothing.
 use mathlib.Core.Path.{_≡_, ap, _∙_}
 use mathlib.Core.List.{List}
@@ -12,7 +12,7 @@ use Rattle.field.specs.Field.{add, sub, cube, root}
 use Rattle.field.proofs.Fermat.{cube-root, root-cube}
 use Rattle.field.proofs.Ring.{sub-add, add-sub}
 use Rattle.matrix.specs.Matrix.{times}
-use Rattle.table.specs.Table.{IsTable, matrixOf, inverseOf, firstStepConstant}
+use Rattle.table.specs.Table.{IsTable, matrixOf, inverseOf}
 use Rattle.table.proofs.Theorems.{undo-mix, mix-undo}
 use Rattle.hash.specs.Hash.{roots, cubes, plus, mix, firstStep}
 use Rattle.hash.proofs.States.{IsState, state-cell, same-state, tab-state, roots-state, cubes-state, plus-state}
@@ -43,15 +43,33 @@ minus-plus {s} {k} p q =
     ∙ add-sub (cell s j) (cell k j) (state-cell p j) (state-cell q j))
 
 -- ---- cubes and roots
-cubes-roots : {s : List ℕ} → IsState s → cubes (roots s) ≡ s
+pub cubes-roots : {s : List ℕ} → IsState s → cubes (roots s) ≡ s
 cubes-roots {s} p =
     same-state (cubes-state (roots s)) p
     (λ j h. cell-cubes (roots s) j h ∙ ap cube (cell-roots s j h) ∙ cube-root (cell s j) (state-cell p j))
 
-roots-cubes : {s : List ℕ} → IsState s → roots (cubes s) ≡ s
+pub roots-cubes : {s : List ℕ} → IsState s → roots (cubes s) ≡ s
 roots-cubes {s} p =
     same-state (roots-state (cubes s)) p
     (λ j h. cell-roots (cubes s) j h ∙ ap root (cell-cubes s j h) ∙ root-cube (cell s j) (state-cell p j))
+
+-- ---- any step: f of a state, times M, plus a constant k; and g undoes f
+module _ (T : List ℕ) (accepted : IsTable T) {k : List ℕ} (constant : IsState k) (f g : List ℕ → List ℕ) where
+  pub step-undone : {s : List ℕ} → IsState (f s) → g (f s) ≡ s
+      → g (times (inverseOf T) (minus (plus (times (matrixOf T) (f s)) k) k)) ≡ s
+  step-undone {s} p e =
+      ap (λ x. g (times (inverseOf T) x)) (minus-plus (times-state (matrixOf T) (f s)) constant)
+      ∙ ap g (undo-mix T accepted (f s) (p .size) (λ i l. state-cell p i))
+      ∙ e
+
+  pub undone-step : {x : List ℕ} → IsState x
+      → f (g (times (inverseOf T) (minus x k))) ≡ times (inverseOf T) (minus x k)
+      → plus (times (matrixOf T) (f (g (times (inverseOf T) (minus x k))))) k ≡ x
+  undone-step {x} p e =
+      ap (λ y. plus (times (matrixOf T) y) k) e
+      ∙ ap (λ y. plus y k)
+      (mix-undo T accepted (minus x k) (minus-state x k .size) (λ i l. state-cell (minus-state x k) i))
+      ∙ plus-minus p constant
 
 -- ---- the first step of round r
 pub backStep-state : (T : List ℕ) (r : ℕ) (s : List ℕ) → IsState (backStep T r s)
@@ -62,22 +80,9 @@ module _ (T : List ℕ) (accepted : IsTable T) (r : ℕ) (h : r < 10) where
   pub back-first : {s : List ℕ} → IsState s → backStep T r (firstStep T r s) ≡ s
   unfolding backStep firstStep mix
   back-first {s} p =
-      ap (λ x. cubes (times (inverseOf T) x))
-      (minus-plus (times-state (matrixOf T) (roots s)) (first-constant-state T accepted r h))
-      ∙ ap cubes (undo-mix T accepted (roots s) (roots-state s .size) (λ i l. state-cell (roots-state s) i))
-      ∙ cubes-roots p
+      step-undone T accepted (first-constant-state T accepted r h) roots cubes (roots-state s) (cubes-roots p)
 
   pub first-back : {x : List ℕ} → IsState x → firstStep T r (backStep T r x) ≡ x
   unfolding backStep firstStep mix
   first-back {x} p =
-      ap (λ y. plus (times (matrixOf T) y) (firstStepConstant T r))
-      (roots-cubes (times-state (inverseOf T) (minus x (firstStepConstant T r))))
-      ∙ ap (λ y. plus y (firstStepConstant T r))
-      (mix-undo T accepted less (less-state .size) (λ i l. state-cell less-state i))
-      ∙ plus-minus p (first-constant-state T accepted r h)
-    where
-      less : List ℕ
-      less = minus x (firstStepConstant T r)
-
-      less-state : IsState less
-      less-state = minus-state x (firstStepConstant T r)
+      undone-step T accepted (first-constant-state T accepted r h) roots cubes p (roots-cubes (times-state _ _))

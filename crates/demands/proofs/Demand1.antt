@@ -24,7 +24,8 @@ use Rattle.refusals.specs.declared.Answer.{Answer}
 use Rattle.refusals.specs.declared.Answer.the-variants as answer
 use Rattle.refusals.specs.declared.Digest.{Digest}
 use Rattle.refusals.specs.declared.State.{State}
-use Rattle.refusals.proofs.Laws.{passed, both-accepted, digest-refused, state-refused, tests-refused, AnswerEnds}
+use Rattle.refusals.proofs.Laws.{passed, both-accepted, digest-refused, state-refused, pair-refused}
+use Rattle.refusals.proofs.Laws.{tests-refused, AnswerEnds}
 use Rattle.table.specs.Table.{Prepares, tableTest}
 use Rattle.table.proofs.Theorems.{prepares-some, prepares-unique, refused-kept}
 use Rattle.hash.specs.Hash as rescue
@@ -43,24 +44,28 @@ use Rattle.checker.proofs.Answers.{check-inputs}
 use Rattle.readoff.specs.Answers.{readOffAnswer, readOffLeaves, readOffTest}
 use Rattle.readoff.proofs.Answers.{read-off-inputs}
 use Rattle.edit.specs.Answers.{editAnswer, editLeaves, editTest, alteredTaps}
+use Rattle.unhash.specs.Unhash.{tapsBefore}
+use Rattle.unhash.specs.Answers.{unhashTest, unhashAnswer}
 use Rattle.board.specs.Board.{packTest, packed, packLeaves, unpackAnswer, unpackTest, tapsIn, claimIn, unpackLeaves}
 use Rattle.board.proofs.Round.{claim-is}
 use Rattle.export.specs.Code.{code as code-of, answerCode, digestCode, stateCode, testsCode}
 use Rattle.export.specs.Calls.{written, HandsOver, writtenState, HandsOverState, PrepareCall, hashCallTest, hashCall}
 use Rattle.export.specs.Calls.{chainCallTest, chainCall, buildCallTest, buildCall, BuildCall, ReadOffCall}
-use Rattle.export.specs.Calls.{editCallTest, editCall, EditCall, PackCall, unpackCallTest, unpackCall, UnpackCall}
+use Rattle.export.specs.Calls.{editCallTest, editCall, EditCall, unhashCallTest, UnhashCall, PackCall}
+use Rattle.export.specs.Calls.{unpackCallTest, unpackCall, UnpackCall}
 use Rattle.export.proofs.Answers.{chain-room, build-room}
 use Rattle.export.proofs.Bits.{RefusalInBits, says, says-accepted}
 use Rattle.export.proofs.Endings as ends
 use Rattle.export.proofs.Endings.{TableCauses}
 use Rattle.export.proofs.Theorems as bits
-use Rattle.demands.specs.Demand1.{Operation, prepare, hash, chain, build, check, read-off, edit, pack, unpack}
+use Rattle.demands.specs.Demand1.{Operation, prepare, hash, chain, build, check, read-off, edit, unhash}
+use Rattle.demands.specs.Demand1.{pack, unpack}
 use Rattle.demands.specs.Demand1.{numbers, callNumbers, OneOf, Refuses, prepare-refuses, hash-refuses}
 use Rattle.demands.specs.Demand1.{chain-refuses, build-refuses, check-refuses, read-off-refuses, edit-refuses}
-use Rattle.demands.specs.Demand1.{pack-refuses, unpack-refuses, Answered, accepted, refused, PrepareResult}
-use Rattle.demands.specs.Demand1.{HashResult, ChainResult, BuildResult, CheckResult, ReadOffResult, EditResult}
-use Rattle.demands.specs.Demand1.{PackResult, UnpackResult, Demand1}
-use Rattle.demands.proofs.Returned.{four-words, twelve-words}
+use Rattle.demands.specs.Demand1.{unhash-refuses, pack-refuses, unpack-refuses, Answered, accepted, refused}
+use Rattle.demands.specs.Demand1.{PrepareResult, HashResult, ChainResult, BuildResult, CheckResult, ReadOffResult}
+use Rattle.demands.specs.Demand1.{EditResult, UnhashResult, PackResult, UnpackResult, Demand1}
+use Rattle.refusals.proofs.Returned.{four-words, twelve-words}
 
 -- ---- numbers of a list, by computing
 
@@ -120,7 +125,7 @@ pack-numbers w claim size =
 
 -- ---- the operations
 numbered : (o : Operation) (r : Refusal) → Refuses o r → OneOf (numbers o) r
-unfolding hashAnswer chainAnswer buildAnswer checkAnswer readOffAnswer editAnswer unpackAnswer
+unfolding hashAnswer chainAnswer buildAnswer checkAnswer readOffAnswer editAnswer unhashAnswer unpackAnswer
 numbered o r (prepare-refuses raw old new q h) = prepare-numbers raw old new (answer.Refused q) h
 numbered o r (hash-refuses T words q e) =
     let ns = numbers hash in
@@ -146,6 +151,11 @@ numbered o r (edit-refuses T t claim n new q e) =
     (ends.edit-ends (OneOf ns) (table-causes ns refl refl refl) T t claim (one-of 7 ns refl) (λ i h. one-of 9 ns refl)
     (λ k s p i h. one-of 10 ns refl) n new (one-of 15 ns refl) (λ i h. one-of 6 ns refl)
     (λ l a h i c m f. one-of 11 ns refl))
+numbered o r (unhash-refuses T s q e) =
+    let ns = numbers unhash in
+    subst (AnswerEnds (OneOf ns)) (pair-refused (unhashTest T s) _ q e)
+    (ends.unhash-ends (OneOf ns) (table-causes ns refl refl refl) T s (λ i h. one-of 6 ns refl)
+    (λ t c. one-of 16 ns refl))
 numbered o r (pack-refuses w claim size q e) =
     subst (AnswerEnds (OneOf (numbers pack))) e (pack-numbers w claim size)
 numbered o r (unpack-refuses file size q e) =
@@ -170,6 +180,7 @@ only-3 build h = absurd (never build NoInverse refl h)
 only-3 check h = absurd (never check NoInverse refl h)
 only-3 read-off h = absurd (never read-off NoInverse refl h)
 only-3 edit h = absurd (never edit NoInverse refl h)
+only-3 unhash h = absurd (never unhash NoInverse refl h)
 only-3 pack h = absurd (never pack NoInverse refl h)
 only-3 unpack h = absurd (never unpack NoInverse refl h)
 
@@ -402,6 +413,20 @@ edit-call T t t′ output output′ c0 c1 c2 c3 n w0 w1 w2 w3 code h =
     }))
     (λ r. (h .rows ∙ ap (λ x. leaves x (trace T w k) t) (r .1), output-old tested d code output output′ (h .four) r))
 
+unhash-call : (T taps taps′ : List ℕ) (s0 s1 s2 s3 s4 s5 s6 s7 s8 s9 s10 s11 code : ℕ)
+    → let s = s0 ∷ s1 ∷ s2 ∷ s3 ∷ s4 ∷ s5 ∷ s6 ∷ s7 ∷ s8 ∷ s9 ∷ s10 ∷ s11 ∷ [] in
+    UnhashCall T s code taps taps′ → Answered code (callNumbers unhash) (UnhashResult T s taps′) (taps′ ≡ taps)
+unhash-call T taps taps′ s0 s1 s2 s3 s4 s5 s6 s7 s8 s9 s10 s11 code h =
+    let s : List ℕ = s0 ∷ s1 ∷ s2 ∷ s3 ∷ s4 ∷ s5 ∷ s6 ∷ s7 ∷ s8 ∷ s9 ∷ s10 ∷ s11 ∷ [] in
+    let ns = callNumbers unhash in
+    let left : Answer → List ℕ = λ x. leaves x (tapsBefore T s) taps in
+    answer-says code ns (UnhashResult T s taps′) (taps′ ≡ taps) (unhashCallTest T s (length taps)) (h .coded)
+    (bits.unhash-bits T s (length taps) refl)
+    (ends.unhash-call-ends (OneOf ns) (table-causes ns refl refl refl) T s (λ i l. one-of 6 ns refl)
+    (λ t c. one-of 16 ns refl) (length taps) (one-of 8 ns refl))
+    (λ e. record { none = refl; taps-are = h .taps ∙ ap left e })
+    (λ r. h .taps ∙ ap left (r .1))
+
 pack-call : (w file file′ : List ℕ) (c0 c1 c2 c3 code : ℕ) → PackCall w (c0 ∷ c1 ∷ c2 ∷ c3 ∷ []) file code file′
     → Answered code (callNumbers pack) (PackResult w (c0 ∷ c1 ∷ c2 ∷ c3 ∷ []) file′) (file′ ≡ file)
 unfolding packLeaves
@@ -459,6 +484,7 @@ demand-1 = record {
   check-call = check-call;
   read-off-call = λ T t taps taps′ c0 c1 c2 c3 code h. read-off-call T t c0 c1 c2 c3 taps taps′ code h;
   edit-call = edit-call;
+  unhash-call = unhash-call;
   pack-call = pack-call;
   unpack-call = unpack-call;
 }

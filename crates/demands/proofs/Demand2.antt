@@ -42,7 +42,7 @@ use Rattle.board.specs.Board.{packTest, packed, packLeaves, unpackTest, unpackA
 use Rattle.board.proofs.Theorems.{unpack-packed, pack-unpack}
 use Rattle.exact.proofs.Exactness.{reading-off-a-built-trace}
 use Rattle.demands.specs.Demand2.{Demand2}
-use Rattle.demands.proofs.Returned.{four-words, twelve-words}
+use Rattle.refusals.proofs.Returned.{four-words, twelve-words}
 
 -- ---- hash and chain
 hashes : (T a b : List ℕ) → tableTest T ≡ answer.Accepted → length a ≡ 4 → AllCanonical a → length b ≡ 4

@@ -1,4 +1,3 @@
-pub mod Returned
 pub mod Demand1
 pub mod Demand2
 pub mod Demand3
@@ -6,3 +5,4 @@ pub mod Request1
 pub mod Request2
 pub mod Request3
 pub mod Request4
+pub mod Request5

@@ -33,7 +33,7 @@ use Rattle.edit.proofs.Altered.{length-altered, altered-canonical, altered-same
 use Rattle.edit.proofs.Answers.{edit-inputs}
 use Rattle.edit.proofs.Theorems.{accepts-exactly, earlier-rows, row-tells-tap}
 use Rattle.demands.specs.Request1.{Edited, Request1}
-use Rattle.demands.proofs.Returned.{four-words}
+use Rattle.refusals.proofs.Returned.{four-words}
 use Rattle.demands.proofs.Demand1.{demand-1}
 use Rattle.demands.proofs.Demand2.{demand-2}
 

@@ -38,7 +38,7 @@ use Rattle.edit.specs.Answers.{editAnswer, editLeaves}
 use Rattle.export.specs.Calls.{hashNoRoom, hashCall}
 use Rattle.export.proofs.Answers.{hash-short, hash-answer}
 use Rattle.demands.specs.Request3.{Hashed, HasState, HasOutput, Ends, Request3}
-use Rattle.demands.proofs.Returned.{four-words, twelve-words}
+use Rattle.refusals.proofs.Returned.{four-words, twelve-words}
 use Rattle.demands.proofs.Demand2.{demand-2}
 use Rattle.demands.proofs.Request1.{request-1}
 

@@ -14,6 +14,7 @@ use Rattle.refusals.specs.declared.Answer.{Answer}
 use Rattle.refusals.specs.declared.Answer.the-variants as answer
 use Rattle.refusals.specs.declared.DigestAnswer.the-variants as digest
 use Rattle.refusals.specs.declared.StateAnswer.the-variants as state
+use Rattle.refusals.specs.declared.PairAnswer.the-variants as pair
 use Rattle.refusals.specs.declared.TestsAnswer.the-variants as tests
 use Rattle.table.specs.Table.{Prepares}
 use Rattle.hash.specs.Hash as rescue
@@ -24,13 +25,15 @@ use Rattle.constraints.specs.ReadOff.{readTaps}
 use Rattle.checker.specs.Answers.{checkAnswer}
 use Rattle.readoff.specs.Answers.{readOffAnswer, readOffLeaves}
 use Rattle.edit.specs.Answers.{alteredTaps, editAnswer, editLeaves}
+use Rattle.unhash.specs.Unhash.{tapsBefore}
+use Rattle.unhash.specs.Answers.{unhashAnswer}
 use Rattle.board.specs.Board.{packTest, packed, packLeaves, unpackAnswer, tapsIn, claimIn, unpackLeaves}
 use Rattle.export.specs.Code.{Says, testsCode}
 use Rattle.export.specs.Calls.{HandsOver, HandsOverState, PrepareCall, hashCall, chainCall, BuildCall, ReadOffCall}
-use Rattle.export.specs.Calls.{EditCall, PackCall, UnpackCall}
+use Rattle.export.specs.Calls.{EditCall, UnhashCall, PackCall, UnpackCall}
 
 -- ---- the operations, and the numbers that each can return, in the order of their tests (document 01, "What is
--- turned back"; document 02 for Edit)
+-- turned back"; document 02 for Edit and Unhash)
 
 pub data Operation : Type 0 where
   prepare : Operation
@@ -40,6 +43,7 @@ pub data Operation : Type 0 where
   check : Operation
   read-off : Operation
   edit : Operation
+  unhash : Operation
   pack : Operation
   unpack : Operation
 
@@ -51,10 +55,12 @@ numbers build = 1 ∷ 2 ∷ 4 ∷ 5 ∷ 8 ∷ 6 ∷ []
 numbers check = 1 ∷ 2 ∷ 4 ∷ 7 ∷ 9 ∷ 10 ∷ 11 ∷ []
 numbers read-off = 1 ∷ 2 ∷ 4 ∷ 7 ∷ 8 ∷ 9 ∷ 10 ∷ 11 ∷ []
 numbers edit = 1 ∷ 2 ∷ 4 ∷ 7 ∷ 15 ∷ 9 ∷ 10 ∷ 6 ∷ 11 ∷ []
+numbers unhash = 1 ∷ 2 ∷ 4 ∷ 6 ∷ 16 ∷ []
 numbers pack = 5 ∷ 8 ∷ 9 ∷ 6 ∷ []
 numbers unpack = 12 ∷ 13 ∷ 14 ∷ 8 ∷ []
 
--- from another language four words, and Hash's twelve, go to a destination too, whose length is tested where 8 stands
+-- from another language four words, Unhash's eight and Hash's twelve go to a destination too, whose length is tested
+-- where 8 stands
 abbrev pub callNumbers : Operation → List ℕ
 callNumbers prepare = numbers prepare
 callNumbers hash = 1 ∷ 2 ∷ 4 ∷ 8 ∷ 6 ∷ []
@@ -63,6 +69,7 @@ callNumbers build = numbers build
 callNumbers check = numbers check
 callNumbers read-off = numbers read-off
 callNumbers edit = 1 ∷ 2 ∷ 4 ∷ 7 ∷ 15 ∷ 8 ∷ 9 ∷ 10 ∷ 6 ∷ 11 ∷ []
+callNumbers unhash = 1 ∷ 2 ∷ 4 ∷ 8 ∷ 6 ∷ 16 ∷ []
 callNumbers pack = numbers pack
 callNumbers unpack = numbers unpack
 
@@ -81,6 +88,7 @@ pub data Refuses : Operation → Refusal → Type 0 where
       → Refuses read-off r
   edit-refuses : (T t claim : List ℕ) (n : ℕ) (new : List ℕ) (r : Refusal)
       → editAnswer T t claim n new ≡ digest.Refused r → Refuses edit r
+  unhash-refuses : (T s : List ℕ) (r : Refusal) → unhashAnswer T s ≡ pair.Refused r → Refuses unhash r
   pack-refuses : (w claim : List ℕ) (size : ℕ) (r : Refusal) → packTest w claim size ≡ answer.Refused r → Refuses pack r
   unpack-refuses : (file : List ℕ) (size : ℕ) (r : Refusal) → unpackAnswer file size ≡ digest.Refused r
       → Refuses unpack r
@@ -138,6 +146,10 @@ pub record EditResult (T t : List ℕ) (n : ℕ) (new t′ output : List ℕ) (t
   pub output-is : output ≡ rescue.chain T (alteredTaps T t n new) k
   pub rows-are : t′ ≡ trace T (alteredTaps T t n new) k
 
+pub record UnhashResult (T s taps : List ℕ) (tests : ℕ) : Type 0 where
+  pub none : tests ≡ 0
+  pub taps-are : taps ≡ tapsBefore T s
+
 pub record PackResult (w claim file : List ℕ) (tests : ℕ) : Type 0 where
   pub none : tests ≡ 0
   pub file-is : file ≡ packed w claim
@@ -192,6 +204,9 @@ pub record Demand1 : Type 0 where
       → EditCall T t (c0 ∷ c1 ∷ c2 ∷ c3 ∷ []) n (w0 ∷ w1 ∷ w2 ∷ w3 ∷ []) code t′ output output′
       → Answered code (callNumbers edit) (EditResult T t n (w0 ∷ w1 ∷ w2 ∷ w3 ∷ []) t′ output′)
       ((t′ ≡ t) × (output′ ≡ output))
+  pub unhash-call : (T taps taps′ : List ℕ) (s0 s1 s2 s3 s4 s5 s6 s7 s8 s9 s10 s11 code : ℕ)
+      → let s = s0 ∷ s1 ∷ s2 ∷ s3 ∷ s4 ∷ s5 ∷ s6 ∷ s7 ∷ s8 ∷ s9 ∷ s10 ∷ s11 ∷ [] in
+      UnhashCall T s code taps taps′ → Answered code (callNumbers unhash) (UnhashResult T s taps′) (taps′ ≡ taps)
   pub pack-call : (w file file′ : List ℕ) (c0 c1 c2 c3 code : ℕ) → PackCall w (c0 ∷ c1 ∷ c2 ∷ c3 ∷ []) file code file′
       → Answered code (callNumbers pack) (PackResult w (c0 ∷ c1 ∷ c2 ∷ c3 ∷ []) file′) (file′ ≡ file)
   pub unpack-call : (file taps taps′ claim claim′ : List ℕ) (code : ℕ) → UnpackCall file code taps taps′ claim claim′

@@ -1,4 +1,4 @@
--- How the calls answer: four or twelve words handed over, a refusal passed on, and a destination of another length.
+-- How the calls answer: four, eight or twelve words handed over, a refusal passed on, a destination of another length.
 -- Assumes nothing.
 use mathlib.Core.Path.{_≡_, refl, sym, ap, _∙_}
 use mathlib.Core.Bool.{Bool, true, false}
@@ -11,7 +11,7 @@ use lib.ListN.{length, set, take, drop}
 use Rattle.lists.specs.Lists.{tab}
 use Rattle.lists.proofs.Tab.{tab-cell}
 use Rattle.numbers.specs.Numbers.{mostBatches, isTapLength, tapWordBatches, isTraceLength, traceWordBatches}
-use Rattle.refusals.specs.Refusals.{digest, state, stateWords}
+use Rattle.refusals.specs.Refusals.{digest, digestWords, state, stateWords, pairWords}
 use Rattle.refusals.specs.Answers.{unless, after, Refuses, digestAfter, stateAfter, leaves}
 use Rattle.refusals.specs.declared.Refusal.{Refusal}
 use Rattle.refusals.specs.declared.Refusal.the-variants.{TapLength, TraceLength, DestinationLength, NoSuchTap}
@@ -23,20 +23,27 @@ use Rattle.refusals.specs.declared.DigestAnswer.the-variants.{Accepted, Refused
 use Rattle.refusals.specs.declared.State.{State}
 use Rattle.refusals.specs.declared.StateAnswer.{StateAnswer}
 use Rattle.refusals.specs.declared.StateAnswer.the-variants as twelve
+use Rattle.refusals.specs.declared.Pair.{Pair}
+use Rattle.refusals.specs.declared.PairAnswer.the-variants as eight
 use Rattle.refusals.specs.declared.TestsAnswer.{TestsAnswer}
 use Rattle.refusals.specs.declared.TestsAnswer.the-variants as tests
+use Rattle.refusals.proofs.Laws.{pair-accepted, pair-refused, leaves-old, leaves-new}
+use Rattle.refusals.proofs.Returned.{eight-words}
 use Rattle.table.specs.Table.{tableTest}
 use Rattle.hash.specs.Hash.{finalState, input, chain}
 use Rattle.hash.specs.Answers.{hashTest, hashAnswer, chainTest, chainAnswer}
 use Rattle.trace.specs.Trace.{trace}
 use Rattle.trace.specs.Answers.{buildTest, buildAnswer, buildLeaves}
 use Rattle.edit.specs.Answers.{editTest, alteredTaps, editAnswer, editLeaves}
+use Rattle.unhash.specs.Unhash.{tapsBefore}
+use Rattle.unhash.specs.Answers.{unhashTest, unhashAnswer}
+use Rattle.unhash.proofs.Theorems.{taps-size}
 use Rattle.board.specs.Board.{batchesIn, claimIn, tapsIn, unpackTest, unpackAnswer, unpackLeaves}
 use Rattle.board.proofs.Answers.{unpack-accepted}
 use Rattle.export.specs.Code.{code, refusalCode, answerCode, digestCode, stateCode, testsCode}
 use Rattle.export.specs.Calls.{HandsOver, HandsOverState, hashCallTest, hashNoRoom, hashCall, chainCallTest}
 use Rattle.export.specs.Calls.{chainNoRoom, chainCall, buildCallTest, buildCall, editCallTest, editNoRoom}
-use Rattle.export.specs.Calls.{editCall, unpackCallTest, unpackCall}
+use Rattle.export.specs.Calls.{editCall, unhashCallTest, UnhashCall, unpackCallTest, unpackCall}
 
 -- ---- the code of an answer that was found to be one or the other
 pub answer-accepted : (a : Answer) → a ≡ answer.Accepted → 0 ≡ answerCode a
@@ -72,14 +79,14 @@ unfolding stateCode
 state-refused a r e = rw e
 
 -- ---- four words and their destination
-four-words : (old : List ℕ) (a b c d : ℕ) → length old ≡ 4
+pub four-stores : (old : List ℕ) (a b c d : ℕ) → length old ≡ 4
     → set (set (set (set old 0 a) 1 b) 2 c) 3 d ≡ a ∷ b ∷ c ∷ d ∷ []
 unfolding tab
-four-words old a b c d e = ap (λ l. set (set (set (set l 0 a) 1 b) 2 c) 3 d) (sym (tab-cell 4 old e))
+four-stores old a b c d e = ap (λ l. set (set (set (set l 0 a) 1 b) 2 c) 3 d) (sym (tab-cell 4 old e))
 
-pub handed-accepted : (a : DigestAnswer) (d : Digest) (old : List ℕ) → length old ≡ 4 → a ≡ Accepted d
-    → HandsOver a 0 old (set (set (set (set old 0 (d .0)) 1 (d .1)) 2 (d .2)) 3 (d .3))
-handed-accepted a d old four e = record { coded = digest-accepted a d e; output = rw e (four-words old _ _ _ _ four) }
+pub handed-accepted : (a : DigestAnswer) (d : Digest) (old new : List ℕ) → a ≡ Accepted d → new ≡ digestWords d
+    → HandsOver a 0 old new
+handed-accepted a d old new e f = record { coded = digest-accepted a d e; output = rw e f }
 
 pub handed-refused : (a : DigestAnswer) (r : Refusal) (code : ℕ) (old : List ℕ) → a ≡ Refused r
     → code ≡ refusalCode r → HandsOver a code old old
@@ -102,7 +109,7 @@ pub state-handed-as : (a b : StateAnswer) (code : ℕ) (old new : List ℕ) → 
     → HandsOverState a code old new
 state-handed-as a b code old new e t = rw e at t
 
--- ---- tests t that can only refuse, as those of a call have become where its four or twelve words find no room
+-- ---- tests t that can only refuse, as those of a call have become where its words find no room
 module _ (t called : Answer) (same : called ≡ t) (refuses : Refuses t) where
   pub stopped : (d : Digest) (code : ℕ) (old : List ℕ) → code ≡ answerCode t
       → HandsOver (digestAfter called d) code old old
@@ -130,6 +137,15 @@ module _ (T words : List ℕ) (size : ℕ) where
   pub hash-short : (size ≡ 12 → ⊥) → hashCallTest T words size ≡ hashNoRoom T
   unfolding hashCallTest hashNoRoom
   hash-short e = rw (ne-eqb size 12 e)
+
+module _ (T s : List ℕ) (size : ℕ) where
+  pub unhash-room : size ≡ 8 → unhashTest T s ≡ unhashCallTest T s size
+  unfolding unhashTest unhashCallTest
+  unhash-room e = rw (eq-eqb size 8 e)
+
+  pub unhash-short : (size ≡ 8 → ⊥) → unhashCallTest T s size ≡ hashNoRoom T
+  unfolding unhashCallTest hashNoRoom
+  unhash-short e = rw (ne-eqb size 8 e)
 
 module _ (T w : List ℕ) (size : ℕ) where
   pub chain-room : size ≡ 4 → chainTest T w ≡ chainCallTest T w size
@@ -265,3 +281,31 @@ module _ (size : ℕ) (four : size ≡ 4) where
 pub list-kept : (part old : List ℕ) → length part ≡ 0 → part ++ old ≡ old
 list-kept [] old h = refl
 list-kept (x ∷ part) old h = absurd (omega arith)
+
+-- ---- Unhash, with room for its eight words
+module _ (T s old : List ℕ) (room : length old ≡ 8) where
+  pub unhash-handed : (p : Pair) (new : List ℕ) → unhashAnswer T s ≡ eight.Accepted p → new ≡ pairWords p
+      → UnhashCall T s 0 old new
+  unfolding unhashAnswer
+  unhash-handed p new e f =
+      let a = pair-accepted (unhashTest T s) _ p e in
+      let t = sym (unhash-room T s (length old) room) ∙ a .0 in
+      let words = f ∙ sym (ap pairWords (a .1)) ∙ eight-words (tapsBefore T s) (taps-size T s) in
+      record { coded = answer-accepted _ t; taps = leaves-new (sym t) old refl words }
+
+  pub unhash-refused : (r : Refusal) (code : ℕ) → unhashAnswer T s ≡ eight.Refused r → code ≡ refusalCode r
+      → UnhashCall T s code old old
+  unfolding unhashAnswer
+  unhash-refused r code e f =
+      let t = sym (unhash-room T s (length old) room) ∙ pair-refused (unhashTest T s) _ r e in
+      record { coded = f ∙ answer-refused _ r t; taps = leaves-old (sym t) _ refl }
+
+-- and without
+pub unhash-stopped : (T s old : List ℕ) (code : ℕ) → (length old ≡ 8 → ⊥) → code ≡ answerCode (hashNoRoom T)
+    → UnhashCall T s code old old
+unhash-stopped T s old code short e =
+    let same = unhash-short T s (length old) short in
+    record {
+      coded = e ∙ sym (ap answerCode same);
+      taps = kept (hashNoRoom T) _ same (hash-no-room-refuses T) (tapsBefore T s) old;
+    }

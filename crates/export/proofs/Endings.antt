@@ -20,6 +20,7 @@ use Rattle.refusals.specs.declared.Refusal.{Refusal}
 use Rattle.refusals.specs.declared.Refusal.the-variants.{TableLength, TableWord, NoInverse, WrongInverse, TapLength}
 use Rattle.refusals.specs.declared.Refusal.the-variants.{TapWord, TraceLength, DestinationLength, ClaimWord, TraceWord}
 use Rattle.refusals.specs.declared.Refusal.the-variants.{Constraint, FileLength, WrongKind, WrongValue, NoSuchTap}
+use Rattle.refusals.specs.declared.Refusal.the-variants.{NoPair}
 use Rattle.refusals.specs.declared.Answer.{Answer}
 use Rattle.refusals.specs.declared.Answer.the-variants.{Accepted}
 use Rattle.refusals.specs.Answers.{unless, after}
@@ -35,10 +36,13 @@ use Rattle.checker.specs.Answers.{checkTest}
 use Rattle.checker.proofs.Answers.{CheckInputs}
 use Rattle.readoff.specs.Answers.{readOffTest}
 use Rattle.edit.specs.Answers.{editTest}
+use Rattle.unhash.specs.Unhash.{inputBefore, endsInZeros}
+use Rattle.unhash.specs.Answers.{unhashTest}
 use Rattle.elements.specs.Words.{kindOf, wordAt}
 use Rattle.elements.specs.Elements.{elementAt, elementTest, elementsTest}
 use Rattle.board.specs.Board.{mostFileBatches, fileSize, packTest, countIn, spareIn, batchesIn, countTest, unpackTest}
-use Rattle.export.specs.Calls.{hashCallTest, chainCallTest, buildCallTest, editCallTest, unpackCallTest}
+use Rattle.export.specs.Calls.{hashCallTest, chainCallTest, buildCallTest, editCallTest, unhashCallTest}
+use Rattle.export.specs.Calls.{unpackCallTest}
 
 -- ---- Prepare: 1, 8, 2, 3
 pub prepare-ends : (Q : Refusal → Type 0) → Q TableLength → Q DestinationLength
@@ -91,6 +95,27 @@ module _ (Q : Refusal → Type 0) (causes : TableCauses Q) where
     hash-call-ends size q8 =
         after-ends Q (tableTest T) _ (table-ends T) λ e.
         unless-ends Q (eqb size width) DestinationLength _ (λ f. q8) λ f. words-end Accepted (λ c. tt)
+
+  -- ---- Unhash: 1, 2, 4, 6, 16; from another language 1, 2, 4, 8, 6, 16. What is to be shown of 16 may use what was
+  -- tested before it
+  module _ (T s : List ℕ) (q6 : (i : ℕ) → i < length s → Q (TapWord i))
+      (q16 : tableTest T ≡ Accepted → AllCanonical s → Q NoPair) where
+    cells-end : tableTest T ≡ Accepted
+        → AnswerEnds Q (unless (canonicalWords s) (TapWord (firstBad s))
+        (unless (endsInZeros (inputBefore T s)) NoPair Accepted))
+    cells-end e =
+        words-end T s q6 _ λ c.
+        unless-ends Q (endsInZeros (inputBefore T s)) NoPair Accepted (λ z. q16 e c) λ z. tt
+
+    pub unhash-ends : AnswerEnds Q (unhashTest T s)
+    unfolding unhashTest
+    unhash-ends = after-ends Q (tableTest T) _ (table-ends T) cells-end
+
+    pub unhash-call-ends : (size : ℕ) → Q DestinationLength → AnswerEnds Q (unhashCallTest T s size)
+    unfolding unhashCallTest
+    unhash-call-ends size q8 =
+        after-ends Q (tableTest T) _ (table-ends T) λ e.
+        unless-ends Q (eqb size 8) DestinationLength _ (λ f. q8) λ f. cells-end e
 
   -- ---- Chain: 1, 2, 4, 5, 6, from another language 1, 2, 4, 5, 8, 6; and Build: 1, 2, 4, 5, 8, 6
   module _ (T w : List ℕ) (q5 : Q TapLength)

@@ -20,7 +20,8 @@ use Rattle.checker.specs.Answers.{checkTest}
 use Rattle.checker.proofs.Answers.{CheckInputs}
 use Rattle.readoff.specs.Answers.{readOffTest}
 use Rattle.board.specs.Board.{packTest, batchesIn}
-use Rattle.export.specs.Calls.{hashCallTest, chainCallTest, buildCallTest, editCallTest, unpackCallTest}
+use Rattle.export.specs.Calls.{hashCallTest, chainCallTest, buildCallTest, editCallTest, unhashCallTest}
+use Rattle.export.specs.Calls.{unpackCallTest}
 use Rattle.export.proofs.Bits.{InBits, RefusalInBits}
 use Rattle.export.proofs.Endings as ends
 use Rattle.export.proofs.Endings.{TableCauses}
@@ -93,6 +94,11 @@ pub hash-bits : (T words : List ℕ) (size : ℕ) → length words ≡ 8
     → AnswerEnds RefusalInBits (hashCallTest T words size)
 hash-bits T words size h =
     ends.hash-call-ends RefusalInBits table-bits T words (λ i l. indexed-bits 6 i (lit< tt) (omega arith)) size eight
+
+pub unhash-bits : (T s : List ℕ) (size : ℕ) → length s ≡ 12 → AnswerEnds RefusalInBits (unhashCallTest T s size)
+unhash-bits T s size h =
+    ends.unhash-call-ends RefusalInBits table-bits T s (λ i l. indexed-bits 6 i (lit< tt) (omega arith))
+    (λ e c. alone-bits 16 (lit< tt)) size eight
 
 pub chain-bits : (T w : List ℕ) (size : ℕ) → AnswerEnds RefusalInBits (chainCallTest T w size)
 chain-bits T w size = ends.chain-call-ends RefusalInBits table-bits T w five (taps-bits w) size eight

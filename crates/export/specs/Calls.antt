@@ -1,7 +1,8 @@
--- What each call from another language answers and leaves (document 01, "What is turned back", and for Edit document
--- 02, U1, for the order of the refusals). Four words that are returned, and Hash's twelve (document 02, U3), go to a
--- destination like any other; size is its length, and one other than 4, for Hash than 12, is refused with 8, where 8
--- stands in the order. T is the lent table, w a list of taps, t a trace, n the number of a tap and new the new one.
+-- What each call from another language answers and leaves (document 01, "What is turned back", and document 02, for
+-- Edit U1, for Unhash U5, for the order of the refusals). Four words that are returned, Hash's twelve (document 02, U3)
+-- and Unhash's eight go to a destination like any other; size is its length, and one other than 4, for Hash than 12,
+-- for Unhash than 8, is refused with 8, where 8 stands in the order. T is the lent table, w a list of taps, t a trace,
+-- n the number of a tap and new the new one, s a state.
 -- Assumes nothing.
 use mathlib.Core.Bool.{_&&_}
 use mathlib.Core.List.{List}
@@ -15,7 +16,7 @@ use Rattle.numbers.specs.Numbers.{isTraceLength, traceWordBatches}
 use Rattle.refusals.specs.Refusals.{digest, digestWords, state, stateWords}
 use Rattle.refusals.specs.Answers.{unless, after, digestAfter, stateAfter, leaves}
 use Rattle.refusals.specs.declared.Refusal.the-variants.{TapLength, TapWord, TraceLength, DestinationLength, ClaimWord}
-use Rattle.refusals.specs.declared.Refusal.the-variants.{TraceWord, FileLength, NoSuchTap}
+use Rattle.refusals.specs.declared.Refusal.the-variants.{TraceWord, FileLength, NoSuchTap, NoPair}
 use Rattle.refusals.specs.declared.Answer.{Answer}
 use Rattle.refusals.specs.declared.Answer.the-variants as answer
 use Rattle.refusals.specs.declared.DigestAnswer.{DigestAnswer}
@@ -28,6 +29,7 @@ use Rattle.trace.specs.Trace.{trace}
 use Rattle.constraints.specs.Constraints.{constraintTest}
 use Rattle.readoff.specs.Answers.{readOffAnswer, readOffLeaves}
 use Rattle.edit.specs.Answers.{alteredTaps}
+use Rattle.unhash.specs.Unhash.{inputBefore, tapsBefore, endsInZeros}
 use Rattle.elements.specs.Words.{wordAt}
 use Rattle.elements.specs.Elements.{elementsTest}
 use Rattle.board.specs.Board.{fileSize, elementCount, packTest, packLeaves, batchesIn, claimIn, tapsIn, countTest}
@@ -76,7 +78,7 @@ hashCallTest T words size =
     (unless (canonicalWords words) (TapWord (firstBad words))
     answer.Accepted))
 
--- what is left of it where the twelve words find no room
+-- what is left of it, and of Unhash's, where the words find no room
 unfoldable pub hashNoRoom : List ℕ → Answer
 hashNoRoom T = after (tableTest T) (answer.Refused DestinationLength)
 
@@ -154,6 +156,20 @@ pub record EditCall (T t claim : List ℕ) (n : ℕ) (new : List ℕ) (code : �
   pub four : HandsOver (editCall T t claim n new (length output)) code output output′
   pub rows : t′ ≡ leaves (editCallTest T t claim n new (length output))
       (trace T (alteredTaps T t n new) (traceWordBatches (length t))) t
+
+-- Unhash: 1, 2, 4, 8, 6, 16
+unfoldable pub unhashCallTest : List ℕ → List ℕ → ℕ → Answer
+unhashCallTest T s size =
+    after (tableTest T)
+    (unless (eqb size 8) DestinationLength
+    (unless (canonicalWords s) (TapWord (firstBad s))
+    (unless (endsInZeros (inputBefore T s)) NoPair
+    answer.Accepted)))
+
+-- its two taps go to a destination of eight words, the first tap first
+pub record UnhashCall (T s : List ℕ) (code : ℕ) (old new : List ℕ) : Type 0 where
+  pub coded : code ≡ answerCode (unhashCallTest T s (length old))
+  pub taps : new ≡ leaves (unhashCallTest T s (length old)) (tapsBefore T s) old
 
 -- Pack: 5, 8, 9, 6
 pub record PackCall (taps claim old : List ℕ) (code : ℕ) (new : List ℕ) : Type 0 where

@@ -30,8 +30,8 @@ particularsCode p = code (p .number) (p .constraint) (p .row) (p .value)
 abbrev pub refusalCode : Refusal → ℕ
 refusalCode r = particularsCode (told r)
 
--- of an answer. Acceptance is 0, with the tests where the operation counts them; four or twelve words are written, and
--- no part of the code
+-- of an answer. Acceptance is 0, with the tests where the operation counts them; four, eight or twelve words are
+-- written, and no part of the code
 unfoldable pub answerCode : Answer → ℕ
 answerCode answer.Accepted = 0
 answerCode (answer.Refused r) = refusalCode r

@@ -4,17 +4,23 @@ ghost use mathlib.Core.Path.{_≡_};
 ghost use mathlib.Core.List.{[], _∷_};
 ghost use lib.ListN.{length};
 ghost use Rattle.numbers.specs.Numbers.{width};
+ghost use Rattle.refusals.specs.Refusals.{digestWords, pairWords};
 ghost use Rattle.checker.specs.Answers.{checkAnswer};
 ghost use Rattle.export.specs.Code.{code, refusalCode, answerCode, digestCode, testsCode};
 ghost use Rattle.export.specs.Calls.{interface, HandsOver, HandsOverState, PrepareCall, hashNoRoom, hashCall};
 ghost use Rattle.export.specs.Calls.{chainNoRoom, chainCall, BuildCall, ReadOffCall, editNoRoom, EditCall};
-ghost use Rattle.export.specs.Calls.{PackCall, UnpackCall};
+ghost use Rattle.export.specs.Calls.{UnhashCall, PackCall, UnpackCall};
 use numbers::BatchCount;
 use numbers::MOST_BATCHES;
+use numbers::PAIR_WORDS;
+use numbers::TAP_WORDS;
 use numbers::TapNumber;
 use numbers::WIDTH;
 use refusals::Answer;
+use refusals::Digest;
 use refusals::DigestAnswer;
+use refusals::Pair;
+use refusals::PairAnswer;
 use refusals::Refusal;
 use refusals::StateAnswer;
 use refusals::TestsAnswer;
@@ -78,6 +84,17 @@ fn tests_code(answer: TestsAnswer) -> u64
     }
 }
 
+// The four words into a part of four words.
+fn put_digest(part: &mut [u64], digest: Digest)
+    requires { ⌜ length (now part) ≡ 4 ⌝ }
+    ensures { λ r. ⌜ now (part .exit) ≡ digestWords digest ⌝ }
+{
+    part[0] = digest.0;
+    part[1] = digest.1;
+    part[2] = digest.2;
+    part[3] = digest.3;
+}
+
 // The code of the answer; the four words of an acceptance are written to the output.
 fn hand_over(answer: DigestAnswer, output: &mut [u64]) -> u64
     requires { ⌜ length (now output) ≡ 4 ⌝ }
@@ -85,10 +102,7 @@ fn hand_over(answer: DigestAnswer, output: &mut [u64]) -> u64
 {
     match answer {
         DigestAnswer::Accepted(digest) => {
-            output[0] = digest.0;
-            output[1] = digest.1;
-            output[2] = digest.2;
-            output[3] = digest.3;
+            put_digest(output, digest);
             0
         }
         DigestAnswer::Refused(r) => refusal_code(r),
@@ -128,7 +142,7 @@ pub extern "C" fn lemoncolumn_prepare(raw: &[u64], destination: &mut [u64]) -> u
     answer_code(table::prepare(raw, destination))
 }
 
-// What Hash refuses where its output finds no room: 1, 2, 4, 8.
+// What Hash and Unhash refuse where what they return finds no room: 1, 2, 4, 8.
 fn hash_no_room(table: &[u64]) -> Answer
     ensures { λ r. ⌜ r ≡ hashNoRoom (now (table .entry)) ⌝ }
 {
@@ -287,6 +301,49 @@ pub extern "C" fn lemoncolumn_edit(
         ),
         output,
     )
+}
+
+// The eight words into a destination of eight words, the first tap first.
+fn put_pair(destination: &mut [u64], pair: Pair)
+    requires { ⌜ length (now destination) ≡ 8 ⌝ }
+    ensures { λ r. ⌜ now (destination .exit) ≡ pairWords pair ⌝ }
+{
+    put_digest(&mut destination[0..TAP_WORDS], pair.first);
+    put_digest(&mut destination[TAP_WORDS..PAIR_WORDS], pair.second);
+}
+
+// Unhash: 1, 2, 4, 8, 6, 16.
+#[no_mangle]
+pub extern "C" fn lemoncolumn_unhash(
+    table: &[u64],
+    s0: u64,
+    s1: u64,
+    s2: u64,
+    s3: u64,
+    s4: u64,
+    s5: u64,
+    s6: u64,
+    s7: u64,
+    s8: u64,
+    s9: u64,
+    s10: u64,
+    s11: u64,
+    pair: &mut [u64],
+) -> u64
+    ensures { λ r. ⌜ UnhashCall (now (table .entry))
+        (s0 ∷ s1 ∷ s2 ∷ s3 ∷ s4 ∷ s5 ∷ s6 ∷ s7 ∷ s8 ∷ s9 ∷ s10 ∷ s11 ∷ []) r
+        (now (pair .entry)) (now (pair .exit)) ⌝ }
+{
+    if pair.len() != PAIR_WORDS {
+        return answer_code(hash_no_room(table));
+    }
+    match unhash::unhash(table, [s0, s1, s2, s3, s4, s5, s6, s7, s8, s9, s10, s11]) {
+        PairAnswer::Accepted(found) => {
+            put_pair(pair, found);
+            0
+        }
+        PairAnswer::Refused(r) => refusal_code(r),
+    }
 }
 
 // Pack: 5, 8, 9, 6.

@@ -14,8 +14,9 @@ use Rattle.field.specs.Field.{P, add, cube, root}
 use Rattle.field.proofs.Fermat.{root-lt}
 use Rattle.words.specs.Words.{AllCanonical}
 use Rattle.matrix.specs.Matrix.{timesColumn, times}
-use Rattle.table.specs.Table.{IsTable, initialConstant, firstStepConstant}
+use Rattle.table.specs.Table.{IsTable, initialConstant, firstStepConstant, secondStepConstant}
 use Rattle.table.proofs.Theorems.{initial-length, initial-canonical, first-step-length, first-step-canonical}
+use Rattle.table.proofs.Theorems.{second-step-length, second-step-canonical}
 use Rattle.hash.specs.Hash.{roots, cubes, plus, mix, firstStep, secondStep, stateAt, middleState, finalState}
 
 -- twelve canonical cells
@@ -108,6 +109,9 @@ initial-state T a = record { size = initial-length T a; canonical = initial-cano
 
 pub first-constant-state : (T : List ℕ) → IsTable T → (r : ℕ) → r < 10 → IsState (firstStepConstant T r)
 first-constant-state T a r h = record { size = first-step-length T a r h; canonical = first-step-canonical T a r h }
+
+pub second-constant-state : (T : List ℕ) → IsTable T → (r : ℕ) → r < 10 → IsState (secondStepConstant T r)
+second-constant-state T a r h = record { size = second-step-length T a r h; canonical = second-step-canonical T a r h }
 
 -- ---- the middle state of each round, and the state after it
 pub stateAt-zero : (T s : List ℕ) → stateAt T s 0 ≡ plus s (initialConstant T)

@@ -164,8 +164,8 @@ fn last_state(table: &[u64], taps: &[u64], hashes: usize) -> [u64; WIDTH]
     state
 }
 
-// What Hash tests: 1, 2, 4, 6.
-fn test_hash(table: &[u64], words: &[u64]) -> Answer
+// What Hash tests, and Unhash before its 16: 1, 2, 4, 6.
+pub fn test_hash(table: &[u64], words: &[u64]) -> Answer
     ensures { λ r. ⌜ r ≡ hashTest (now (table .entry)) (now (words .entry)) ⌝ }
 {
     let of_table = table::test(table);

@@ -18,6 +18,9 @@ pub const BATCH_WORDS: usize = BATCH_ROWS * WIDTH;
 // The words of a tap.
 pub const TAP_WORDS: usize = 4;
 
+// The words of the two taps of a hash.
+pub const PAIR_WORDS: usize = 2 * TAP_WORDS;
+
 // The words of a batch in a list of taps, which has one tap more.
 pub const BATCH_TAP_WORDS: usize = 3 * TAP_WORDS;
 

@@ -12,8 +12,10 @@ use Rattle.refusals.specs.declared.Digest.{Digest}
 use Rattle.refusals.specs.declared.DigestAnswer.the-variants as digest
 use Rattle.refusals.specs.declared.State.{State}
 use Rattle.refusals.specs.declared.StateAnswer.the-variants as state
+use Rattle.refusals.specs.declared.Pair.{Pair}
+use Rattle.refusals.specs.declared.PairAnswer.the-variants as pair
 use Rattle.refusals.specs.declared.TestsAnswer.the-variants as tests
-use Rattle.refusals.specs.Answers.{unless, after, digestAfter, stateAfter, testsAfter, leaves}
+use Rattle.refusals.specs.Answers.{unless, after, digestAfter, stateAfter, pairAfter, testsAfter, leaves}
 
 pub not-accepted : (r : Refusal) → Refused r ≡ Accepted → ⊥
 not-accepted r e = let z : _≡_ {A = ℕ} 0 1 = cc in omega arith
@@ -35,6 +37,10 @@ pub state-accepted : (a : Answer) (s t : State) → stateAfter a s ≡ state.Acc
 state-accepted Accepted s t q = (refl, cc)
 state-accepted (Refused r) s t q = absurd (let z : _≡_ {A = ℕ} 0 1 = cc in omega arith)
 
+pub pair-accepted : (a : Answer) (p q : Pair) → pairAfter a p ≡ pair.Accepted q → (a ≡ Accepted) × (p ≡ q)
+pair-accepted Accepted p q e = (refl, cc)
+pair-accepted (Refused r) p q e = absurd (let z : _≡_ {A = ℕ} 0 1 = cc in omega arith)
+
 pub tests-accepted : (a : Answer) (m n : ℕ) → testsAfter a m ≡ tests.Accepted n → (a ≡ Accepted) × (m ≡ n)
 tests-accepted Accepted m n q = (refl, cc)
 tests-accepted (Refused r) m n q = absurd (let z : _≡_ {A = ℕ} 0 1 = cc in omega arith)
@@ -47,6 +53,10 @@ digest-refused (Refused s) d r q = cc
 pub state-refused : (a : Answer) (s : State) (r : Refusal) → stateAfter a s ≡ state.Refused r → a ≡ Refused r
 state-refused Accepted s r q = absurd (let z : _≡_ {A = ℕ} 0 1 = cc in omega arith)
 state-refused (Refused q) s r e = cc
+
+pub pair-refused : (a : Answer) (p : Pair) (r : Refusal) → pairAfter a p ≡ pair.Refused r → a ≡ Refused r
+pair-refused Accepted p r e = absurd (let z : _≡_ {A = ℕ} 0 1 = cc in omega arith)
+pair-refused (Refused q) p r e = cc
 
 pub tests-refused : (a : Answer) (n : ℕ) (r : Refusal) → testsAfter a n ≡ tests.Refused r → a ≡ Refused r
 tests-refused Accepted n r q = absurd (let z : _≡_ {A = ℕ} 0 1 = cc in omega arith)
@@ -92,6 +102,12 @@ module _ {a t : Answer} (e : a ≡ t) where
 
   pub state-returned : {c s : State} → a ≡ Accepted → c ≡ s → state.Accepted c ≡ stateAfter t s
   state-returned {c} {s} q p = ap state.Accepted p ∙ sym (ap (λ x. stateAfter x s) (sym e ∙ q))
+
+  pub pair-turned-back : {r : Refusal} (p : Pair) → a ≡ Refused r → pair.Refused r ≡ pairAfter t p
+  pair-turned-back p q = sym (ap (λ x. pairAfter x p) (sym e ∙ q))
+
+  pub pair-returned : {c p : Pair} → a ≡ Accepted → c ≡ p → pair.Accepted c ≡ pairAfter t p
+  pair-returned {c} {p} q f = ap pair.Accepted f ∙ sym (ap (λ x. pairAfter x p) (sym e ∙ q))
 
   pub tests-turned-back : {r : Refusal} (n : ℕ) → a ≡ Refused r → tests.Refused r ≡ testsAfter t n
   tests-turned-back n q = sym (ap (λ x. testsAfter x n) (sym e ∙ q))

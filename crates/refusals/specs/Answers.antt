@@ -14,6 +14,9 @@ use Rattle.refusals.specs.declared.DigestAnswer.the-variants as digest
 use Rattle.refusals.specs.declared.State.{State}
 use Rattle.refusals.specs.declared.StateAnswer.{StateAnswer}
 use Rattle.refusals.specs.declared.StateAnswer.the-variants as state
+use Rattle.refusals.specs.declared.Pair.{Pair}
+use Rattle.refusals.specs.declared.PairAnswer.{PairAnswer}
+use Rattle.refusals.specs.declared.PairAnswer.the-variants as pair
 use Rattle.refusals.specs.declared.TestsAnswer.{TestsAnswer}
 use Rattle.refusals.specs.declared.TestsAnswer.the-variants as tests
 
@@ -43,6 +46,11 @@ digestAfter (Refused r) d = digest.Refused r
 abbrev pub stateAfter : Answer → State → StateAnswer
 stateAfter Accepted s = state.Accepted s
 stateAfter (Refused r) s = state.Refused r
+
+-- the two taps that are returned, or the refusal
+abbrev pub pairAfter : Answer → Pair → PairAnswer
+pairAfter Accepted p = pair.Accepted p
+pairAfter (Refused r) p = pair.Refused r
 
 -- the number of tests walked, or the refusal
 abbrev pub testsAfter : Answer → ℕ → TestsAnswer

@@ -1,16 +1,17 @@
 -- The number of each refusal and the values returned with it (document 01, "What is turned back"; document 02).
 -- Assumes nothing.
-use mathlib.Core.List.{List, [], _∷_}
+use mathlib.Core.List.{List, [], _∷_, _++_}
 use Prim.Native.Nat.{ℕ}
 use lib.ListN.{getD}
 use Rattle.refusals.specs.declared.Refusal.{Refusal}
 use Rattle.refusals.specs.declared.Refusal.the-variants.{TableLength, TableWord, NoInverse, WrongInverse}
 use Rattle.refusals.specs.declared.Refusal.the-variants.{TapLength, TapWord, TraceLength, DestinationLength}
 use Rattle.refusals.specs.declared.Refusal.the-variants.{ClaimWord, TraceWord, Constraint, FileLength}
-use Rattle.refusals.specs.declared.Refusal.the-variants.{WrongKind, WrongValue, NoSuchTap}
+use Rattle.refusals.specs.declared.Refusal.the-variants.{WrongKind, WrongValue, NoSuchTap, NoPair}
 use Rattle.refusals.specs.declared.Particulars.{Particulars}
 use Rattle.refusals.specs.declared.Digest.{Digest}
 use Rattle.refusals.specs.declared.State.{State}
+use Rattle.refusals.specs.declared.Pair.{Pair}
 
 -- a number alone, and a number with an index
 abbrev pub alone : ℕ → Particulars
@@ -38,8 +39,9 @@ told FileLength = alone 12
 told (WrongKind i) = indexed 13 i
 told (WrongValue i) = indexed 14 i
 told NoSuchTap = alone 15
+told NoPair = alone 16
 
--- the first four cells of a list, as an output or a claim is returned
+-- the first four cells of a list, as an output, a claim or a tap is returned
 abbrev pub digest : List ℕ → Digest
 digest s = record { 0 = getD s 0 0; 1 = getD s 1 0; 2 = getD s 2 0; 3 = getD s 3 0 }
 
@@ -68,3 +70,14 @@ state s = record {
 abbrev pub stateWords : State → List ℕ
 stateWords s =
     s .0 ∷ s .1 ∷ s .2 ∷ s .3 ∷ s .4 ∷ s .5 ∷ s .6 ∷ s .7 ∷ s .8 ∷ s .9 ∷ s .10 ∷ s .11 ∷ []
+
+-- the first eight cells of a list, as two taps are returned
+abbrev pub pair : List ℕ → Pair
+pair s = record {
+  first = digest s;
+  second = record { 0 = getD s 4 0; 1 = getD s 5 0; 2 = getD s 6 0; 3 = getD s 7 0 };
+}
+
+-- their eight words as a list, the first tap first
+abbrev pub pairWords : Pair → List ℕ
+pairWords p = digestWords (p .first) ++ digestWords (p .second)

@@ -1,6 +1,6 @@
 // What is turned back (document 01, the section of that name; document 02), and the answers that hold it.
 ghost use mathlib.Core.Path.{_≡_};
-ghost use Rattle.refusals.specs.Refusals.{alone, indexed, told, state, stateWords};
+ghost use Rattle.refusals.specs.Refusals.{alone, indexed, told, state, stateWords, pair};
 ghost use Rattle.refusals.specs.Answers.{Refuses};
 use numbers::RowNumber;
 use numbers::WIDTH;
@@ -27,6 +27,7 @@ pub enum Refusal {
     WrongKind(usize),
     WrongValue(usize),
     NoSuchTap,
+    NoPair,
 }
 
 // What is told of a refusal: its number, and how many values come with it: none, an index (`value`), or row, constraint
@@ -94,6 +95,7 @@ pub fn told(refusal: Refusal) -> Particulars
         Refusal::WrongKind(i) => indexed(13, i),
         Refusal::WrongValue(i) => indexed(14, i),
         Refusal::NoSuchTap => alone(15),
+        Refusal::NoPair => alone(16),
     }
 }
 
@@ -116,7 +118,7 @@ impl Answer {
     }
 }
 
-// Four words: an output of the chain, or a claim.
+// Four words: an output of the chain, a claim, or a tap.
 pub struct Digest(pub u64, pub u64, pub u64, pub u64);
 
 // The answer of Chain, Build, Unpack and Edit: four words.
@@ -184,6 +186,30 @@ impl State {
 // The answer of Hash: the final state.
 pub enum StateAnswer {
     Accepted(State),
+    Refused(Refusal),
+}
+
+// Eight words: the two taps of a hash.
+pub struct Pair {
+    pub first: Digest,
+    pub second: Digest,
+}
+
+impl Pair {
+    // The taps with which the input of a hash begins.
+    pub fn of(input: [u64; WIDTH]) -> Pair
+        ensures { λ r. ⌜ r ≡ pair input ⌝ }
+    {
+        Pair {
+            first: Digest(input[0], input[1], input[2], input[3]),
+            second: Digest(input[4], input[5], input[6], input[7]),
+        }
+    }
+}
+
+// The answer of Unhash: the two taps.
+pub enum PairAnswer {
+    Accepted(Pair),
     Refused(Refusal),
 }
 

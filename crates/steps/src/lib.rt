@@ -1,12 +1,12 @@
-// The second step of a round, and the first step undone, over matrices made ready once for all rows (document 01, "The
-// 52 constraints"). Cubes come out divided by 2^128, as two products in Montgomery's form leave them; the matrices'
+// The second step of a round, and the first step undone, over matrices made ready once a call (document 01, "The 52
+// constraints"). Cubes come out divided by 2^128, as two products in Montgomery's form leave them; the matrices'
 // scales make up for that.
 ghost use mathlib.Core.Path.{_≡_};
 ghost use Prim.Native.Nat.{_<_, _≤_};
 ghost use Rattle.lists.specs.Lists.{cell, tab};
 ghost use Rattle.words.specs.Words.{CanonicalTo};
 ghost use Rattle.numbers.specs.Numbers.{width};
-ghost use Rattle.table.specs.Table.{IsTable, initialConstant, firstStepConstant};
+ghost use Rattle.table.specs.Table.{IsTable, initialConstant, firstStepConstant, secondStepConstant};
 ghost use Rattle.hash.specs.Hash.{secondStep};
 ghost use Rattle.constraints.specs.Constraints.{minus, backStep};
 ghost use Rattle.steps.specs.StepHelpers.{montgomeryCube, forwardReady, backReady, columns};
@@ -56,6 +56,19 @@ fn less_first_step(table: &[u64], round: usize, s: [u64; WIDTH]) -> [u64; WIDTH]
     let mut out = [0u64; WIDTH];
     for j in 0..WIDTH {
         let constant = table::first_step_constant(table, round, j);
+        out[j] = Fp(s[j]).sub(Fp(constant)).0;
+    }
+    out
+}
+
+// The cells less the second-step constant of the round.
+pub fn less_second_step(table: &[u64], round: usize, s: [u64; WIDTH]) -> [u64; WIDTH]
+    requires { ⌜ IsTable (now table) × (round < 10) × CanonicalTo width s ⌝ }
+    ensures { λ r. ⌜ (r ≡ minus s (secondStepConstant (now (table .entry)) round)) × CanonicalTo width r ⌝ }
+{
+    let mut out = [0u64; WIDTH];
+    for j in 0..WIDTH {
+        let constant = table::second_step_constant(table, round, j);
         out[j] = Fp(s[j]).sub(Fp(constant)).0;
     }
     out

@@ -6,7 +6,8 @@
 //!
 //! prints the tables of README.md, "Speed". A further operation gets its row, with
 //! its goal, in the list of `operations` or in `field`; one that alters what is
-//! lent to it, as Edit does, in `edits`.
+//! lent to it, as Edit does, in `edits`. Unhash, whose goal goes by Hash, is in
+//! `unhash`.
 //!
 //! The implementations take turns, many times over, and the shortest time of
 //! each counts, in the thread's own time: what else the machine does lengthens
@@ -16,6 +17,7 @@ mod edits;
 mod field;
 mod operations;
 mod timing;
+mod unhash;
 
 use operations::Day;
 use timing::Table;
@@ -25,6 +27,7 @@ fn main() {
     field::measure(&mut table);
     let days = [1, 64, 1024].map(Day::new);
     let growth = operations::measure(&mut table, &days);
+    let unhash = unhash::measure(&days[0]);
     let edits = edits::measure(&days[2]);
     table.print();
     let growth: Vec<String> = growth
@@ -34,4 +37,6 @@ fn main() {
     let growth = growth.join(", ");
     println!("\nA batch at k = 1024 takes {growth} times what it takes at k = 64.\n");
     edits.print();
+    println!();
+    unhash.print();
 }

@@ -1,5 +1,6 @@
 //! Times of several ways to do one thing, taken in turn.
 
+use std::hint::black_box;
 use std::time::Duration;
 
 /// The kernel's `struct timespec`, and its clock of this thread's own time:
@@ -31,6 +32,23 @@ const STRETCH: Duration = Duration::from_millis(2);
 /// Turns of each way: at least so many, and as many more as this time allows.
 const TURNS: usize = 7;
 const TIME: Duration = Duration::from_millis(1500);
+
+/// Places of the stack at which the turns run, one after the other. At a few in a
+/// hundred Hash, Check or Unhash was seen to take up to a quarter more; the shortest
+/// time should not depend on where a process happens to begin.
+const PLACES: usize = 16;
+
+/// Runs at a place that is so many frames further down, of some 240 bytes each.
+#[inline(never)]
+fn further_down(frames: usize, run: &mut dyn FnMut() -> Duration) -> Duration {
+    let frame = black_box([0_u8; 200]);
+    let time = match frames {
+        0 => run(),
+        _ => further_down(frames - 1, run),
+    };
+    black_box(&frame);
+    time
+}
 
 /// One way to do a thing; each run of it counts `units`.
 pub struct Way<'a> {
@@ -79,7 +97,8 @@ pub fn times(ways: &mut [Way]) -> Vec<f64> {
     let mut turns = 0;
     while turns < TURNS || now() - start < TIME {
         for (number, way) in ways.iter_mut().enumerate() {
-            let time = way.time(runs[number]).as_secs_f64() * 1e9;
+            let time = further_down(turns % PLACES, &mut || way.time(runs[number]));
+            let time = time.as_secs_f64() * 1e9;
             let unit = time / (runs[number] as f64 * way.units);
             best[number] = best[number].min(unit);
         }

@@ -110,6 +110,7 @@ pub fn named(refusal: lemoncolumn::Refusal) -> second::Refusal {
         Proved::WrongKind { word } => Second::Kind { word },
         Proved::WrongValue { word } => Second::Value { word },
         Proved::NoSuchTap => Second::NoSuchTap,
+        Proved::NoPair => Second::NoPair,
     }
 }
 

@@ -147,6 +147,24 @@ fn edit() {
 }
 
 #[test]
+fn unhash() {
+    for seed in seeds("unhash") {
+        for case in unhash_cases(seed, 2000) {
+            let about = format!("seed {seed}: {}", case.name);
+            let table = case.table.clone();
+            let answer = lemoncolumn::unhash(&table, case.state);
+            assert_eq!(table, case.table, "{about}");
+            let second = second::unhash(&case.table, case.state);
+            let none = words(0);
+            agree(&about, (answer, &none), (second, &none), case.refusal);
+            if case.refusal.is_none() {
+                assert_eq!(answer, Ok(case.pair), "{about}");
+            }
+        }
+    }
+}
+
+#[test]
 fn pack() {
     for seed in seeds("pack") {
         for case in pack_cases(seed, 4000) {

@@ -78,6 +78,16 @@ pub struct EditCase {
 }
 
 #[derive(Clone, Debug)]
+pub struct UnhashCase {
+    pub name: String,
+    pub table: Vec<u64>,
+    pub state: [u64; 12],
+    pub refusal: Option<Refusal>,
+    /// The two taps to be returned when nothing is refused.
+    pub pair: [u64; 8],
+}
+
+#[derive(Clone, Debug)]
 pub struct PackCase {
     pub name: String,
     pub taps: Vec<u64>,

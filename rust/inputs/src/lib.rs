@@ -11,6 +11,7 @@
 //! 7. `files`: Pack and Unpack ("The board file")
 //! 8. `program`: the line that the program prints (there, "The program reads")
 //! 9. `edits`: Edit (document 02, U1)
+//! 10. `pairs`: Unhash (document 02, U5)
 //!
 //! For each operation there is a kind of case and a function that makes its
 //! corner cases and `n` random ones from a seed; the same seed makes the same
@@ -28,6 +29,7 @@ pub mod cases;
 pub mod checks;
 pub mod edits;
 pub mod files;
+pub mod pairs;
 pub mod program;
 pub mod random;
 pub mod tables;
@@ -38,6 +40,7 @@ pub use cases::*;
 pub use checks::{check_cases, fault_cases, read_off_cases};
 pub use edits::edit_cases;
 pub use files::{pack_cases, unpack_cases};
+pub use pairs::unhash_cases;
 pub use program::clear_cases;
 pub use random::Random;
 pub use tables::prepare_cases;

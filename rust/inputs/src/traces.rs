@@ -24,7 +24,8 @@ use crate::taps::list;
 use second::field::{add, cube, mul, root, P};
 use second::Refusal;
 
-type Cells = [u64; 12];
+/// A row, or a state of a hash.
+pub type Cells = [u64; 12];
 
 /// A test that shall fail, and by how much.
 #[derive(Clone, Copy, Debug)]
@@ -81,7 +82,7 @@ pub fn with_faults(table: &Good, taps: &[u64], faults: &[Fault]) -> (Vec<u64>, [
 }
 
 /// M times the cells, plus K_number.
-fn times_m(table: &Good, cells: Cells, number: usize) -> Cells {
+pub fn times_m(table: &Good, cells: Cells, number: usize) -> Cells {
     std::array::from_fn(|i| {
         let products = (0..12).map(|j| mul(table.m(i, j), cells[j]));
         products.fold(table.k(number, i), add)

@@ -16,8 +16,8 @@ const OLD: u64 = 0x0123456789abcdef;
 
 /// Counts refusals by number, 0 for accepted, and checks that each has come.
 struct Seen([usize; NUMBERS]);
-/// 0 to 15.
-const NUMBERS: usize = 16;
+/// 0 to 16.
+const NUMBERS: usize = 17;
 
 impl Seen {
     fn new() -> Seen {
@@ -222,6 +222,30 @@ fn edit() {
         seen.note(case.refusal);
     }
     seen.each(&[0, 1, 2, 4, 6, 7, 9, 10, 11, 15], 10);
+}
+
+/// A pair that is answered hashes to the lent state, by `second` and by both
+/// yardsticks, and so it does where it is the third hash of a trace.
+#[test]
+fn unhash() {
+    let mut seen = Seen::new();
+    for case in unhash_cases(SEED, 800) {
+        let answer = second::unhash(&case.table, case.state);
+        let expected = case.refusal.map_or(Ok(case.pair), Err);
+        assert_eq!(answer, expected, "seed {SEED}: {}", case.name);
+        if let Ok(pair) = answer {
+            let hashed = second::hash(&case.table, pair);
+            assert_eq!(hashed, Ok(case.state), "seed {SEED}: {}", case.name);
+            for yardstick in BOTH {
+                let hashed = (yardstick.hash)(&case.table, pair);
+                assert_eq!(hashed, Ok(case.state), "seed {SEED}: {}", case.name);
+            }
+            let row_31 = in_row_31(&good(&case.table), pair);
+            assert_eq!(row_31, case.state, "seed {SEED}: {}", case.name);
+        }
+        seen.note(case.refusal);
+    }
+    seen.each(&[0, 1, 2, 4, 6, 16], 10);
 }
 
 #[test]

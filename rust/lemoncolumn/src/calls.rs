@@ -32,6 +32,25 @@ extern "C" {
         output_words: usize,
     ) -> u64;
 
+    pub fn lemoncolumn_unhash(
+        table: *const u64,
+        table_words: usize,
+        s0: u64,
+        s1: u64,
+        s2: u64,
+        s3: u64,
+        s4: u64,
+        s5: u64,
+        s6: u64,
+        s7: u64,
+        s8: u64,
+        s9: u64,
+        s10: u64,
+        s11: u64,
+        pair: *mut u64,
+        pair_words: usize,
+    ) -> u64;
+
     pub fn lemoncolumn_chain(
         table: *const u64,
         table_words: usize,

@@ -33,6 +33,8 @@ pub const RAW_WORDS: usize = 396;
 pub const TABLE_WORDS: usize = 540;
 /// Words of a hash's final state.
 pub const STATE_WORDS: usize = 12;
+/// Words of two taps.
+pub const PAIR_WORDS: usize = 8;
 
 /// Words of the tap list of k batches.
 pub const fn tap_words(k: usize) -> usize {
@@ -62,7 +64,7 @@ pub fn prepare(raw: &[u64], table: &mut [u64]) -> Result<(), Refusal> {
 /// Hashes two taps, words 0 to 3 and words 4 to 7; answers the final state, all
 /// twelve cells. Cells 0 to 3 are the documentation's hash, with which [`chain`],
 /// [`build`] and [`edit`] go on.
-pub fn hash(table: &[u64], words: [u64; 8]) -> Result<[u64; STATE_WORDS], Refusal> {
+pub fn hash(table: &[u64], words: [u64; PAIR_WORDS]) -> Result<[u64; STATE_WORDS], Refusal> {
     let [a, b, c, d, e, f, g, h] = words;
     let mut state = [0; STATE_WORDS];
     let code = call(|| unsafe {
@@ -82,6 +84,57 @@ pub fn hash(table: &[u64], words: [u64; 8]) -> Result<[u64; STATE_WORDS], Refusa
         )
     });
     accepted(code).map(|()| state)
+}
+
+/// The two taps whose [`hash`] ends in this state, the first tap in words 0 to 3. At
+/// most one pair does, and it is found; where none does, the answer is
+/// [`Refusal::NoPair`]. The cells are tested as tap words, with index 0 to 11.
+///
+/// A depot that has kept row 31 of a batch alone gets back that batch's last tap, and
+/// as the first tap the output of the chain before it.
+///
+/// ```
+/// use lemoncolumn::*;
+///
+/// let mut raw = [0; RAW_WORDS];
+/// for i in 0..12 {
+///     raw[13 * i] = 1; // M the identity, all constants zero
+/// }
+/// let mut table = [0; TABLE_WORDS];
+/// prepare(&raw, &mut table)?;
+///
+/// let taps = [1, 2, 3, 4, 5, 6, 7, 9];
+/// let mut state = hash(&table, taps)?;
+/// assert_eq!(unhash(&table, state), Ok(taps));
+///
+/// state[11] = 1; // under this table every hash ends in four zeros
+/// assert_eq!(unhash(&table, state), Err(Refusal::NoPair));
+/// # Ok::<(), Refusal>(())
+/// ```
+pub fn unhash(table: &[u64], state: [u64; STATE_WORDS]) -> Result<[u64; PAIR_WORDS], Refusal> {
+    let [a, b, c, d, e, f, g, h, i, j, k, l] = state;
+    let mut pair = [0; PAIR_WORDS];
+    let code = call(|| unsafe {
+        lemoncolumn_unhash(
+            table.as_ptr(),
+            table.len(),
+            a,
+            b,
+            c,
+            d,
+            e,
+            f,
+            g,
+            h,
+            i,
+            j,
+            k,
+            l,
+            pair.as_mut_ptr(),
+            pair.len(),
+        )
+    });
+    accepted(code).map(|()| pair)
 }
 
 /// The output of the chain of a list of taps.

@@ -17,7 +17,8 @@ pub enum Refusal {
     WrongInverse { cell: u64 },
     /// 5: the tap list is not 12k + 4 words with k permitted.
     TapLength,
-    /// 6: a tap word is not canonical; the lowest index.
+    /// 6: a tap word, or a cell lent to [`crate::unhash`], is not canonical; the
+    /// lowest index.
     TapWord { index: u64 },
     /// 7: the trace is not 384k words with k permitted.
     TraceLength,
@@ -44,6 +45,8 @@ pub enum Refusal {
     WrongValue { word: u64 },
     /// 15: the tap number is above 3k.
     NoSuchTap,
+    /// 16: no pair of taps ends in that state.
+    NoPair,
 }
 
 /// Reads the number that a call returns: the tests walked, 0 for a call that
@@ -53,7 +56,7 @@ pub enum Refusal {
 ///
 /// # Panics
 ///
-/// Where bits 0 to 5 are above 15, as in no number that a call returns.
+/// Where bits 0 to 5 are above 16, as in no number that a call returns.
 pub fn decode(code: u64) -> Result<u64, Refusal> {
     let constraint = code >> 6 & 0x3f;
     let row = code >> 12 & 0xff_ffff;
@@ -79,6 +82,7 @@ pub fn decode(code: u64) -> Result<u64, Refusal> {
         13 => Refusal::WrongKind { word: value },
         14 => Refusal::WrongValue { word: value },
         15 => Refusal::NoSuchTap,
+        16 => Refusal::NoPair,
         _ => unreachable!("no refusal has this number"),
     })
 }
@@ -107,6 +111,7 @@ impl Refusal {
             Refusal::WrongKind { .. } => 13,
             Refusal::WrongValue { .. } => 14,
             Refusal::NoSuchTap => 15,
+            Refusal::NoPair => 16,
         }
     }
 
@@ -127,7 +132,8 @@ impl Refusal {
             | Refusal::DestinationLength
             | Refusal::Constraint { .. }
             | Refusal::FileLength
-            | Refusal::NoSuchTap => None,
+            | Refusal::NoSuchTap
+            | Refusal::NoPair => None,
         }
     }
 }

@@ -1,5 +1,6 @@
 //! Document 01's known days, with cells 4 to 11 of the hashes (document 02, U3), the
-//! counts of refusal 11 (U4) and edits worked out by hand, through the safe calls.
+//! counts of refusal 11 (U4), edits, and pairs found again (U5), worked out by hand,
+//! through the safe calls.
 
 use lemoncolumn::*;
 
@@ -44,12 +45,13 @@ fn hashes_and_chains() {
         ),
     ] {
         assert_eq!(hash(table, words), Ok(state), "{words:?}");
+        assert_eq!(unhash(table, state), Ok(words), "{state:?}");
     }
     assert_eq!(chain(&a, &[0; 16]), Ok([3, 0, 0, 0]));
 }
 
 /// A day of two batches under S: each hash ends in its second tap, four zeros and
-/// its first, which is the output of the one before.
+/// its first, which is the output of the one before. Both are found again from row 31.
 #[test]
 fn final_states() {
     let s = table(11, 0);
@@ -72,7 +74,58 @@ fn final_states() {
     ] {
         assert_eq!(trace[12 * row..12 * row + 12], third, "row {row}");
         assert_eq!(hash(&s, words), Ok(third), "row {row}");
+        assert_eq!(unhash(&s, third), Ok(words), "row {row}");
     }
+}
+
+/// Under Z and A the four zeros of an input end in cells 8 to 11, under S in cells 4
+/// to 7. A state with anything else there has no pair. All zeros have one, whose first
+/// word makes up for K_0[0] = 1 under A.
+#[test]
+fn states_without_a_pair() {
+    for (table, zeros, word_0) in [
+        (table(0, 0), 8..12, 0),
+        (table(0, 1), 8..12, P - 1),
+        (table(11, 0), 4..8, 0),
+    ] {
+        for cell in zeros {
+            for word in [1, P - 1] {
+                let mut state = [0; STATE_WORDS];
+                state[cell] = word;
+                let unhashed = unhash(&table, state);
+                assert_eq!(unhashed, Err(Refusal::NoPair), "{word} in {cell}");
+            }
+        }
+        let mut pair = [0; PAIR_WORDS];
+        pair[0] = word_0;
+        assert_eq!(unhash(&table, [0; STATE_WORDS]), Ok(pair));
+    }
+}
+
+/// Each fault with those after it, in the order 1, 2, 4, 6, 16.
+#[test]
+fn refused_unhashes() {
+    let z = table(0, 0);
+    let bad = [P; STATE_WORDS];
+    let mut wrong = z;
+    wrong[144 + 15] = 1;
+    let unhashed = unhash(&wrong, bad);
+    assert_eq!(unhashed, Err(Refusal::WrongInverse { cell: 15 }));
+    wrong[539] = P;
+    let unhashed = unhash(&wrong, bad);
+    assert_eq!(unhashed, Err(Refusal::TableWord { index: 539 }));
+    let unhashed = unhash(&wrong[1..], bad);
+    assert_eq!(unhashed, Err(Refusal::TableLength));
+    for index in 0..STATE_WORDS {
+        let mut state = [1; STATE_WORDS];
+        state[index..].fill(P);
+        let refused = Err(Refusal::TapWord {
+            index: index as u64,
+        });
+        assert_eq!(unhash(&z, state), refused, "{index}");
+    }
+    let unhashed = unhash(&z, [1; STATE_WORDS]);
+    assert_eq!(unhashed, Err(Refusal::NoPair));
 }
 
 #[test]

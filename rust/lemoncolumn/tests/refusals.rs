@@ -2,9 +2,10 @@
 //! document 02.
 
 use lemoncolumn::*;
+use std::panic::catch_unwind;
 
 /// Each number, and whether an index or a cell is named with it there.
-const TABLE: [(u64, bool); 15] = [
+const TABLE: [(u64, bool); 16] = [
     (1, false),
     (2, true),
     (3, false),
@@ -20,6 +21,7 @@ const TABLE: [(u64, bool); 15] = [
     (13, true),
     (14, true),
     (15, false),
+    (16, false),
 ];
 
 /// The word that a call returns, with something in each of its parts.
@@ -50,6 +52,13 @@ fn a_constraint_has_row_number_and_tests() {
         tests: 369,
     };
     assert_eq!(decode(code(11)), Err(refusal));
+}
+
+#[test]
+fn no_refusal_has_a_higher_number() {
+    for number in TABLE.len() as u64 + 1..1 << 6 {
+        assert!(catch_unwind(|| decode(code(number))).is_err(), "{number}");
+    }
 }
 
 #[test]

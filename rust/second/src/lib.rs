@@ -16,6 +16,7 @@ pub mod program;
 pub mod refusal;
 pub mod table;
 pub mod trace;
+pub mod unhash;
 
 pub use board::{pack, unpack};
 pub use constraints::{check, read_off};
@@ -25,3 +26,4 @@ pub use program::clear;
 pub use refusal::Refusal;
 pub use table::{prepare, Table};
 pub use trace::build;
+pub use unhash::unhash;

@@ -16,7 +16,7 @@ pub enum Refusal {
     InverseCell { cell: u64 },
     /// 5: the tap list is not 12k + 4 words with k permitted.
     TapLength,
-    /// 6: a tap word is not canonical; the lowest index.
+    /// 6: a tap word, or a cell lent to Unhash, is not canonical; the lowest index.
     TapWord { index: u64 },
     /// 7: the trace is not 384k words with k permitted.
     TraceLength,
@@ -43,6 +43,8 @@ pub enum Refusal {
     Value { word: u64 },
     /// 15: the tap number is above 3k.
     NoSuchTap,
+    /// 16: no pair of taps ends in that state.
+    NoPair,
 }
 
 impl Refusal {
@@ -64,6 +66,7 @@ impl Refusal {
             Refusal::Kind { .. } => 13,
             Refusal::Value { .. } => 14,
             Refusal::NoSuchTap => 15,
+            Refusal::NoPair => 16,
         }
     }
 
@@ -77,7 +80,8 @@ impl Refusal {
             | Refusal::TraceLength
             | Refusal::DestinationLength
             | Refusal::FileLength
-            | Refusal::NoSuchTap => vec![],
+            | Refusal::NoSuchTap
+            | Refusal::NoPair => vec![],
             Refusal::TableWord { index }
             | Refusal::TapWord { index }
             | Refusal::ClaimWord { index }

@@ -6,7 +6,7 @@ mod common;
 use common::*;
 use second::constraints::tests;
 use second::field::{self, P};
-use second::{build, chain, check, edit, hash, pack, prepare, read_off, unpack, Refusal};
+use second::{build, chain, check, edit, hash, pack, prepare, read_off, unhash, unpack, Refusal};
 
 /// a times b by doubling and adding; nothing exceeds 2p.
 fn times(a: u64, b: u64) -> u64 {
@@ -47,6 +47,11 @@ fn matrix_times(words: &[u64], at: usize, column: &[u64]) -> Vec<u64> {
 
 /// Algorithm 1: the middle states and the last state.
 fn algorithm_1(raw: &[u64], left: &[u64], right: &[u64]) -> (Vec<Vec<u64>>, Vec<u64>) {
+    algorithm_1_from(raw, &[left, right, &[0; 4]].concat())
+}
+
+/// The same, from any twelve cells.
+fn algorithm_1_from(raw: &[u64], cells: &[u64]) -> (Vec<Vec<u64>>, Vec<u64>) {
     let plus = |cells: Vec<u64>, number: usize| -> Vec<u64> {
         let at = 144 + 12 * number;
         (0..12).map(|i| (cells[i] + raw[at + i]) % P).collect()
@@ -54,7 +59,7 @@ fn algorithm_1(raw: &[u64], left: &[u64], right: &[u64]) -> (Vec<Vec<u64>>, Vec<
     let powers = |cells: &[u64], exponent: u64| -> Vec<u64> {
         cells.iter().map(|&x| halving_power(x, exponent)).collect()
     };
-    let mut state = plus([left, right, &[0; 4]].concat(), 0);
+    let mut state = plus(cells.to_vec(), 0);
     let mut middles = vec![];
     for r in 0..10 {
         let roots = powers(&state, 1537228730075359915);
@@ -179,6 +184,46 @@ fn hash_is_algorithm_1() {
     }
 }
 
+/// Unhash finds the pair again, and by Algorithm 1 that ends in the cells lent. Where
+/// the algorithm has started from other cells than zeros behind the pair, there is
+/// none: no step brings two states to the same one.
+#[test]
+fn unhash_undoes_algorithm_1() {
+    let mut random = Random(14);
+    for _ in 0..4 {
+        let raw = random_raw(&mut random);
+        let table = prepared(&raw);
+        let any: [u64; 8] = std::array::from_fn(|_| random.canonical());
+        let ends = [0, 0, 0, 0, P - 1, 1, 0, P - 1];
+        for words in [any, ends, [0; 8], [P - 1; 8]] {
+            let ended = |rest: [u64; 4]| -> [u64; 12] {
+                let (_, last) = algorithm_1_from(&raw, &[&words[..], &rest].concat());
+                last.try_into().expect("twelve cells")
+            };
+            assert_eq!(unhash(&table, ended([0; 4])), Ok(words));
+            for place in 0..4 {
+                let mut rest = [0; 4];
+                for word in [1, P - 1, random.canonical()] {
+                    rest[place] = word;
+                    let refused = Err(Refusal::NoPair);
+                    assert_eq!(unhash(&table, ended(rest)), refused, "{rest:?}");
+                }
+            }
+        }
+    }
+}
+
+/// Twelve cells at random have no pair: one state in p^4 has one.
+#[test]
+fn cells_at_random_have_no_pair() {
+    let mut random = Random(15);
+    let table = prepared(&random_raw(&mut random));
+    for _ in 0..100 {
+        let cells = std::array::from_fn(|_| random.canonical());
+        assert_eq!(unhash(&table, cells), Err(Refusal::NoPair), "{cells:?}");
+    }
+}
+
 /// The final state of each hash of a list: cells 0 to 3 of one are the first tap
 /// of the next.
 fn final_states(table: &[u64], taps: &[u64]) -> Vec<[u64; 12]> {
@@ -216,6 +261,29 @@ fn final_states_of_a_list() {
             let third = states[3 * batch + 2];
             assert_eq!(trace[row_31.clone()], third, "batch {batch}, k = {k}");
             assert_eq!(rows[row_31], third, "batch {batch}, k = {k}");
+        }
+    }
+}
+
+/// Row 31 of a batch gives back the batch's last tap, and before it the output to
+/// which the list had chained by then.
+#[test]
+fn row_31_undone() {
+    let mut random = Random(16);
+    for k in [1, 2, 4, 8] {
+        let raw = random_raw(&mut random);
+        let table = prepared(&raw);
+        let taps = random.canonicals(12 * k + 4);
+        let states = final_states(&table, &taps);
+        let (rows, _) = section_3_1(&raw, &taps);
+        for batch in 0..k {
+            let row_31 = &rows[384 * batch + 12 * 31..384 * (batch + 1)];
+            let pair = unhash(&table, row_31.try_into().expect("twelve cells"));
+            let pair = pair.expect("a pair");
+            let before = &states[3 * batch + 1][..4];
+            let last_tap = &taps[12 * (batch + 1)..12 * (batch + 1) + 4];
+            assert_eq!(pair[..4], *before, "batch {batch}, k = {k}");
+            assert_eq!(pair[4..], *last_tap, "batch {batch}, k = {k}");
         }
     }
 }

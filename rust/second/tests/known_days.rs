@@ -1,12 +1,15 @@
 //! Every line of document 01's "Known days", and the program's lines. The
 //! expected values stand in document 01, and the count 362 in document 02, U4; the
-//! other counts, what edits answer and leave, and cells 4 to 11 of the hashes
-//! (document 02, U3), are worked out by hand from its definitions.
+//! other counts, what edits answer and leave, cells 4 to 11 of the hashes (document
+//! 02, U3), and the pairs that end in a state (U5), are worked out by hand from its
+//! definitions.
 
 mod common;
 use common::*;
 use second::field::{mul, root, P};
-use second::{build, chain, check, clear, edit, hash, pack, prepare, read_off, unpack, Refusal};
+use second::{
+    build, chain, check, clear, edit, hash, pack, prepare, read_off, unhash, unpack, Refusal,
+};
 
 const NO_CLAIM: [u64; 4] = [0; 4];
 
@@ -70,6 +73,70 @@ fn hash_under_s() {
         let hashed = hash(&s(), [a, b, c, d, 5, 6, 7, 9]);
         assert_eq!(hashed, Ok([5, 6, 7, 9, 0, 0, 0, 0, a, b, c, d]));
     }
+}
+
+/// The Hash cases undone. Under S the four zeros come to cells 4 to 7, and the first
+/// tap to 8 to 11.
+#[test]
+fn hash_cases_undone() {
+    assert_eq!(
+        unhash(&z(), [8, 27, 1, 0, 0, 0, 0, 0, 0, 0, 0, 0]),
+        Ok([8, 27, 1, 0, 0, 0, 0, 0])
+    );
+    assert_eq!(
+        unhash(&a(), [1, 0, 0, 0, 0, 0, 0, 0, 0, 0, 0, 0]),
+        Ok([0; 8])
+    );
+    let mut random = Random(17);
+    let mut first: Vec<[u64; 4]> = vec![[0; 4], [1, 2, 3, 4], [P - 1; 4]];
+    first.extend((0..5).map(|_| std::array::from_fn(|_| random.canonical())));
+    for [a, b, c, d] in first {
+        assert_eq!(
+            unhash(&s(), [5, 6, 7, 9, 0, 0, 0, 0, a, b, c, d]),
+            Ok([a, b, c, d, 5, 6, 7, 9])
+        );
+    }
+}
+
+/// Without constants it is that of zero taps; under A the first word makes up for
+/// K_0[0] = 1.
+#[test]
+fn the_zero_state_undone() {
+    assert_eq!(unhash(&z(), [0; 12]), Ok([0; 8]));
+    assert_eq!(unhash(&s(), [0; 12]), Ok([0; 8]));
+    assert_eq!(unhash(&a(), [0; 12]), Ok([P - 1, 0, 0, 0, 0, 0, 0, 0]));
+}
+
+/// Under Z and A the four zeros of the input stand in cells 8 to 11 at the end, under
+/// S in cells 4 to 7; a state has a pair where they do.
+#[test]
+fn states_without_a_pair() {
+    for (table, zeros) in [(z(), 8..12), (a(), 8..12), (s(), 4..8)] {
+        for cell in 0..12 {
+            for word in [1, 8, P - 1] {
+                let mut state = [0; 12];
+                state[cell] = word;
+                let answer = unhash(&table, state);
+                if zeros.contains(&cell) {
+                    assert_eq!(answer, Err(Refusal::NoPair), "{word} in {cell}");
+                } else {
+                    let pair = answer.expect("a pair");
+                    assert_eq!(hash(&table, pair), Ok(state), "{word} in {cell}");
+                }
+            }
+        }
+        assert_eq!(unhash(&table, [1; 12]), Err(Refusal::NoPair));
+    }
+}
+
+/// Each hash of a zero tap under A adds 1 to cell 0: row 31 is (3, zeros), and the
+/// chain had come to (2, 0, 0, 0) before the last tap.
+#[test]
+fn row_31_of_four_zero_taps_under_a() {
+    let mut trace = vec![7; 384];
+    build(&a(), &[0; 16], &mut trace).expect("builds");
+    let row_31 = trace[12 * 31..].try_into().expect("twelve cells");
+    assert_eq!(unhash(&a(), row_31), Ok([2, 0, 0, 0, 0, 0, 0, 0]));
 }
 
 #[test]

@@ -6,7 +6,9 @@
 mod common;
 use common::*;
 use second::field::P;
-use second::{build, chain, check, clear, edit, hash, pack, prepare, read_off, unpack, Refusal};
+use second::{
+    build, chain, check, clear, edit, hash, pack, prepare, read_off, unhash, unpack, Refusal,
+};
 
 const TABLE_LENGTH: Refusal = Refusal::TableLength;
 const TABLE_WORD: Refusal = Refusal::TableWord { index: 200 };
@@ -73,6 +75,7 @@ fn numbers_and_places() {
         (Refusal::Kind { word: 5 }, 13, vec![5]),
         (Refusal::Value { word: 7 }, 14, vec![7]),
         (Refusal::NoSuchTap, 15, vec![]),
+        (Refusal::NoPair, 16, vec![]),
     ];
     for (refusal, number, place) in listed {
         assert_eq!(refusal.number(), number);
@@ -115,6 +118,88 @@ fn hash_1_2_4_6() {
     words[7] = 0;
     let state = [1, 0, 0, 0, 0, 0, 0, 0, 0, 0, 0, 0];
     assert_eq!(hash(&mended, words), Ok(state));
+}
+
+/// Under A a final state has zeros in cells 8 to 11.
+#[test]
+fn unhash_1_2_4_6_16() {
+    let [length, word, cell, mended] = tables();
+    let mut state = [3, 0, 0, 0, P, 0, 0, 0, 0, 1, 0, u64::MAX];
+    assert_eq!(unhash(&length, state), Err(TABLE_LENGTH));
+    assert_eq!(unhash(&word, state), Err(TABLE_WORD));
+    assert_eq!(unhash(&cell, state), Err(INVERSE_CELL));
+    assert_eq!(unhash(&mended, state), Err(Refusal::TapWord { index: 4 }));
+    state[4] = 0;
+    assert_eq!(unhash(&mended, state), Err(Refusal::TapWord { index: 11 }));
+    state[11] = 0;
+    assert_eq!(unhash(&mended, state), Err(Refusal::NoPair));
+    state[9] = 0;
+    let pair = [2, 0, 0, 0, 0, 0, 0, 0];
+    assert_eq!(unhash(&mended, state), Ok(pair));
+}
+
+/// Each choice of the five faults: the first in the order is answered.
+#[test]
+fn unhash_with_faults_together() {
+    for choice in 0..1 << 5 {
+        let has = |fault: usize| choice >> fault & 1 == 1;
+        let mut table = a();
+        let mut state = [3, 0, 0, 0, 0, 0, 0, 0, 0, 0, 0, 0];
+        if has(2) {
+            table[144 + 15] = 1;
+        }
+        if has(1) {
+            table[200] = P;
+        }
+        if has(0) {
+            table.pop();
+        }
+        if has(4) {
+            state[9] = 1;
+        }
+        if has(3) {
+            state[7] = P;
+        }
+        let order = [
+            TABLE_LENGTH,
+            TABLE_WORD,
+            INVERSE_CELL,
+            Refusal::TapWord { index: 7 },
+            Refusal::NoPair,
+        ];
+        let expected = match (0..5).find(|&fault| has(fault)) {
+            Some(fault) => Err(order[fault]),
+            None => Ok([2, 0, 0, 0, 0, 0, 0, 0]),
+        };
+        assert_eq!(unhash(&table, state), expected, "{choice:05b}");
+    }
+}
+
+/// Every cell is tested, with its own index; p - 1 passes.
+#[test]
+fn cells_that_are_not_canonical() {
+    for index in 0..12 {
+        let mut state = [0; 12];
+        state[index] = P - 1;
+        let expected = match index {
+            0..=7 => {
+                let mut pair = [0; 8];
+                pair[index] = P - 1;
+                Ok(pair)
+            }
+            _ => Err(Refusal::NoPair),
+        };
+        assert_eq!(unhash(&z(), state), expected, "p - 1 at {index}");
+        let refused = Err(Refusal::TapWord {
+            index: index as u64,
+        });
+        for word in [P, P + 1, 1 << 63, u64::MAX] {
+            state[index..].fill(word);
+            assert_eq!(unhash(&z(), state), refused, "{word} from {index} on");
+            state[index + 1..].fill(0);
+            assert_eq!(unhash(&z(), state), refused, "{word} at {index}");
+        }
+    }
 }
 
 #[test]

@@ -1,11 +1,11 @@
-//! Document 01's "Traps", one test each, and those of document 02's U3. Each is
-//! a case where the mistake would give another answer than the one asserted.
+//! Document 01's "Traps", one test each, and those of document 02's U3 and U5. Each
+//! is a case where the mistake would give another answer than the one asserted.
 
 mod common;
 use common::*;
 use second::constraints::{tests, Test};
 use second::field::{mul, P};
-use second::{build, chain, check, hash, read_off, unpack, Refusal};
+use second::{build, chain, check, hash, read_off, unhash, unpack, Refusal};
 
 /// S moves each cell one up at every step, twenty steps, so eight up; read
 /// transposed it would move them down, and cells 0 to 3 would be the four zeros.
@@ -245,4 +245,83 @@ fn a_chain_that_goes_on_with_all_twelve_cells() {
     assert_eq!(build(&table, &taps, &mut trace), Ok([0; 4]));
     let row_31 = [0, 0, 0, 0, 0, 0, 0, 0, 13, 14, 15, 16];
     assert_eq!(trace[12 * 31..], row_31);
+}
+
+/// The inverse of S moves each cell one down, and in twenty steps eight down. S
+/// itself, or its inverse read transposed, would move them eight up once more, and
+/// (5, 6, 7, 9) would come to where the four zeros belong.
+#[test]
+fn m_in_place_of_its_inverse() {
+    let state = [5, 6, 7, 9, 0, 0, 0, 0, 1, 2, 3, 4];
+    assert_eq!(unhash(&s(), state), Ok(WORDS));
+    assert_eq!(unhash(&s_with_last_constants(), STATE), Ok(WORDS));
+}
+
+/// Z with K_1[0] = 7, K_19[0] = 1 and K_20[0] = 4. From 8 in cell 0, round 0 comes to
+/// (2 + 7)^3 = 729, and round 9 to (9 + 1)^3 + 4 = 1004; the rounds between change
+/// nothing.
+fn two_rounds_with_constants() -> Vec<u64> {
+    let mut raw = z_raw();
+    for (number, word) in [(1, 7), (19, 1), (20, 4)] {
+        raw[144 + 12 * number] = word;
+    }
+    prepared(&raw)
+}
+
+/// Round 0 undone first, root and cube exchanged, the constants of a round exchanged,
+/// or a neighbour's taken: none of them comes from 1004 to 8.
+#[test]
+fn steps_undone_in_another_order() {
+    let table = two_rounds_with_constants();
+    let state = [1004, 0, 0, 0, 0, 0, 0, 0, 0, 0, 0, 0];
+    let pair = [8, 0, 0, 0, 0, 0, 0, 0];
+    assert_eq!(hash(&table, pair), Ok(state));
+    assert_eq!(unhash(&table, state), Ok(pair));
+}
+
+/// Under A the hash of zeros is 1 in cell 0.
+#[test]
+fn k_0_left_in_the_pair() {
+    let state = [1, 0, 0, 0, 0, 0, 0, 0, 0, 0, 0, 0];
+    assert_eq!(unhash(&a(), state), Ok([0; 8]));
+}
+
+/// Z with K_0[8 + j] = 5 + j: those stand where zeros are asked for before K_0 is
+/// taken off.
+#[test]
+fn k_0_left_on_the_four_zeros() {
+    let mut raw = z_raw();
+    raw[144 + 8..144 + 12].copy_from_slice(&[5, 6, 7, 8]);
+    let table = prepared(&raw);
+    let state = [1, 2, 3, 4, 5, 6, 7, 9, 5, 6, 7, 8];
+    assert_eq!(unhash(&table, state), Ok(WORDS));
+    let state = [1, 2, 3, 4, 5, 6, 7, 9, 0, 0, 0, 0];
+    assert_eq!(unhash(&table, state), Err(Refusal::NoPair));
+}
+
+/// Each by itself, and their sum is no test of all.
+#[test]
+fn one_of_the_four_zeros_not_tested() {
+    let rests = [
+        [1, 0, 0, 0],
+        [0, 1, 0, 0],
+        [0, 0, 1, 0],
+        [0, 0, 0, 1],
+        [1, P - 1, 0, 0],
+        [0, 2, P - 1, P - 1],
+    ];
+    for [a, b, c, d] in rests {
+        let state = [1, 2, 3, 4, 5, 6, 7, 9, a, b, c, d];
+        assert_eq!(unhash(&z(), state), Err(Refusal::NoPair));
+    }
+}
+
+#[test]
+fn a_cell_p_taken_for_0() {
+    for index in 0..12 {
+        let mut state = [0; 12];
+        state[index as usize] = P;
+        let refused = Err(Refusal::TapWord { index });
+        assert_eq!(unhash(&z(), state), refused);
+    }
 }

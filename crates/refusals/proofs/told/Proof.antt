@@ -93,6 +93,12 @@ enum-told-7 c = search needs
 alone-requires-7 : tie.Need-alone-requires-7
 alone-requires-7 c κs = search needs
 
+enum-told-8 : tie.Need-enum-told-8
+enum-told-8 c = search needs
+
+alone-requires-8 : tie.Need-alone-requires-8
+alone-requires-8 c κs = search needs
+
 returns : tie.Need-returns
 returns c = c .alone .ensures ∙ sym (ap told (c .before .enum-told .given .1))
 
@@ -138,6 +144,9 @@ returns-14 c = c .indexed7 .ensures ∙ sym (ap told (c .before .before .refusal
 returns-15 : tie.Need-returns-15
 returns-15 c = c .alone7 .ensures ∙ sym (ap told (c .before .enum-told7 .given .1))
 
+returns-16 : tie.Need-returns-16
+returns-16 c = c .alone8 .ensures ∙ sym (ap told (c .before .enum-told8 .given .1))
+
 pub told-spec : {M : Type 1} → statement M
 told-spec =
     tie.close
@@ -171,6 +180,8 @@ told-spec =
     indexed-requires-7
     enum-told-7
     alone-requires-7
+    enum-told-8
+    alone-requires-8
     returns
     returns-2
     returns-3
@@ -185,4 +196,5 @@ told-spec =
     returns-12
     returns-13
     returns-14
-    returns-15)
+    returns-15
+    returns-16)

@@ -1,0 +1,4 @@
+pub mod Rounds
+pub mod Taps
+pub mod Answers
+pub mod Theorems

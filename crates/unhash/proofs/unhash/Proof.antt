@@ -1,0 +1,103 @@
+-- `unhash::unhash`: cells that pass the tests of Hash are a state, whose input is found; the answer is its two taps, or
+-- 16 where it does not end in zeros; else it is the tests' refusal.
+-- Assumes nothing.
+use mathlib.Core.Path.{_≡_, sym, ap, _∙_}
+use mathlib.Core.List.{List}
+use Prim.Native.Nat.{ℕ}
+use borrow.Author.Needs.{needs}
+use borrow.Author.Tests.{not-true, not-false}
+use Rattle.words.specs.Words.{AllCanonical}
+use Rattle.table.specs.Table.{initialConstant}
+use Rattle.hash.proofs.States.{IsState, state-cell}
+use Rattle.hash.proofs.CodeStates.{canonical-state}
+use Rattle.hash.proofs.Answers.{hash-inputs}
+use Rattle.constraints.specs.Constraints.{minus}
+use Rattle.unhash.specs.Unhash.{roundsUndone, inputBefore}
+use Rattle.unhash.proofs.Rounds.{roundsUndone-state}
+use Rattle.unhash.proofs.Answers.{unhash-turned-back, unhash-none, unhash-found}
+use Rattle.unhash.proofs.unhash.Statement.{statement}
+use Rattle.unhash.proofs.unhash.Tie as tie
+
+input-is : (T s : List ℕ) {x y : List ℕ} → y ≡ minus x (initialConstant T) → x ≡ roundsUndone T 10 s
+    → y ≡ inputBefore T s
+unfolding inputBefore
+input-is T s e f = e ∙ ap (λ x. minus x (initialConstant T)) f
+
+slice-aggregate-test-hash : tie.Need-slice-aggregate-test-hash
+slice-aggregate-test-hash c = search needs
+
+test-hash-requires : tie.Need-test-hash-requires
+test-hash-requires c κs = search needs
+
+enum-told : tie.Need-enum-told
+enum-told c = search needs
+
+enum-told-2 : tie.Need-enum-told-2
+enum-told-2 c = search needs
+
+refusal-requires : tie.Need-refusal-requires
+refusal-requires c κs = search needs
+
+returns : tie.Need-returns
+returns c = unhash-turned-back _ _ (c .before .before .before .test-hash .ensures) (c .refusal .ensures)
+
+-- the cells that passed are a state
+given : (entry : tie.Start) → AllCanonical (entry .args .t2) → IsState (entry .args .t2)
+given entry a = record { size = search needs; canonical = a }
+
+undo-rounds-requires : tie.Need-undo-rounds-requires
+undo-rounds-requires c κs =
+    let t = c .before .before in
+    let i = hash-inputs _ _ (sym (t .test-hash .ensures) ∙ c .enum-told .given .1) in
+    (i .table, λ j l. state-cell (given (t .before .before .before) (i .canonical)) j)
+
+less-initial-requires : tie.Need-less-initial-requires
+less-initial-requires c κs =
+    let told = c .before in
+    let t = told .before .before in
+    let i = hash-inputs _ _ (sym (t .test-hash .ensures) ∙ told .enum-told .given .1) in
+    let start = given (t .before .before .before) (i .canonical) in
+    (i .table, canonical-state (c .undo-rounds .ensures) (roundsUndone-state _ 10 start))
+
+ends-in-zeros-requires : tie.Need-ends-in-zeros-requires
+ends-in-zeros-requires c κs = search needs
+
+returns-2 : tie.Need-returns-2
+returns-2 c =
+    let tested = c .before in
+    let found = tested .before in
+    let undone = found .before in
+    let told = undone .before in
+    unhash-none _ _ (told .before .before .test-hash .ensures) (told .enum-told .given .1)
+    (input-is _ _ (found .less-initial .ensures) (undone .undo-rounds .ensures))
+    (sym (tested .ends-in-zeros .ensures) ∙ not-true _ (c .if1 .taken))
+
+of-requires : tie.Need-of-requires
+of-requires c κs = search needs
+
+returns-3 : tie.Need-returns-3
+returns-3 c =
+    let tested = c .before .before in
+    let found = tested .before in
+    let undone = found .before in
+    let told = undone .before in
+    unhash-found _ _ (told .before .before .test-hash .ensures) (told .enum-told .given .1)
+    (input-is _ _ (found .less-initial .ensures) (undone .undo-rounds .ensures))
+    (sym (tested .ends-in-zeros .ensures) ∙ not-false _ (c .before .if1 .left)) (c .of .ensures)
+
+pub unhash-spec : {M : Type 1} → statement M
+unhash-spec =
+    tie.close
+    (tie.spec
+    slice-aggregate-test-hash
+    test-hash-requires
+    enum-told
+    enum-told-2
+    refusal-requires
+    returns
+    undo-rounds-requires
+    less-initial-requires
+    ends-in-zeros-requires
+    returns-2
+    of-requires
+    returns-3)

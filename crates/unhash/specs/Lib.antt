@@ -1,0 +1,2 @@
+pub mod Unhash
+pub mod Answers
