@@ -24,8 +24,10 @@ extern "C" {
  *     if (lemoncolumn_interface() != LEMONCOLUMN_INTERFACE)
  *         return 1;
  *
- * From 2 on lemoncolumn_hash writes twelve words; in 1 it wrote the first four of them. */
-#define LEMONCOLUMN_INTERFACE 2
+ * From 2 on lemoncolumn_hash writes twelve words; in 1 it wrote the first four of them. From 3 on lemoncolumn_check,
+ * lemoncolumn_read_off and lemoncolumn_edit take c after the claim; a caller compiled for 2 would pass a tap number, a pointer
+ * or nothing at all in its place. */
+#define LEMONCOLUMN_INTERFACE 3
 
 /* The number of the library that is linked. This call stays as it is, whatever the number. */
 uint64_t lemoncolumn_interface(void);
@@ -68,22 +70,25 @@ lemoncolumn_code lemoncolumn_chain(const uint64_t *table, size_t table_words, co
 lemoncolumn_code lemoncolumn_build(const uint64_t *table, size_t table_words, const uint64_t *taps, size_t tap_words, uint64_t *trace,
                                    size_t trace_words, uint64_t *output, size_t output_words);
 
-/* Tests the trace against the claim (c0 .. c3); returns the tests walked: 1, 2, 4, 7, 9, 10, 11. */
+/* Tests the trace against the claim (c0 .. c3); returns the tests walked: 1, 2, 4, 7, 17, 9, 10, 11. The claim is the output of
+ * the first 3c + 1 taps, c from 1 to k, and is compared with row 31 of batch c - 1; c = k is the whole trace. The batches after it
+ * are tested as the others are, and go on from there. */
 lemoncolumn_code lemoncolumn_check(const uint64_t *table, size_t table_words, const uint64_t *trace, size_t trace_words, uint64_t c0, uint64_t c1,
-                                   uint64_t c2, uint64_t c3);
+                                   uint64_t c2, uint64_t c3, size_t c);
 
-/* The same, and writes the taps of an accepted trace: 1, 2, 4, 7, 8, 9, 10, 11. */
+/* The same, and writes the taps of an accepted trace, all 3k + 1 whatever c is: 1, 2, 4, 7, 17, 8, 9, 10, 11. */
 lemoncolumn_code lemoncolumn_read_off(const uint64_t *table, size_t table_words, const uint64_t *trace, size_t trace_words, uint64_t c0,
-                                      uint64_t c1, uint64_t c2, uint64_t c3, uint64_t *taps, size_t tap_words);
+                                      uint64_t c1, uint64_t c2, uint64_t c3, size_t c, uint64_t *taps, size_t tap_words);
 
-/* Tests the trace against the claim (c0 .. c3), and replaces tap number `tap` of its list, 0 to 3k, by (w0 .. w3). The trace is
- * read and written: it becomes that of the altered list. Writes the four words to which that list chains: 1, 2, 4, 7, 15, 8,
- * 9, 10, 6, 11. */
+/* Tests the trace against the claim (c0 .. c3) with its c, and replaces tap number `tap` of its list, 0 to 3k, by (w0 .. w3). The
+ * trace is read and written: it becomes that of the altered list. Writes the four words to which the first 3c + 1 taps of that list
+ * chain, which are the claim where `tap` is above 3c: 1, 2, 4, 7, 17, 15, 8, 9, 10, 6, 11. c comes before `tap`, and no compiler
+ * tells the two apart. */
 lemoncolumn_code lemoncolumn_edit(const uint64_t *table, size_t table_words, uint64_t *trace, size_t trace_words, uint64_t c0, uint64_t c1,
-                                  uint64_t c2, uint64_t c3, size_t tap, uint64_t w0, uint64_t w1, uint64_t w2, uint64_t w3, uint64_t *output,
-                                  size_t output_words);
+                                  uint64_t c2, uint64_t c3, size_t c, size_t tap, uint64_t w0, uint64_t w1, uint64_t w2, uint64_t w3,
+                                  uint64_t *output, size_t output_words);
 
-/* Writes the board file of taps and claim: 5, 8, 9, 6. */
+/* Writes the board file of taps and claim: 5, 8, 9, 6. The file has no c: its claim is about all of its taps, c = k. */
 lemoncolumn_code lemoncolumn_pack(const uint64_t *taps, size_t tap_words, uint64_t c0, uint64_t c1, uint64_t c2, uint64_t c3, uint8_t *file,
                                   size_t file_bytes);
 
@@ -108,7 +113,8 @@ enum lemoncolumn_refusal {
     LEMONCOLUMN_WRONG_KIND = 13,        /* wrong kind: index of the 32-bit word */
     LEMONCOLUMN_WRONG_VALUE = 14,       /* spare bits or k not permitted: index 0; element not canonical: index of its first 32-bit word */
     LEMONCOLUMN_NO_SUCH_TAP = 15,       /* tap number above 3k */
-    LEMONCOLUMN_NO_PAIR = 16            /* no pair of taps ends in that state */
+    LEMONCOLUMN_NO_PAIR = 16,           /* no pair of taps ends in that state */
+    LEMONCOLUMN_CLAIM_BATCHES = 17      /* c is 0 or above k */
 };
 
 /* Bits 0 to 5: the refusal, 0 for acceptance. */

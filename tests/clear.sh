@@ -69,6 +69,9 @@ expect 'p - 1 in M' 'accepted 1 372' 'with "Z; zero_file 1" 0 "bytes 8 $((P - 1)
 expect 'claim (0,7,0,0)' 'refused 11 31 50' 'Z; word 1; elements 0 7; repeat 18 "elements 0"'
 expect 'claim (0,0,0,7)' 'refused 11 31 52' 'Z; word 1; elements 0 0 0 7; repeat 16 "elements 0"'
 expect 'two batches, claim (1,0,0,0)' 'refused 11 63 49' 'Z; word 2; elements 1; repeat 31 "elements 0"'
+# it is about all taps, c = k: under A each of the six hashes adds 1, and the first three are those of the first batch
+expect 'A, two batches, the output of all' 'accepted 2 744' 'A; word 2; elements 6; repeat 31 "elements 0"'
+expect 'A, two batches, the output of the first' 'refused 11 63 49' 'A; word 2; elements 3; repeat 31 "elements 0"'
 
 # ---- the lengths come before anything else
 expect 'no byte' 'refused 1' ':'

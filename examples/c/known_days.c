@@ -1,5 +1,6 @@
-/* The known days of document 01, their hashes with all twelve cells, edits of them, and the two taps found again from the last row of
- * a day, through the library for C. Prints one line for each; known_days.expected has what they must be. */
+/* The known days of document 01, their hashes with all twelve cells, edits of them, the two taps found again from the last row of a
+ * day, and a day that closes before its rows end, through the library for C. Prints one line for each; known_days.expected has what
+ * they must be. */
 #include "lemoncolumn.h"
 
 #include <inttypes.h>
@@ -98,7 +99,7 @@ static void chains(const uint64_t *a)
 
 static lemoncolumn_code edit(const uint64_t *z, uint64_t *trace, size_t tap, uint64_t w0, uint64_t w1, uint64_t w2, uint64_t w3, uint64_t *out)
 {
-    return lemoncolumn_edit(z, LEMONCOLUMN_TABLE_WORDS, trace, LEMONCOLUMN_TRACE_WORDS(1), 0, 0, 0, 0, tap, w0, w1, w2, w3, out,
+    return lemoncolumn_edit(z, LEMONCOLUMN_TABLE_WORDS, trace, LEMONCOLUMN_TRACE_WORDS(1), 0, 0, 0, 0, 1, tap, w0, w1, w2, w3, out,
                             LEMONCOLUMN_DIGEST_WORDS);
 }
 
@@ -124,17 +125,17 @@ static void traces(const uint64_t *z)
     show("zero taps built",
          lemoncolumn_build(z, LEMONCOLUMN_TABLE_WORDS, taps, LEMONCOLUMN_TAP_WORDS(1), trace, LEMONCOLUMN_TRACE_WORDS(1), out,
                            LEMONCOLUMN_DIGEST_WORDS));
-    show_tests("checked", lemoncolumn_check(z, LEMONCOLUMN_TABLE_WORDS, trace, LEMONCOLUMN_TRACE_WORDS(1), 0, 0, 0, 0));
-    show_tests("claim (1,0,0,0)", lemoncolumn_check(z, LEMONCOLUMN_TABLE_WORDS, trace, LEMONCOLUMN_TRACE_WORDS(1), 1, 0, 0, 0));
+    show_tests("checked", lemoncolumn_check(z, LEMONCOLUMN_TABLE_WORDS, trace, LEMONCOLUMN_TRACE_WORDS(1), 0, 0, 0, 0, 1));
+    show_tests("claim (1,0,0,0)", lemoncolumn_check(z, LEMONCOLUMN_TABLE_WORDS, trace, LEMONCOLUMN_TRACE_WORDS(1), 1, 0, 0, 0, 1));
     trace[12 * 31 + 5] = 1;
-    show_tests("row 31 column 5", lemoncolumn_check(z, LEMONCOLUMN_TABLE_WORDS, trace, LEMONCOLUMN_TRACE_WORDS(1), 0, 0, 0, 0));
+    show_tests("row 31 column 5", lemoncolumn_check(z, LEMONCOLUMN_TABLE_WORDS, trace, LEMONCOLUMN_TRACE_WORDS(1), 0, 0, 0, 0, 1));
     trace[12 * 31 + 5] = 0;
     trace[12 * 11 + 5] = 1;
-    show_tests("row 11 column 5", lemoncolumn_check(z, LEMONCOLUMN_TABLE_WORDS, trace, LEMONCOLUMN_TRACE_WORDS(1), 0, 0, 0, 0));
+    show_tests("row 11 column 5", lemoncolumn_check(z, LEMONCOLUMN_TABLE_WORDS, trace, LEMONCOLUMN_TRACE_WORDS(1), 0, 0, 0, 0, 1));
     for (int row = 11; row <= 20; row++)
         trace[12 * row + 5] = 1;
     show_tests("column 5 of rows 11 to 20",
-               lemoncolumn_read_off(z, LEMONCOLUMN_TABLE_WORDS, trace, LEMONCOLUMN_TRACE_WORDS(1), 0, 0, 0, 0, taps,
+               lemoncolumn_read_off(z, LEMONCOLUMN_TABLE_WORDS, trace, LEMONCOLUMN_TRACE_WORDS(1), 0, 0, 0, 0, 1, taps,
                                     LEMONCOLUMN_TAP_WORDS(1)));
     show_words("its w_2", taps + 8);
     edits(z, trace);
@@ -169,6 +170,51 @@ static void archive(const uint64_t *a)
     show("unhashed into four words", unhash(a, row_31, pair, LEMONCOLUMN_DIGEST_WORDS));
 }
 
+/* Check of a trace of two batches. */
+static lemoncolumn_code check_two(const uint64_t *table, const uint64_t *trace, const uint64_t *claim, size_t c)
+{
+    return lemoncolumn_check(table, LEMONCOLUMN_TABLE_WORDS, trace, LEMONCOLUMN_TRACE_WORDS(2), claim[0], claim[1], claim[2], claim[3], c);
+}
+
+/* Edit of a trace of two batches under a claim about the first, which becomes that of the altered list. */
+static lemoncolumn_code edit_two(const uint64_t *table, uint64_t *trace, uint64_t *claim, size_t tap, uint64_t w0, uint64_t w1, uint64_t w2,
+                                 uint64_t w3)
+{
+    return lemoncolumn_edit(table, LEMONCOLUMN_TABLE_WORDS, trace, LEMONCOLUMN_TRACE_WORDS(2), claim[0], claim[1], claim[2], claim[3], 1, tap,
+                            w0, w1, w2, w3, claim, LEMONCOLUMN_DIGEST_WORDS);
+}
+
+/* A day that closes after one batch and has a filler batch, so that its claim is about its first four taps: c is 1, and k is 2. Under S
+ * the output is the last tap. */
+static void closed_early(const uint64_t *s)
+{
+    uint64_t trace[LEMONCOLUMN_TRACE_WORDS(2)];
+    uint64_t taps[LEMONCOLUMN_TAP_WORDS(2)];
+    uint64_t all[LEMONCOLUMN_DIGEST_WORDS];
+    for (uint64_t i = 0; i < LEMONCOLUMN_TAP_WORDS(2); i++)
+        taps[i] = i + 1;
+    lemoncolumn_build(s, LEMONCOLUMN_TABLE_WORDS, taps, LEMONCOLUMN_TAP_WORDS(2), trace, LEMONCOLUMN_TRACE_WORDS(2), all,
+                      LEMONCOLUMN_DIGEST_WORDS);
+    show_words("taps 1 to 28, output", all);
+    /* cells 0 to 3 of row 31 of batch c - 1 */
+    uint64_t claim[LEMONCOLUMN_DIGEST_WORDS] = {trace[12 * 31], trace[12 * 31 + 1], trace[12 * 31 + 2], trace[12 * 31 + 3]};
+    show_words("of the first four taps", claim);
+    show_tests("claimed after one batch", check_two(s, trace, claim, 1));
+    show_tests("claimed after two", check_two(s, trace, claim, 2));
+    show_tests("the output of all after one", check_two(s, trace, all, 1));
+    show_tests("claimed after none", check_two(s, trace, claim, 0));
+    show_tests("claimed after three", check_two(s, trace, claim, 3));
+    show("a filler tap edited", edit_two(s, trace, claim, 6, 5, 6, 7, 9));
+    show_words("the claim", claim);
+    show("the day's last tap edited", edit_two(s, trace, claim, 3, 1, 1, 1, 1));
+    show_words("the claim", claim);
+    show_tests("read off",
+               lemoncolumn_read_off(s, LEMONCOLUMN_TABLE_WORDS, trace, LEMONCOLUMN_TRACE_WORDS(2), claim[0], claim[1], claim[2], claim[3], 1, taps,
+                                    LEMONCOLUMN_TAP_WORDS(2)));
+    show_words("its w_3", taps + 12);
+    show_words("its w_6", taps + 24);
+}
+
 static void files(void)
 {
     uint64_t taps[LEMONCOLUMN_TAP_WORDS(1)] = {0};
@@ -188,7 +234,7 @@ static void files(void)
 static void indices(void)
 {
     printf("refusals with an index:");
-    for (lemoncolumn_code number = LEMONCOLUMN_ACCEPTED; number <= LEMONCOLUMN_NO_PAIR; number++)
+    for (lemoncolumn_code number = LEMONCOLUMN_ACCEPTED; number <= LEMONCOLUMN_CLAIM_BATCHES; number++)
         if (lemoncolumn_has_index(number))
             printf(" %" PRIu64, number);
     printf("\n");
@@ -211,6 +257,7 @@ int main(void)
     chains(a);
     traces(z);
     archive(a);
+    closed_early(s);
     files();
     indices();
     return 0;

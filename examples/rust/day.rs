@@ -29,6 +29,37 @@ fn final_state(table: &[u64], taps: &[u64]) -> Result<[u64; STATE_WORDS], Refusa
     Ok(state)
 }
 
+/// A day that closes after three batches. Its trace has four, since k is a power of
+/// two, and the taps of the fourth are filler.
+fn closed_early(table: &[u64]) -> Result<(), Refusal> {
+    let (k, c) = (4, 3);
+    let taps = vec![0; tap_words(k)];
+    let mut trace = vec![0; trace_words(k)];
+    let all = build(table, &taps, &mut trace)?;
+
+    // The claim is the output of the day's own 3c + 1 taps. `chain` would not take
+    // them alone, as 3 is no k.
+    let [c0, c1, c2, c3, ..] = final_state(table, &taps[..tap_words(c)])?;
+    let claim = [c0, c1, c2, c3];
+    println!("closed at {claim:?}, with the filler {all:?}");
+    println!("{} tests", check(table, &trace, claim, c)?);
+
+    // A tap of the filler alters the trace and leaves the claim; one of the day alters
+    // both.
+    let output = edit(table, &mut trace, claim, c, 3 * c + 1, [1, 2, 3, 4])?;
+    println!("filler corrected {output:?}");
+    let output = edit(table, &mut trace, output, c, 0, [5, 6, 7, 9])?;
+    println!("corrected {output:?}");
+
+    // The old claim, and more batches than there are.
+    for (claim, c) in [(claim, c), (output, k + 1)] {
+        if let Err(refusal) = check(table, &trace, claim, c) {
+            println!("{refusal}: {refusal:?}");
+        }
+    }
+    Ok(())
+}
+
 fn main() -> Result<(), Refusal> {
     let mut table = [0; TABLE_WORDS];
     prepare(&raw_table(), &mut table)?;
@@ -41,10 +72,11 @@ fn main() -> Result<(), Refusal> {
     println!("output {output:?}");
 
     // The cash desk corrects the first tap and the last, in the list and in the trace.
-    // Under this table the last one does not reach the output.
+    // Under this table the last one does not reach the output. c = k: the claim is the
+    // output of all taps.
     for (tap, new) in [(0, [5, 6, 7, 9]), (3 * k, [1, 2, 3, 4])] {
         taps[4 * tap..4 * tap + 4].copy_from_slice(&new);
-        output = edit(&table, &mut trace, output, tap, new)?;
+        output = edit(&table, &mut trace, output, k, tap, new)?;
         println!("corrected {output:?}");
     }
 
@@ -55,9 +87,9 @@ fn main() -> Result<(), Refusal> {
     // The office: the file again, and the trace under its claim.
     let mut list = vec![0; tap_words(k)];
     let claim = unpack(&file, &mut list)?;
-    println!("{} tests", check(&table, &trace, claim)?);
+    println!("{} tests", check(&table, &trace, claim, k)?);
     let mut read = vec![0; tap_words(k)];
-    read_off(&table, &trace, claim, &mut read)?;
+    read_off(&table, &trace, claim, k, &mut read)?;
     println!("the same taps: {}", read == list);
 
     // The final state, which the last tap does reach, is the last row of the trace.
@@ -72,16 +104,18 @@ fn main() -> Result<(), Refusal> {
     let pair = unhash(&table, archived)?;
     println!("before {:?}, last tap {:?}", &pair[..4], &pair[4..]);
 
+    closed_early(&table)?;
+
     // A trace that was altered, a word that is no element, a tap past the last, and
     // a row in which no hash ends.
     trace[12 * 11 + 5] = 1;
-    if let Err(refusal) = check(&table, &trace, claim) {
+    if let Err(refusal) = check(&table, &trace, claim, k) {
         println!("{refusal}: {refusal:?}");
     }
     if let Err(refusal) = hash(&table, [0, 0, 0, P, 0, 0, 0, 0]) {
         println!("{refusal}: {refusal:?}");
     }
-    if let Err(refusal) = edit(&table, &mut trace, claim, 3 * k + 1, [0; 4]) {
+    if let Err(refusal) = edit(&table, &mut trace, claim, k, 3 * k + 1, [0; 4]) {
         println!("{refusal}: {refusal:?}");
     }
     if let Err(refusal) = unhash(&table, [1; STATE_WORDS]) {

@@ -74,7 +74,8 @@ impl Room {
         Ok(())
     }
 
-    /// Unpacks, builds, and checks against the claim, as the program does.
+    /// Unpacks, builds, and checks against the claim, as the program does. The claim
+    /// of a board is about all of its taps: c = k.
     fn clear(&mut self, table: &Table) -> Result<Answer, Refusal> {
         // Where no k has this length, unpack refuses it and looks at no destination.
         let k = batches(self.file.len()).unwrap_or(0);
@@ -82,7 +83,7 @@ impl Room {
         self.trace.resize(trace_words(k), 0);
         let claim = unpack(&self.file, &mut self.taps)?;
         build(table, &self.taps, &mut self.trace)?;
-        let tests = check(table, &self.trace, claim)?;
+        let tests = check(table, &self.trace, claim, k)?;
         Ok(Answer::Accepted { k, tests })
     }
 }

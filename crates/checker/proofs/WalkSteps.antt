@@ -14,7 +14,7 @@ use Rattle.refusals.specs.Answers.{testsAfter}
 use Rattle.constraints.specs.Constraints.{Test, applies, holds, rowTests, testsFrom, tests, walk, constraintTest}
 use Rattle.rowtests.specs.TestHelpers.{Spans}
 
-module _ (T t claim : List ℕ) (k : ℕ) where
+module _ (T t claim : List ℕ) (c k : ℕ) where
   -- what is answered in the end, where n tests are walked and xs are left
   unfoldable pub left : List Test → ℕ → TestsAnswer
   left xs n = testsAfter (walk T t claim xs n) (n + length xs)
@@ -33,52 +33,53 @@ module _ (T t claim : List ℕ) (k : ℕ) where
 
   -- from row i on, with m rows left
   unfoldable pub rows : ℕ → ℕ → ℕ → TestsAnswer
-  rows i m n = left (testsFrom k i m) n
+  rows i m n = left (testsFrom k c i m) n
 
-  -- from constraint c of row i on, with m rows after it
+  -- from constraint q of row i on, with m rows after it
   unfoldable pub constraints : ℕ → ℕ → ℕ → ℕ → TestsAnswer
-  constraints i c m n = left (rowTests k i c (53 - c) ++ testsFrom k (i + 1) m) n
+  constraints i q m n = left (rowTests k c i q (53 - q) ++ testsFrom k c (i + 1) m) n
 
   -- what the walk has to answer
   abbrev pub answer : TestsAnswer
-  answer = testsAfter (constraintTest T t claim k) (length (tests k))
+  answer = testsAfter (constraintTest T t claim c k) (length (tests k c))
 
   pub start : rows 0 (32 * k) 0 ≡ answer
   unfolding left rows constraintTest tests
-  start = ap (testsAfter (walk T t claim (testsFrom k 0 (32 * k)) 0)) (zero-add (length (testsFrom k 0 (32 * k))))
+  start = ap (testsAfter (walk T t claim (testsFrom k c 0 (32 * k)) 0)) (zero-add (length (testsFrom k c 0 (32 * k))))
 
   -- no row is left
   pub done : (i m n : ℕ) → m ≡ 0 → rows i m n ≡ Accepted n
   unfolding left rows testsFrom walk
   done i m n e = rw e (ap Accepted (add-zero n))
 
-  module _ (i c m n : ℕ) (h : c ≤ 52) where
-    one-more : 53 - c ≡ suc (53 - (c + 1))
+  module _ (i q m n : ℕ) (h : q ≤ 52) where
+    one-more : 53 - q ≡ suc (53 - (q + 1))
     one-more = omega arith
 
-    pub skip : applies k i c ≡ false → constraints i c m n ≡ constraints i (c + 1) m n
+    pub skip : applies k c i q ≡ false → constraints i q m n ≡ constraints i (q + 1) m n
     unfolding constraints rowTests
     skip a = rw (one-more, a)
 
-    pub pass : applies k i c ≡ true → holds T t claim i c ≡ true → constraints i c m n ≡ constraints i (c + 1) m (n + 1)
+    pub pass : applies k c i q ≡ true → holds T t claim i q ≡ true
+        → constraints i q m n ≡ constraints i (q + 1) m (n + 1)
     unfolding constraints rowTests
     pass a p = rw (one-more, a) (one-holds _ _ n p)
 
-    pub fail : applies k i c ≡ true → holds T t claim i c ≡ false
-        → constraints i c m n ≡ Refused (Constraint (record { 0 = i }) c (n + 1))
+    pub fail : applies k c i q ≡ true → holds T t claim i q ≡ false
+        → constraints i q m n ≡ Refused (Constraint (record { 0 = i }) q (n + 1))
     unfolding constraints rowTests
     fail a p = rw (one-more, a) (one-fails _ _ n p)
 
   -- constraints that do not apply are passed over
-  skip-some : (i c m n d : ℕ) → c + d ≤ 53 → ((e : ℕ) → c ≤ e → e < c + d → applies k i e ≡ false)
-      → constraints i c m n ≡ constraints i (c + d) m n
-  skip-some i c m n zero l h = ap (λ x. constraints i x m n) (sym (add-zero c))
-  skip-some i c m n (suc d) l h =
-      skip i c m n (omega arith) (h c (omega arith) (omega arith))
-      ∙ skip-some i (c + 1) m n d (omega arith) (λ e p q. h e (omega arith) (omega arith))
+  skip-some : (i q m n d : ℕ) → q + d ≤ 53 → ((e : ℕ) → q ≤ e → e < q + d → applies k c i e ≡ false)
+      → constraints i q m n ≡ constraints i (q + d) m n
+  skip-some i q m n zero l h = ap (λ x. constraints i x m n) (sym (add-zero q))
+  skip-some i q m n (suc d) l h =
+      skip i q m n (omega arith) (h q (omega arith) (omega arith))
+      ∙ skip-some i (q + 1) m n d (omega arith) (λ e p r. h e (omega arith) (omega arith))
       ∙ ap (λ x. constraints i x m n) one
     where
-      one : c + 1 + d ≡ c + suc d
+      one : q + 1 + d ≡ q + suc d
       one = omega arith
 
   whole-row : (i r n : ℕ) → i < r → rows i (r - i) n ≡ constraints i 1 (r - (i + 1)) n
@@ -97,17 +98,17 @@ module _ (T t claim : List ℕ) (k : ℕ) where
     enter r n h =
         whole-row i r n h
         ∙ skip-some i 1 (r - (i + 1)) n (low - 1) (omega (arith, s .from-one, s .some, s .to-last))
-        (λ e p q. s .below k e (omega (arith, s .from-one)))
+        (λ e p r. s .below k c e (omega (arith, s .from-one)))
         ∙ ap (λ x. constraints i x (r - (i + 1)) n) one
       where
         one : 1 + (low - 1) ≡ low
         one = omega (arith, s .from-one)
 
-    pub leave : (c m n : ℕ) → end ≤ c → c ≤ 53 → constraints i c m n ≡ rows (i + 1) m n
-    leave c m n h l =
-        skip-some i c m n (53 - c) (omega arith) (λ e p q. s .above k e (omega arith))
+    pub leave : (q m n : ℕ) → end ≤ q → q ≤ 53 → constraints i q m n ≡ rows (i + 1) m n
+    leave q m n h l =
+        skip-some i q m n (53 - q) (omega arith) (λ e p r. s .above k c e (omega arith))
         ∙ ap (λ x. constraints i x m n) one
         ∙ row-over i m n
       where
-        one : c + (53 - c) ≡ 53
+        one : q + (53 - q) ≡ 53
         one = omega arith

@@ -1,6 +1,6 @@
-// Check: the walk through the tests of a trace (document 01, "The 52 constraints").
+// Check: the walk through the tests of a trace (document 01, "The 52 constraints"; document 02, U6).
 ghost use mathlib.Core.Path.{_≡_};
-ghost use Prim.Native.Nat.{_*_, _<_, _^_};
+ghost use Prim.Native.Nat.{_*_, _≤_, _<_, _^_};
 ghost use lib.ListN.{length};
 ghost use Rattle.words.specs.Words.{AllCanonical, canonicalWords, firstBad};
 ghost use Rattle.numbers.specs.Numbers.{traceWords};
@@ -8,8 +8,9 @@ ghost use Rattle.refusals.specs.Answers.{unless, testsAfter};
 ghost use Rattle.table.specs.Table.{IsTable};
 ghost use Rattle.constraints.specs.Constraints.{tests, constraintTest};
 ghost use Rattle.steps.specs.StepHelpers.{forwardReady, backReady};
-ghost use Rattle.checker.specs.Answers.{checkAnswer};
+ghost use Rattle.checker.specs.Answers.{openingTest, traceTest, checkAnswer};
 use numbers::BATCH_ROWS;
+use numbers::BATCH_WORDS;
 use numbers::BatchCount;
 use numbers::MOST_BATCHES;
 use numbers::RowNumber;
@@ -24,12 +25,13 @@ fn walk_tests(
     table: &[u64],
     trace: &[u64],
     claim: &[u64; 4],
+    c: usize,
     k: usize,
 ) -> TestsAnswer
     requires { ⌜ (now m ≡ forwardReady (now table)) × (now inverse ≡ backReady (now table)) × IsTable (now table)
-        × AllCanonical (now trace) × (length (now trace) ≡ traceWords k) × (k < 2 ^ 32) ⌝ }
-    ensures { λ r. ⌜ r ≡ testsAfter (constraintTest (now (table .entry)) (now (trace .entry)) (now (claim .entry)) k)
-        (length (tests k)) ⌝ }
+        × AllCanonical (now trace) × (length (now trace) ≡ traceWords k) × (c ≤ k) × (k < 2 ^ 32) ⌝ }
+    ensures { λ r. ⌜ r ≡ testsAfter (constraintTest (now (table .entry)) (now (trace .entry)) (now (claim .entry)) c k)
+        (length (tests k c)) ⌝ }
 {
     let rows = BATCH_ROWS * k;
     let mut tests: usize = 0;
@@ -44,7 +46,7 @@ fn walk_tests(
         let span = rowtests::span_of(row);
         let end = span.1;
         for constraint in span.0..end {
-            if rowtests::applies(k, row, constraint) {
+            if rowtests::applies(k, c, row, constraint) {
                 tests += 1;
                 if !rowtests::holds(table, trace, claim, row, constraint, &forward, &back) {
                     break 'walk TestsAnswer::Refused(Refusal::Constraint {
@@ -59,7 +61,27 @@ fn walk_tests(
     }
 }
 
-// 9, 10 and 11 are functions of their own, since each operation that has them puts them in its own order.
+// 1, 2, 4; 7; 17: how Check, Read-off and Edit begin.
+pub fn test_opening(table: &[u64], trace: &[u64], c: usize) -> Answer
+    ensures { λ r. ⌜ r ≡ openingTest (now (table .entry)) (now (trace .entry)) c ⌝ }
+{
+    let of_table = table::test(table);
+    let Answer::Accepted = of_table else {
+        return of_table;
+    };
+    let BatchCount::Permitted(k) = numbers::trace_batches(MOST_BATCHES, trace.len()) else {
+        return Answer::Refused(Refusal::TraceLength);
+    };
+    if c < 1 {
+        return Answer::Refused(Refusal::ClaimBatches);
+    }
+    if k < c {
+        return Answer::Refused(Refusal::ClaimBatches);
+    }
+    Answer::Accepted
+}
+
+// 9, 10 and 11 are functions of their own, since Edit has 6 between 10 and 11.
 
 // 9: the words of the claim.
 pub fn test_claim(claim: &[u64]) -> Answer
@@ -86,28 +108,30 @@ pub fn test_words(trace: &[u64]) -> Answer
 }
 
 // 11: the walk, for a trace of canonical words.
-pub fn test_constraints(table: &[u64], trace: &[u64], claim: &[u64; 4], k: usize) -> TestsAnswer
-    requires { ⌜ IsTable (now table) × AllCanonical (now trace) × (length (now trace) ≡ traceWords k) × (k < 2 ^ 32) ⌝ }
-    ensures { λ r. ⌜ r ≡ testsAfter (constraintTest (now (table .entry)) (now (trace .entry)) (now (claim .entry)) k)
-        (length (tests k)) ⌝ }
+pub fn test_constraints(
+    table: &[u64],
+    trace: &[u64],
+    claim: &[u64; 4],
+    c: usize,
+    k: usize,
+) -> TestsAnswer
+    requires { ⌜ IsTable (now table) × AllCanonical (now trace) × (length (now trace) ≡ traceWords k) × (c ≤ k)
+        × (k < 2 ^ 32) ⌝ }
+    ensures { λ r. ⌜ r ≡ testsAfter (constraintTest (now (table .entry)) (now (trace .entry)) (now (claim .entry)) c k)
+        (length (tests k c)) ⌝ }
 {
     let m = steps::forward_ready(table);
     let inverse = steps::back_ready(table);
-    walk_tests(&m, &inverse, table, trace, claim, k)
+    walk_tests(&m, &inverse, table, trace, claim, c, k)
 }
 
-// Check: 1, 2, 4; 7; 9; 10; 11.
-pub fn check(table: &[u64], trace: &[u64], claim: [u64; 4]) -> TestsAnswer
-    ensures { λ r. ⌜ r ≡ checkAnswer (now (table .entry)) (now (trace .entry)) claim ⌝ }
+// 9; 10; 11: how Check and Read-off end.
+pub fn test_trace(table: &[u64], trace: &[u64], claim: &[u64; 4], c: usize, k: usize) -> TestsAnswer
+    requires { ⌜ IsTable (now table) × (length (now trace) ≡ traceWords k) × (c ≤ k) × (k < 2 ^ 32) ⌝ }
+    ensures { λ r. ⌜ r ≡ testsAfter (traceTest (now (table .entry)) (now (trace .entry)) (now (claim .entry)) c k)
+        (length (tests k c)) ⌝ }
 {
-    let of_table = table::test(table);
-    let Answer::Accepted = of_table else {
-        return TestsAnswer::Refused(of_table.refusal());
-    };
-    let BatchCount::Permitted(k) = numbers::trace_batches(MOST_BATCHES, trace.len()) else {
-        return TestsAnswer::Refused(Refusal::TraceLength);
-    };
-    let of_claim = test_claim(&claim);
+    let of_claim = test_claim(claim);
     let Answer::Accepted = of_claim else {
         return TestsAnswer::Refused(of_claim.refusal());
     };
@@ -115,5 +139,16 @@ pub fn check(table: &[u64], trace: &[u64], claim: [u64; 4]) -> TestsAnswer
     let Answer::Accepted = of_words else {
         return TestsAnswer::Refused(of_words.refusal());
     };
-    test_constraints(table, trace, &claim, k)
+    test_constraints(table, trace, claim, c, k)
+}
+
+// Check: 1, 2, 4; 7; 17; 9; 10; 11.
+pub fn check(table: &[u64], trace: &[u64], claim: [u64; 4], c: usize) -> TestsAnswer
+    ensures { λ r. ⌜ r ≡ checkAnswer (now (table .entry)) (now (trace .entry)) claim c ⌝ }
+{
+    let opening = test_opening(table, trace, c);
+    let Answer::Accepted = opening else {
+        return TestsAnswer::Refused(opening.refusal());
+    };
+    test_trace(table, trace, &claim, c, trace.len() / BATCH_WORDS)
 }

@@ -32,15 +32,17 @@ use Rattle.clearing.proofs.Stages.{is-table}
 
 -- ---- what a check comes to
 module _ (T w claim : List ℕ) (k : ℕ) where
-  pub checked-accepted : constraintTest T (trace T w k) claim k ≡ answer.Accepted
+  pub checked-accepted : 1 ≤ k → constraintTest T (trace T w k) claim k k ≡ answer.Accepted
       → checkedTaps T w claim k ≡ Accepted k (372 * k)
   unfolding checkedTaps
-  checked-accepted e = ap (λ a. outcomeAfter a (Accepted k (length (tests k)))) e ∙ ap (Accepted k) (length-tests k)
+  checked-accepted some e =
+      ap (λ a. outcomeAfter a (Accepted k (length (tests k k)))) e
+      ∙ ap (Accepted k) (length-tests k k some (omega arith))
 
-  pub checked-refused : (r : Refusal) → constraintTest T (trace T w k) claim k ≡ answer.Refused r
+  pub checked-refused : (r : Refusal) → constraintTest T (trace T w k) claim k k ≡ answer.Refused r
       → checkedTaps T w claim k ≡ Refused r
   unfolding checkedTaps
-  checked-refused r e = ap (λ a. outcomeAfter a (Accepted k (length (tests k)))) e
+  checked-refused r e = ap (λ a. outcomeAfter a (Accepted k (length (tests k k)))) e
 
 -- where table and file are accepted, the answer is that of the check
 pub judged-answer : (input T : List ℕ) (k : ℕ) → IsJudged input T k
@@ -65,7 +67,7 @@ module _ (input T : List ℕ) (k : ℕ) (h : IsJudged input T k) where
   claim = claimIn (fileIn input)
 
   abbrev walked : Answer
-  walked = constraintTest T (trace T w k) claim k
+  walked = constraintTest T (trace T w k) claim k k
 
   pub judged-table : IsTable T
   judged-table = is-table input unprepared T answer.Accepted (h .low) (h .high) refl (h .prepared) refl
@@ -91,8 +93,8 @@ module _ (input T : List ℕ) (k : ℕ) (h : IsJudged input T k) where
   answer-refused r e =
       let canonical = trace-canonical T w k judged-size judged-canonical in
       let f =
-      first-failing T (trace T w k) claim k judged-table judged-permitted (length-trace T w k) canonical four-words
-      (λ a. not-accepted r (sym e ∙ a)) in
+      first-failing T (trace T w k) claim k k judged-table judged-permitted (judged-permitted .low) (omega arith)
+      (length-trace T w k) canonical four-words (λ a. not-accepted r (sym e ∙ a)) in
       let l =
       refused-last T w k judged-table judged-permitted judged-size judged-canonical claim four-words
       (f .0) (f .1) (f .2) (f .3) in

@@ -74,7 +74,7 @@ module _ (T w : List ℕ) (table : IsTable T) (taps : Taps w) where
 
   pub taps-cleared : (claim old t : List ℕ) (a : TestsAnswer) (o : Outcome) → AllCanonical claim
       → length old ≡ 384 * tapWordBatches (length w)
-      → t ≡ buildLeaves T w old → a ≡ checkAnswer T t claim
+      → t ≡ buildLeaves T w old → a ≡ checkAnswer T t claim (tapWordBatches (length w))
       → o ≡ reported (tapWordBatches (length w)) a → o ≡ checkedTaps T w claim (tapWordBatches (length w))
   unfolding checkedTaps
   taps-cleared claim old t a o good room built checked told =
@@ -83,10 +83,11 @@ module _ (T w : List ℕ) (table : IsTable T) (taps : Taps w) where
       let t-is : t ≡ trace T w k = built ∙ left in
       let size = length-trace T w k in
       let canonical = trace-canonical T w k (taps .size) (taps .canonical) in
-      let answered = check-verdict T (trace T w k) claim k table (taps .permitted) size canonical good in
+      let answered = check-verdict T (trace T w k) claim k k table (taps .permitted) (taps .permitted .low)
+      (omega arith) size canonical good in
       told
-      ∙ ap (reported k) (checked ∙ ap (λ s. checkAnswer T s claim) t-is ∙ answered)
-      ∙ reported-after k (constraintTest T (trace T w k) claim k) (length (tests k))
+      ∙ ap (reported k) (checked ∙ ap (λ s. checkAnswer T s claim k) t-is ∙ answered)
+      ∙ reported-after k (constraintTest T (trace T w k) claim k k) (length (tests k k))
 
 -- ---- the file
 

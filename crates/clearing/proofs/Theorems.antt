@@ -101,11 +101,12 @@ accepts-exactly input o k tests c = (to o c, λ s. clears-unique input o (Accept
     never : (r : Refusal) → Refused r ≡ Accepted k tests → ⊥
     never r e = let z : _≡_ {A = ℕ} 0 1 = cc in omega arith
 
-    check : (v : Answer) (T : List ℕ) (n : ℕ) → IsJudged input T n → constraintTest T (trace T w n) claim n ≡ v
+    check : (v : Answer) (T : List ℕ) (n : ℕ) → IsJudged input T n → constraintTest T (trace T w n) claim n n ≡ v
         → checkedTaps T w claim n ≡ Accepted k tests → IsCleared input k × (tests ≡ 372 * k)
     check (answer.Refused r) T n h e q = absurd (never r (sym (checked-refused T w claim n r e) ∙ q))
     check answer.Accepted T n h e q =
-        let same = accepted n (372 * n) (sym (checked-accepted T w claim n e) ∙ q) in
+        let checked = checked-accepted T w claim n (judged-permitted input T n h .low) e in
+        let same = accepted n (372 * n) (sym checked ∙ q) in
         let chained : IsCleared input n = record { table = T; accepted = h; chains = taps-chain input T n h e } in
         (subst (IsCleared input) (same .0) chained, omega (arith, same .0, same .1))
 
@@ -127,7 +128,9 @@ accepts-exactly input o k tests c = (to o c, λ s. clears-unique input o (Accept
         let v =
         chains-accepted T w k (judged-table input T k h) (judged-permitted input T k h) (judged-size input T k h)
         (judged-canonical input T k h) claim (four-words input T k h) (s .chains) in
-        let answered = judged-answer input T k h ∙ checked-accepted T w claim k v ∙ ap (Accepted k) (sym n) in
+        let answered = judged-answer input T k h
+        ∙ checked-accepted T w claim k (judged-permitted input T k h .low) v
+        ∙ ap (Accepted k) (sym n) in
         subst (Clears input) answered (judged (h .low) (h .high) T (h .prepared))
 
 -- ---- refused
@@ -156,9 +159,11 @@ refuses-only input r a = go (Refused r) a refl
     never : (k n : ℕ) → Accepted k n ≡ Refused r → ⊥
     never k n e = let z : _≡_ {A = ℕ} 0 1 = cc in omega arith
 
-    check : (v : Answer) (T : List ℕ) (k : ℕ) → IsJudged input T k → constraintTest T (trace T w k) claim k ≡ v
+    check : (v : Answer) (T : List ℕ) (k : ℕ) → IsJudged input T k → constraintTest T (trace T w k) claim k k ≡ v
         → checkedTaps T w claim k ≡ Refused r → Refuses input r
-    check answer.Accepted T k h e q = absurd (never k (372 * k) (sym (checked-accepted T w claim k e) ∙ q))
+    check answer.Accepted T k h e q =
+        let checked = checked-accepted T w claim k (judged-permitted input T k h .low) e in
+        absurd (never k (372 * k) (sym checked ∙ q))
     check (answer.Refused s) T k h e q =
         let f = answer-refused input T k h s e in
         let told = same s (sym (checked-refused T w claim k s e) ∙ q) in
@@ -177,7 +182,7 @@ refuses-only input r a = go (Refused r) a refl
 -- and where a word of the output is another than the claim's, 11 it is
 pub unlike-refused : (input : List ℕ) (o : Outcome) (k j : ℕ) → Clears input o → IsUnlike input k j
     → (c : ℕ) × (tests : ℕ) × (o ≡ Refused (Constraint (record { 0 = 32 * k - 1 }) c tests))
-unlike-refused input o k j a u = go (constraintTest T (trace T w k) claim k) refl
+unlike-refused input o k j a u = go (constraintTest T (trace T w k) claim k k) refl
   where
     T : List ℕ
     T = u .table
@@ -194,7 +199,7 @@ unlike-refused input o k j a u = go (constraintTest T (trace T w k) claim k) ref
     answered : o ≡ checkedTaps T w claim k
     answered = clears-unique input o _ a (judged (h .low) (h .high) T (h .prepared)) ∙ judged-answer input T k h
 
-    go : (v : Answer) → constraintTest T (trace T w k) claim k ≡ v
+    go : (v : Answer) → constraintTest T (trace T w k) claim k k ≡ v
         → (c : ℕ) × (tests : ℕ) × (o ≡ Refused (Constraint (record { 0 = 32 * k - 1 }) c tests))
     go answer.Accepted e = absurd (u .other (ap (λ s. cell s j) (taps-chain input T k h e)))
     go (answer.Refused r) e =

@@ -55,9 +55,10 @@ abbrev pub reported : ℕ → TestsAnswer → Outcome
 reported k (tests-answer.Accepted n) = Accepted k n
 reported k (tests-answer.Refused r) = Refused r
 
--- the trace of the taps w, checked against the claim: k and the number of all tests, or the refusal
+-- the trace of the taps w, checked against the claim, which in a board file is about all k batches: k and the number of
+-- all tests, or the refusal
 unfoldable pub checkedTaps : List ℕ → List ℕ → List ℕ → ℕ → Outcome
-checkedTaps T w claim k = outcomeAfter (constraintTest T (trace T w k) claim k) (Accepted k (length (tests k)))
+checkedTaps T w claim k = outcomeAfter (constraintTest T (trace T w k) claim k k) (Accepted k (length (tests k k)))
 
 -- with the table prepared: the file's taps, and the file's claim
 unfoldable pub cleared : List ℕ → List ℕ → Outcome

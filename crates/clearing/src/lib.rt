@@ -100,7 +100,7 @@ fn reported(k: usize, checked: TestsAnswer) -> Outcome
     }
 }
 
-// Builds the trace of the taps and checks it against the claim.
+// Builds the trace of the taps and checks it against the claim, which is about all k batches.
 fn clear_taps(table: &[u64], taps: &[u64], claim: Digest) -> Outcome
     requires { ⌜ IsTable (now table) × Taps (now taps) × AllCanonical (digestWords claim) ⌝ }
     ensures { λ r. ⌜ r ≡ checkedTaps (now (table .entry)) (now (taps .entry)) (digestWords claim)
@@ -112,7 +112,7 @@ fn clear_taps(table: &[u64], taps: &[u64], claim: Digest) -> Outcome
     match trace::build(table, taps, &mut rows[..cells]) {
         DigestAnswer::Accepted(_) => {
             let words = [claim.0, claim.1, claim.2, claim.3];
-            reported(k, checker::check(table, &rows[..cells], words))
+            reported(k, checker::check(table, &rows[..cells], words, k))
         }
         DigestAnswer::Refused(refusal) => Outcome::Refused(refusal),
     }

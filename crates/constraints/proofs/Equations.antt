@@ -20,7 +20,7 @@ use Rattle.constraints.proofs.Families as families
 use Rattle.constraints.proofs.Families.{Applies, applies-cases, applies-yes, under}
 use Rattle.constraints.proofs.Families.{asked-1, asked-5, asked-9, asked-21, asked-33, asked-45, asked-49}
 
-pub record Equations (T t claim : List ℕ) (k : ℕ) : Type 0 where
+pub record Equations (T t claim : List ℕ) (c k : ℕ) : Type 0 where
   -- 1 to 4
   pub zero-columns : (i j : ℕ) → i < 32 * k → within i ≡ 0 → j < 4 → cell (row t i) (8 + j) ≡ 0
   -- 5 to 8
@@ -40,7 +40,7 @@ pub record Equations (T t claim : List ℕ) (k : ℕ) : Type 0 where
   pub joins : (i j : ℕ) → i < 32 * k → within i ≡ 31 → (i + 1 ≡ 32 * k → ⊥) → j < 4
       → cell (row t i) j ≡ cell (row t (i + 1)) j
   -- 49 to 52
-  pub claims : (i j : ℕ) → i < 32 * k → i + 1 ≡ 32 * k → j < 4 → cell (row t i) j ≡ cell claim j
+  pub claims : (i j : ℕ) → i < 32 * k → i + 1 ≡ 32 * c → j < 4 → cell (row t i) j ≡ cell claim j
 
 module _ (T t claim : List ℕ) where
   -- ---- what is compared at column j, by the constraint's number
@@ -102,11 +102,11 @@ module _ (T t claim : List ℕ) where
   claim-unread other i q h = rw (under 49 52 q h)
 
   -- ---- the tests hold where the equations do
-  pub equations-hold : (k : ℕ) → Equations T t claim k → (i c : ℕ) → i < 32 * k → applies k i c ≡ true
-      → holds T t claim i c ≡ true
-  equations-hold k q i c l e = go (applies-cases k i c e)
+  pub equations-hold : (k c : ℕ) → Equations T t claim c k → (i d : ℕ) → i < 32 * k → applies k c i d ≡ true
+      → holds T t claim i d ≡ true
+  equations-hold k c q i d l e = go (applies-cases k c i d e)
     where
-      go : Applies k i c → holds T t claim i c ≡ true
+      go : Applies k c i d → holds T t claim i d ≡ true
       go (families.zero-columns j h n r) =
           ap (holds T t claim i) n ∙ at-zero-columns i j h ∙ eq-eqb _ _ (q .zero-columns i j l r h)
       go (families.new-zeros j h n r) =
@@ -121,9 +121,9 @@ module _ (T t claim : List ℕ) where
       go (families.claims j h n r) = ap (holds T t claim i) n ∙ at-claims i j h ∙ eq-eqb _ _ (q .claims i j l r h)
 
   -- ---- and the equations hold where the tests do
-  pub hold-equations : (k : ℕ) → ((i c : ℕ) → i < 32 * k → applies k i c ≡ true → holds T t claim i c ≡ true)
-      → Equations T t claim k
-  hold-equations k a = record {
+  pub hold-equations : (k c : ℕ) → ((i d : ℕ) → i < 32 * k → applies k c i d ≡ true → holds T t claim i d ≡ true)
+      → Equations T t claim c k
+  hold-equations k c a = record {
     zero-columns =
         λ i j l r h. eqb-true _ _ (sym (at-zero-columns i j h) ∙ test i (1 + j) l (families.zero-columns j h refl r));
     new-zeros = λ i j l r h. eqb-true _ _ (sym (at-new-zeros i j h) ∙ test i (5 + j) l (families.new-zeros j h refl r));
@@ -137,10 +137,10 @@ module _ (T t claim : List ℕ) where
     claims = λ i j l r h. eqb-true _ _ (sym (at-claims i j h) ∙ test i (49 + j) l (families.claims j h refl r));
   }
     where
-      test : (i c : ℕ) → i < 32 * k → Applies k i c → holds T t claim i c ≡ true
-      test i c l y = a i c l (applies-yes k i c y)
+      test : (i d : ℕ) → i < 32 * k → Applies k c i d → holds T t claim i d ≡ true
+      test i d l y = a i d l (applies-yes k c i d y)
 
       column : (i j : ℕ) → Dec (j < 4) → j < 12 → 1 ≤ within i → within i ≤ 29 → entering i ≡ false
-          → Applies k i (21 + j)
+          → Applies k c i (21 + j)
       column i j (yes b) h r s m = families.output-kept j b refl r s
       column i j (no b) h r s m = families.goes-on j (omega arith) h refl r s m

@@ -21,7 +21,7 @@ use Rattle.constraints.specs.Constraints.{zeros, initial, this, thisPlus
 use Rattle.constraints.specs.Constraints.{backOfNext, claimed}
 
 -- ---- a number between two, or not
-range : (a b n : ℕ) → between a b n ≡ true → (a ≤ n) × (n ≤ b)
+pub range : (a b n : ℕ) → between a b n ≡ true → (a ≤ n) × (n ≤ b)
 range a b n e =
     let s = and-both (leb a n) (leb n b) e in
     (leb-true a n (s .0), leb-true n b (s .1))
@@ -32,12 +32,21 @@ in-range a b n p q = and-intro (leb a n) (leb n b) (le-leb a n p) (le-leb n b q)
 pub under : (a b n : ℕ) → n < a → between a b n ≡ false
 under a b n p = rw (lt-leb a n p)
 
-over : (a b n : ℕ) → b < n → between a b n ≡ false
+pub over : (a b n : ℕ) → b < n → between a b n ≡ false
 over a b n p = rw (lt-leb n b p) (no (leb a n))
   where
     no : (x : Bool) → (x && false) ≡ false
     no true = refl
     no false = refl
+
+-- which is not from 1 on
+pub outside : (b n : ℕ) → between 1 b n ≡ false → (n ≡ 0) ⊎ (b < n)
+outside b n e = go (decLt n 1) (decLt b n)
+  where
+    go : Dec (n < 1) → Dec (b < n) → (n ≡ 0) ⊎ (b < n)
+    go (yes l) h = inl (omega arith)
+    go (no l) (yes h) = inr h
+    go (no l) (no h) = absurd (true≢false (sym (in-range 1 b n (omega arith) (omega arith)) ∙ e))
 
 -- ---- the family of constraint q
 module _ (q : ℕ) (answer : Family → Bool) where
@@ -112,35 +121,35 @@ module _ (q : ℕ) (answer : Family → Bool) where
           inl (r .0, r .1, a)
       go false e a later = inr (later a)
 
--- ---- constraint q applies at row i of k batches, at column j
-pub data Applies (k i q : ℕ) : Type 0 where
-  zero-columns : (j : ℕ) → j < 4 → q ≡ 1 + j → within i ≡ 0 → Applies k i q
-  new-zeros : (j : ℕ) → j < 4 → q ≡ 5 + j → entering i ≡ true → Applies k i q
-  starts : (j : ℕ) → j < 12 → q ≡ 9 + j → within i ≡ 0 → Applies k i q
-  output-kept : (j : ℕ) → j < 4 → q ≡ 21 + j → 1 ≤ within i → within i ≤ 29 → Applies k i q
-  goes-on : (j : ℕ) → 4 ≤ j → j < 12 → q ≡ 21 + j → 1 ≤ within i → within i ≤ 29 → entering i ≡ false → Applies k i q
-  ends : (j : ℕ) → j < 12 → q ≡ 33 + j → within i ≡ 30 → Applies k i q
-  joins : (j : ℕ) → j < 4 → q ≡ 45 + j → within i ≡ 31 → (i + 1 ≡ 32 * k → ⊥) → Applies k i q
-  claims : (j : ℕ) → j < 4 → q ≡ 49 + j → i + 1 ≡ 32 * k → Applies k i q
+-- ---- constraint q applies at row i of k batches with a claim about c of them, at column j
+pub data Applies (k c i q : ℕ) : Type 0 where
+  zero-columns : (j : ℕ) → j < 4 → q ≡ 1 + j → within i ≡ 0 → Applies k c i q
+  new-zeros : (j : ℕ) → j < 4 → q ≡ 5 + j → entering i ≡ true → Applies k c i q
+  starts : (j : ℕ) → j < 12 → q ≡ 9 + j → within i ≡ 0 → Applies k c i q
+  output-kept : (j : ℕ) → j < 4 → q ≡ 21 + j → 1 ≤ within i → within i ≤ 29 → Applies k c i q
+  goes-on : (j : ℕ) → 4 ≤ j → j < 12 → q ≡ 21 + j → 1 ≤ within i → within i ≤ 29 → entering i ≡ false → Applies k c i q
+  ends : (j : ℕ) → j < 12 → q ≡ 33 + j → within i ≡ 30 → Applies k c i q
+  joins : (j : ℕ) → j < 4 → q ≡ 45 + j → within i ≡ 31 → (i + 1 ≡ 32 * k → ⊥) → Applies k c i q
+  claims : (j : ℕ) → j < 4 → q ≡ 49 + j → i + 1 ≡ 32 * c → Applies k c i q
 
-module _ (k i q : ℕ) where
+module _ (k c i q : ℕ) where
   -- whether constraint q applies, by its family
   abbrev At : Family → Bool
-  At f = f .rows k i (columnOf f q)
+  At f = f .rows k c i (columnOf f q)
 
   -- at rows 10 and 20 the column is one of the first four
   middle : (j : ℕ) → Dec (j < 4) → j < 12 → q ≡ 21 + j → 1 ≤ within i → within i ≤ 29
-      → (not (entering i) || ltb j 4) ≡ true → Applies k i q
-  middle j (yes h) l e a b c = output-kept j h e a b
-  middle j (no h) l e a b c =
+      → (not (entering i) || ltb j 4) ≡ true → Applies k c i q
+  middle j (yes h) l e a b s = output-kept j h e a b
+  middle j (no h) l e a b s =
       goes-on j (omega arith) l e a b
-      (not-true _ (⊎-elim (λ x. x) (λ x. absurd (h (ltb-true j 4 x))) (or-cases (not (entering i)) (ltb j 4) c)))
+      (not-true _ (⊎-elim (λ x. x) (λ x. absurd (h (ltb-true j 4 x))) (or-cases (not (entering i)) (ltb j 4) s)))
 
-  pub applies-cases : applies k i q ≡ true → Applies k i q
+  pub applies-cases : applies k c i q ≡ true → Applies k c i q
   unfolding applies families
   applies-cases e = go (from-family q At families e)
     where
-      go : Yes q At families → Applies k i q
+      go : Yes q At families → Applies k c i q
       go (inl s) = zero-columns (q - 1) (omega arith) (omega arith) (eqb-true _ _ (s .2))
       go (inr (inl s)) = new-zeros (q - 5) (omega arith) (omega arith) (s .2)
       go (inr (inr (inl s))) = starts (q - 9) (omega arith) (omega arith) (eqb-true _ _ (s .2))
@@ -156,38 +165,38 @@ module _ (k i q : ℕ) where
           claims (q - 49) (omega arith) (omega arith) (eqb-true _ _ (s .2))
 
   -- the rows of each family
-  pub applies-zeros : 1 ≤ q → q < 5 → applies k i q ≡ eqb (within i) 0
+  pub applies-zeros : 1 ≤ q → q < 5 → applies k c i q ≡ eqb (within i) 0
   unfolding applies
   applies-zeros l h = asked-1 q At l (omega arith)
 
-  pub applies-new-zeros : 5 ≤ q → q < 9 → applies k i q ≡ entering i
+  pub applies-new-zeros : 5 ≤ q → q < 9 → applies k c i q ≡ entering i
   unfolding applies
   applies-new-zeros l h = asked-5 q At l (omega arith)
 
-  pub applies-starts : 9 ≤ q → q < 21 → applies k i q ≡ eqb (within i) 0
+  pub applies-starts : 9 ≤ q → q < 21 → applies k c i q ≡ eqb (within i) 0
   unfolding applies
   applies-starts l h = asked-9 q At l (omega arith)
 
   pub applies-middle : 21 ≤ q → q < 33
-      → applies k i q ≡ (between 1 29 (within i) && (not (entering i) || ltb (q - 21) 4))
+      → applies k c i q ≡ (between 1 29 (within i) && (not (entering i) || ltb (q - 21) 4))
   unfolding applies
   applies-middle l h =
       asked-21 q At l (omega arith)
       ∙ ap (λ j. between 1 29 (within i) && (not (entering i) || ltb j 4)) (zero-add (q - 21))
 
-  pub applies-ends : 33 ≤ q → q < 45 → applies k i q ≡ eqb (within i) 30
+  pub applies-ends : 33 ≤ q → q < 45 → applies k c i q ≡ eqb (within i) 30
   unfolding applies
   applies-ends l h = asked-33 q At l (omega arith)
 
-  pub applies-joins : 45 ≤ q → q < 49 → applies k i q ≡ (eqb (within i) 31 && not (lastRow k i))
+  pub applies-joins : 45 ≤ q → q < 49 → applies k c i q ≡ (eqb (within i) 31 && not (lastRow k i))
   unfolding applies
   applies-joins l h = asked-45 q At l (omega arith)
 
-  pub applies-claims : 49 ≤ q → q < 53 → applies k i q ≡ claimRow k i
+  pub applies-claims : 49 ≤ q → q < 53 → applies k c i q ≡ claimRow c i
   unfolding applies
   applies-claims l h = asked-49 q At l (omega arith)
 
-  pub applies-yes : Applies k i q → applies k i q ≡ true
+  pub applies-yes : Applies k c i q → applies k c i q ≡ true
   applies-yes (zero-columns j l e r) = applies-zeros (omega arith) (omega arith) ∙ eq-eqb (within i) 0 r
   applies-yes (new-zeros j l e r) = applies-new-zeros (omega arith) (omega arith) ∙ r
   applies-yes (starts j l e r) = applies-starts (omega arith) (omega arith) ∙ eq-eqb (within i) 0 r
@@ -199,4 +208,4 @@ module _ (k i q : ℕ) where
   applies-yes (ends j l e r) = applies-ends (omega arith) (omega arith) ∙ eq-eqb (within i) 30 r
   applies-yes (joins j l e r n) =
       applies-joins (omega arith) (omega arith) ∙ simp (eq-eqb (within i) 31 r, ne-eqb (i + 1) (32 * k) n)
-  applies-yes (claims j l e r) = applies-claims (omega arith) (omega arith) ∙ eq-eqb (i + 1) (32 * k) r
+  applies-yes (claims j l e r) = applies-claims (omega arith) (omega arith) ∙ eq-eqb (i + 1) (32 * c) r

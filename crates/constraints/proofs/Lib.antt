@@ -3,6 +3,7 @@ pub mod RowCells
 pub mod Families
 pub mod Equations
 pub mod TestCount
+pub mod ClaimRow
 pub mod TestList
 pub mod WalkLaws
 pub mod ForwardBack

@@ -21,30 +21,30 @@ pub data Rising : List Test → Type 0 where
 
 joined : {xs : List Test} (ys : List Test) → Rising xs → Rising ys
     → ((x y : Test) → List·Memᴰ x xs → List·Memᴰ y ys → Earlier x y) → Rising (xs ++ ys)
-joined ys none q h = q
-joined ys (more {x = x} {xs = xs} f p) q h =
+joined ys none r h = r
+joined ys (more {x = x} {xs = xs} f p) r h =
     more (λ y m. ⊎-elim (f y) (h x y (List·Memᴰ.List·Memᴰ·head refl)) (List·Memᴰ·append-cases xs m))
-    (joined ys p q (λ z y a b. h z y (List·Memᴰ.List·Memᴰ·tail a) b))
+    (joined ys p r (λ z y a b. h z y (List·Memᴰ.List·Memᴰ·tail a) b))
 
-row-rising : (k i c n : ℕ) → Rising (rowTests k i c n)
+row-rising : (k c i q n : ℕ) → Rising (rowTests k c i q n)
 unfolding rowTests
-row-rising k i c zero = none
-row-rising k i c (suc n) = go (applies k i c) (row-rising k i (c + 1) n)
+row-rising k c i q zero = none
+row-rising k c i q (suc n) = go (applies k c i q) (row-rising k c i (q + 1) n)
   where
-    go : (b : Bool) → Rising (rowTests k i (c + 1) n)
-        → Rising (keep b (record { at = i; number = c }) (rowTests k i (c + 1) n))
+    go : (b : Bool) → Rising (rowTests k c i (q + 1) n)
+        → Rising (keep b (record { at = i; number = q }) (rowTests k c i (q + 1) n))
     go true r =
-        more {x = record { at = i; number = c }}
-        (λ y m. (let s = in-row k i (c + 1) n y m in by-number (sym (s .0)) (omega (arith, s .1)))) r
+        more {x = record { at = i; number = q }}
+        (λ y m. (let s = in-row k c i (q + 1) n y m in by-number (sym (s .0)) (omega (arith, s .1)))) r
     go false r = r
 
-rows-rising : (k i n : ℕ) → Rising (testsFrom k i n)
+rows-rising : (k c i n : ℕ) → Rising (testsFrom k c i n)
 unfolding testsFrom
-rows-rising k i zero = none
-rows-rising k i (suc n) =
-    joined (testsFrom k (i + 1) n) (row-rising k i 1 52) (rows-rising k (i + 1) n)
-    (λ x y a b. by-row (omega (arith, in-row k i 1 52 x a .0, in-rows k (i + 1) n y b .0)))
+rows-rising k c i zero = none
+rows-rising k c i (suc n) =
+    joined (testsFrom k c (i + 1) n) (row-rising k c i 1 52) (rows-rising k c (i + 1) n)
+    (λ x y a b. by-row (omega (arith, in-row k c i 1 52 x a .0, in-rows k c (i + 1) n y b .0)))
 
-pub in-order : (k : ℕ) → Rising (tests k)
+pub in-order : (k c : ℕ) → Rising (tests k c)
 unfolding tests
-in-order k = rows-rising k 0 (32 * k)
+in-order k c = rows-rising k c 0 (32 * k)

@@ -49,63 +49,64 @@ one-cut l x (y ∷ before) after (z ∷ before′) after′ r p q =
     rest)
 
 -- ---- the cut before constraint q at row i, with p constraints before it, s after it, and r rows after its own
-module _ (k i q p s r : ℕ) (number : 1 + p ≡ q) (numbers : 52 ≡ p + suc s) (rows : 32 * k ≡ i + suc r)
-    (there : applies k i q ≡ true) where
+module _ (k c i q p s r : ℕ) (number : 1 + p ≡ q) (numbers : 52 ≡ p + suc s) (rows : 32 * k ≡ i + suc r)
+    (there : applies k c i q ≡ true) where
   abbrev x : Test
   x = record { at = i; number = q }
 
-  abbrev before : List Test
-  before = testsFrom k 0 i ++ rowTests k i 1 p
+  abbrev pub before : List Test
+  before = testsFrom k c 0 i ++ rowTests k c i 1 p
 
-  abbrev after : List Test
-  after = rowTests k i (q + 1) s ++ testsFrom k (i + 1) r
+  abbrev pub after : List Test
+  after = rowTests k c i (q + 1) s ++ testsFrom k c (i + 1) r
 
-  row-is : rowTests k i 1 52 ≡ rowTests k i 1 p ++ x ∷ rowTests k i (q + 1) s
+  row-is : rowTests k c i 1 52 ≡ rowTests k c i 1 p ++ x ∷ rowTests k c i (q + 1) s
   unfolding rowTests
   row-is =
-      ap (rowTests k i 1) numbers
-      ∙ row-cut k i 1 p (suc s)
-      ∙ ap (λ c. rowTests k i 1 p ++ rowTests k i c (suc s)) number
-      ∙ ap (λ b. rowTests k i 1 p ++ keep b x (rowTests k i (q + 1) s)) there
+      ap (rowTests k c i 1) numbers
+      ∙ row-cut k c i 1 p (suc s)
+      ∙ ap (λ d. rowTests k c i 1 p ++ rowTests k c i d (suc s)) number
+      ∙ ap (λ b. rowTests k c i 1 p ++ keep b x (rowTests k c i (q + 1) s)) there
 
-  order-is : tests k ≡ before ++ x ∷ after
+  pub order-is : tests k c ≡ before ++ x ∷ after
   unfolding tests testsFrom
   order-is =
       let first : 0 + i ≡ i = omega arith in
-      ap (testsFrom k 0) rows
-      ∙ rows-cut k 0 i (suc r)
-      ∙ ap (λ j. testsFrom k 0 i ++ testsFrom k j (suc r)) first
-      ∙ ap (λ l. testsFrom k 0 i ++ (l ++ testsFrom k (i + 1) r)) row-is
-      ∙ ap (λ l. testsFrom k 0 i ++ l)
-      (append-assoc (rowTests k i 1 p) (x ∷ rowTests k i (q + 1) s) (testsFrom k (i + 1) r))
-      ∙ sym (append-assoc (testsFrom k 0 i) (rowTests k i 1 p) (x ∷ after))
+      ap (testsFrom k c 0) rows
+      ∙ rows-cut k c 0 i (suc r)
+      ∙ ap (λ j. testsFrom k c 0 i ++ testsFrom k c j (suc r)) first
+      ∙ ap (λ l. testsFrom k c 0 i ++ (l ++ testsFrom k c (i + 1) r)) row-is
+      ∙ ap (λ l. testsFrom k c 0 i ++ l)
+      (append-assoc (rowTests k c i 1 p) (x ∷ rowTests k c i (q + 1) s) (testsFrom k c (i + 1) r))
+      ∙ sym (append-assoc (testsFrom k c 0 i) (rowTests k c i 1 p) (x ∷ after))
 
-  before-count : length before + 1 ≡ placeOf k i q
+  pub before-count : length before + 1 ≡ placeOf k c i q
   unfolding placeOf
   before-count =
       let last : q ≡ suc p = omega arith in
       let same : p + 1 ≡ q = omega arith in
-      let one : _≡_ {A = ℕ} (choose (applies k i (p + 1)) 1 0) 1 = ap (λ c. choose (applies k i c) 1 0) same
+      let one : _≡_ {A = ℕ} (choose (applies k c i (p + 1)) 1 0) 1 = ap (λ d. choose (applies k c i d) 1 0) same
       ∙ ap (λ b. choose b 1 0) there in
-      let up-to = ap (testsUpTo k i) last ∙ sum-suc p (λ n. choose (applies k i (n + 1)) 1 0) in
+      let up-to = ap (testsUpTo k c i) last ∙ sum-suc p (λ n. choose (applies k c i (n + 1)) 1 0) in
       omega
-      (arith, length-append (testsFrom k 0 i) (rowTests k i 1 p), rows-count k i, row-count k i p, one, up-to)
+      (arith, length-append (testsFrom k c 0 i) (rowTests k c i 1 p), rows-count k c i, row-count k c i p, one, up-to)
 
 -- ---- the place of each test
-pub place-of-test : (k i q : ℕ) (before after : List Test) → tests k ≡ before ++ record { at = i; number = q } ∷ after
-    → length before + 1 ≡ placeOf k i q
-place-of-test k i q b a e =
-    ap (λ n. n + 1) (one-cut (tests k) test b a cut rest (in-order k) e order)
-    ∙ before-count k i q p s r number numbers rows (listed .1)
+pub place-of-test : (k c i q : ℕ) (before after : List Test)
+    → tests k c ≡ before ++ record { at = i; number = q } ∷ after
+    → length before + 1 ≡ placeOf k c i q
+place-of-test k c i q b a e =
+    ap (λ n. n + 1) (one-cut (tests k c) test b a cut rest (in-order k c) e order)
+    ∙ before-count k c i q p s r number numbers rows (listed .1)
   where
     test : Test
     test = record { at = i; number = q }
 
-    listed : (i < 32 * k) × (applies k i q ≡ true)
-    listed = test-list k test .0 (subst (List·Memᴰ test) (sym e) (in-middle test b a))
+    listed : (i < 32 * k) × (applies k c i q ≡ true)
+    listed = test-list k c test .0 (subst (List·Memᴰ test) (sym e) (in-middle test b a))
 
     range : (1 ≤ q) × (q < 53)
-    range = number-range k i q (applies-cases k i q (listed .1))
+    range = number-range k c i q (applies-cases k c i q (listed .1))
 
     p : ℕ
     p = q - 1
@@ -126,10 +127,10 @@ place-of-test k i q b a e =
     rows = omega (arith, listed .0)
 
     cut : List Test
-    cut = before k i q p s r number numbers rows (listed .1)
+    cut = before k c i q p s r number numbers rows (listed .1)
 
     rest : List Test
-    rest = after k i q p s r number numbers rows (listed .1)
+    rest = after k c i q p s r number numbers rows (listed .1)
 
-    order : tests k ≡ cut ++ test ∷ rest
-    order = order-is k i q p s r number numbers rows (listed .1)
+    order : tests k c ≡ cut ++ test ∷ rest
+    order = order-is k c i q p s r number numbers rows (listed .1)

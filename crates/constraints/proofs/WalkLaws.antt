@@ -32,14 +32,14 @@ module _ (T t claim : List ℕ) where
   -- a walk over xs after n tests comes to one of these two ends
   pub data Ends (xs : List Test) (n : ℕ) : Answer → Type 0 where
     passes : AllHold T t claim xs → Ends xs n Accepted
-    stops : (i c place : ℕ) → IsFirstFailing T t claim xs i c place → (m : ℕ) → m ≡ n + place
-        → Ends xs n (Refused (Constraint (record { 0 = i }) c m))
+    stops : (i q place : ℕ) → IsFirstFailing T t claim xs i q place → (m : ℕ) → m ≡ n + place
+        → Ends xs n (Refused (Constraint (record { 0 = i }) q m))
 
   one-more-end : (x : Test) (xs : List Test) (n : ℕ) (r : Answer) → holds T t claim (x .at) (x .number) ≡ true
       → Ends xs (n + 1) r → Ends (x ∷ xs) n r
   one-more-end x xs n r e (passes a) = passes (one-more-holds x xs e a)
-  one-more-end x xs n r e (stops i c place f m p) =
-      stops i c (place + 1)
+  one-more-end x xs n r e (stops i q place f m p) =
+      stops i q (place + 1)
       (record {
         before = x ∷ f .before;
         after = f .after;
@@ -65,80 +65,80 @@ module _ (T t claim : List ℕ) where
           (n + 1) refl
 
   -- the two ends exclude each other: the test that fails is one of the list
-  pub not-both : (xs : List Test) (i c n : ℕ) → AllHold T t claim xs → IsFirstFailing T t claim xs i c n → ⊥
-  not-both xs i c n a f =
+  pub not-both : (xs : List Test) (i q n : ℕ) → AllHold T t claim xs → IsFirstFailing T t claim xs i q n → ⊥
+  not-both xs i q n a f =
       true≢false
       (sym (a x (subst (λ l. List·Memᴰ x l) (sym (f .order)) (in-middle x (f .before) (f .after)))) ∙ f .fails)
     where
       x : Test
-      x = record { at = i; number = c }
+      x = record { at = i; number = q }
 
   -- a walk stops at the test that fails, where all before it hold
-  walk-stops : (xs : List Test) (i c : ℕ) (rest : List Test) (n : ℕ) → AllHold T t claim xs
-      → holds T t claim i c ≡ false
-      → walk T t claim (xs ++ record { at = i; number = c } ∷ rest) n
-      ≡ Refused (Constraint (record { 0 = i }) c (n + (length xs + 1)))
+  walk-stops : (xs : List Test) (i q : ℕ) (rest : List Test) (n : ℕ) → AllHold T t claim xs
+      → holds T t claim i q ≡ false
+      → walk T t claim (xs ++ record { at = i; number = q } ∷ rest) n
+      ≡ Refused (Constraint (record { 0 = i }) q (n + (length xs + 1)))
   unfolding walk
-  walk-stops [] i c rest n a e =
+  walk-stops [] i q rest n a e =
       let z : n + 1 ≡ n + (0 + 1) = omega arith in
-      rw e (ap (λ m. Refused (Constraint (record { 0 = i }) c m)) z)
-  walk-stops (x ∷ xs) i c rest n a e =
+      rw e (ap (λ m. Refused (Constraint (record { 0 = i }) q m)) z)
+  walk-stops (x ∷ xs) i q rest n a e =
       let z : n + 1 + (length xs + 1) ≡ n + (suc (length xs) + 1) = omega arith in
       rw (a x (List·Memᴰ.List·Memᴰ·head refl))
-      (walk-stops xs i c rest (n + 1) (λ y m. a y (List·Memᴰ.List·Memᴰ·tail m)) e
-      ∙ ap (λ m. Refused (Constraint (record { 0 = i }) c m)) z)
+      (walk-stops xs i q rest (n + 1) (λ y m. a y (List·Memᴰ.List·Memᴰ·tail m)) e
+      ∙ ap (λ m. Refused (Constraint (record { 0 = i }) q m)) z)
 
   -- ---- through all tests
-  module _ (k : ℕ) where
-    test-ends : Ends (tests k) 0 (constraintTest T t claim k)
+  module _ (k c : ℕ) where
+    test-ends : Ends (tests k c) 0 (constraintTest T t claim c k)
     unfolding constraintTest
-    test-ends = walk-ends (tests k) 0
+    test-ends = walk-ends (tests k c) 0
 
-    pub accepted-all-hold : constraintTest T t claim k ≡ Accepted → AllHold T t claim (tests k)
-    accepted-all-hold = go (constraintTest T t claim k) test-ends
+    pub accepted-all-hold : constraintTest T t claim c k ≡ Accepted → AllHold T t claim (tests k c)
+    accepted-all-hold = go (constraintTest T t claim c k) test-ends
       where
-        go : (r : Answer) → Ends (tests k) 0 r → r ≡ Accepted → AllHold T t claim (tests k)
+        go : (r : Answer) → Ends (tests k c) 0 r → r ≡ Accepted → AllHold T t claim (tests k c)
         go r (passes a) e = a
-        go r (stops i c place f m p) e = absurd (not-accepted _ e)
+        go r (stops i q place f m p) e = absurd (not-accepted _ e)
 
-    pub all-hold-accepted : AllHold T t claim (tests k) → constraintTest T t claim k ≡ Accepted
-    all-hold-accepted a = go (constraintTest T t claim k) test-ends
+    pub all-hold-accepted : AllHold T t claim (tests k c) → constraintTest T t claim c k ≡ Accepted
+    all-hold-accepted a = go (constraintTest T t claim c k) test-ends
       where
-        go : (r : Answer) → Ends (tests k) 0 r → r ≡ Accepted
+        go : (r : Answer) → Ends (tests k c) 0 r → r ≡ Accepted
         go r (passes b) = refl
-        go r (stops i c place f m p) = absurd (not-both (tests k) i c place a f)
+        go r (stops i q place f m p) = absurd (not-both (tests k c) i q place a f)
 
     -- a refusal names row, constraint and place of the first test that fails
-    pub refused-first-failing : (i c n : ℕ) → constraintTest T t claim k ≡ Refused (Constraint (record { 0 = i }) c n)
-        → IsFirstFailing T t claim (tests k) i c n
-    refused-first-failing i c n = go (constraintTest T t claim k) test-ends
+    pub refused-first-failing : (i q n : ℕ) → constraintTest T t claim c k ≡ Refused (Constraint (record { 0 = i }) q n)
+        → IsFirstFailing T t claim (tests k c) i q n
+    refused-first-failing i q n = go (constraintTest T t claim c k) test-ends
       where
-        go : (r : Answer) → Ends (tests k) 0 r → r ≡ Refused (Constraint (record { 0 = i }) c n)
-            → IsFirstFailing T t claim (tests k) i c n
+        go : (r : Answer) → Ends (tests k c) 0 r → r ≡ Refused (Constraint (record { 0 = i }) q n)
+            → IsFirstFailing T t claim (tests k c) i q n
         go r (passes a) e = absurd (not-accepted _ (sym e))
         go r (stops j d place f m p) e =
             let same : _≡_ {A = RowNumber} (record { 0 = j }) (record { 0 = i }) = cc in
             let x : j ≡ i = ap (λ row. row .0) same in
-            let y : d ≡ c = cc in
+            let y : d ≡ q = cc in
             let z : m ≡ n = cc in
             let w : place ≡ n = omega arith in
-            subst₃ (λ u v l. IsFirstFailing T t claim (tests k) u v l) x y w f
+            subst₃ (λ u v l. IsFirstFailing T t claim (tests k c) u v l) x y w f
 
-    pub first-failing-refused : (i c n : ℕ) → IsFirstFailing T t claim (tests k) i c n
-        → constraintTest T t claim k ≡ Refused (Constraint (record { 0 = i }) c n)
+    pub first-failing-refused : (i q n : ℕ) → IsFirstFailing T t claim (tests k c) i q n
+        → constraintTest T t claim c k ≡ Refused (Constraint (record { 0 = i }) q n)
     unfolding constraintTest
-    first-failing-refused i c n f =
+    first-failing-refused i q n f =
         let z : 0 + (length (f .before) + 1) ≡ n = omega (arith, f .place) in
         ap (λ l. walk T t claim l 0) (f .order)
-        ∙ walk-stops (f .before) i c (f .after) 0 (f .passed) (f .fails)
-        ∙ ap (λ m. Refused (Constraint (record { 0 = i }) c m)) z
+        ∙ walk-stops (f .before) i q (f .after) 0 (f .passed) (f .fails)
+        ∙ ap (λ m. Refused (Constraint (record { 0 = i }) q m)) z
 
     -- and every trace that is not accepted is refused so
-    pub else-first-failing : (constraintTest T t claim k ≡ Accepted → ⊥)
-        → (i : ℕ) × (c : ℕ) × (n : ℕ) × (constraintTest T t claim k ≡ Refused (Constraint (record { 0 = i }) c n))
-    else-first-failing = go (constraintTest T t claim k) test-ends
+    pub else-first-failing : (constraintTest T t claim c k ≡ Accepted → ⊥)
+        → (i : ℕ) × (q : ℕ) × (n : ℕ) × (constraintTest T t claim c k ≡ Refused (Constraint (record { 0 = i }) q n))
+    else-first-failing = go (constraintTest T t claim c k) test-ends
       where
-        go : (r : Answer) → Ends (tests k) 0 r → (r ≡ Accepted → ⊥)
-            → (i : ℕ) × (c : ℕ) × (n : ℕ) × (r ≡ Refused (Constraint (record { 0 = i }) c n))
-        go r (passes a) q = absurd (q refl)
-        go r (stops i c place f m p) q = (i, c, m, refl)
+        go : (r : Answer) → Ends (tests k c) 0 r → (r ≡ Accepted → ⊥)
+            → (i : ℕ) × (q : ℕ) × (n : ℕ) × (r ≡ Refused (Constraint (record { 0 = i }) q n))
+        go r (passes a) never = absurd (never refl)
+        go r (stops i q place f m p) never = (i, q, m, refl)

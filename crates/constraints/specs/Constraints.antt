@@ -1,6 +1,7 @@
--- The 52 constraints, and the ordered list of all tests of a trace (document 01, "The 52 constraints"; Rescue STARK
--- documentation 1.0, section 3.3.2). T is a prepared table, t a trace of k batches, row by row; i is the number of a
--- row in the whole trace, j a column, q the number of a constraint.
+-- The 52 constraints, and the ordered list of all tests of a trace (document 01, "The 52 constraints", and document 02,
+-- U6, for the row of the claim; Rescue STARK documentation 1.0, section 3.3.2). T is a prepared table, t a trace of k
+-- batches, row by row; the claim is lent with c, the number of batches that it is about; i is the number of a row in
+-- the whole trace, j a column, q the number of a constraint.
 -- Assumes nothing.
 use mathlib.Core.Bool.{Bool, true, false, _&&_, _||_, not}
 use mathlib.Core.List.{List, [], _∷_, _++_}
@@ -28,13 +29,13 @@ round i = (within i - 1) % 10
 abbrev pub entering : ℕ → Bool
 entering i = eqb (within i) 10 || eqb (within i) 20
 
--- the last row of a trace of k batches
+-- the last row of k batches
 abbrev pub lastRow : ℕ → ℕ → Bool
 lastRow k i = eqb (i + 1) (traceRows k)
 
--- the row that is compared with the claim, which is the last
+-- the row that is compared with the claim: row 31 of batch c − 1, the last row of c batches
 abbrev pub claimRow : ℕ → ℕ → Bool
-claimRow k i = lastRow k i
+claimRow c i = lastRow c i
 
 -- the first n columns of a state plus those of another, the others as they are
 unfoldable pub plusFirst : ℕ → List ℕ → List ℕ → List ℕ
@@ -67,7 +68,7 @@ between a b n = leb a n && leb n b
 -- a family of constraints: the numbers of the first and the last, one number for each column; the rows at which they
 -- apply; the two states that they compare there; the column that the first compares
 abbrev pub Rows : Type 0
-Rows = ℕ → ℕ → ℕ → Bool
+Rows = ℕ → ℕ → ℕ → ℕ → Bool
 
 abbrev pub State : Type 0
 State = List ℕ → List ℕ → List ℕ → ℕ → List ℕ
@@ -84,22 +85,23 @@ abbrev pub family : ℕ → ℕ → Rows → State → State → ℕ → Family
 family first last rows left right column =
     record { first = first; last = last; rows = rows; left = left; right = right; column = column }
 
--- the rows, of a trace of k batches, by the row i and the column j that is compared: row n of each batch; rows 10 and
--- 20; rows 1 to 29, but at 10 and 20 columns 0 to 3 only; row 31 of every batch but the last; the row of the claim
+-- the rows, of a trace of k batches with a claim about c of them, by the row i and the column j that is compared: row n
+-- of each batch; rows 10 and 20; rows 1 to 29, but at 10 and 20 columns 0 to 3 only; row 31 of every batch but the
+-- last, also where it is the row of the claim; the row of the claim
 abbrev pub atRow : ℕ → Rows
-atRow n k i j = eqb (within i) n
+atRow n k c i j = eqb (within i) n
 
 abbrev pub atEntering : Rows
-atEntering k i j = entering i
+atEntering k c i j = entering i
 
 abbrev pub atMiddle : Rows
-atMiddle k i j = between 1 29 (within i) && (not (entering i) || ltb j 4)
+atMiddle k c i j = between 1 29 (within i) && (not (entering i) || ltb j 4)
 
 abbrev pub atJoint : Rows
-atJoint k i j = eqb (within i) 31 && not (lastRow k i)
+atJoint k c i j = eqb (within i) 31 && not (lastRow k i)
 
 abbrev pub atClaim : Rows
-atClaim k i j = claimRow k i
+atClaim k c i j = claimRow c i
 
 -- the states, at row i
 abbrev pub zeros : State
@@ -147,9 +149,9 @@ unfoldable pub ofFamily : ℕ → (Family → Bool) → List Family → Bool
 ofFamily q answer [] = false
 ofFamily q answer (f ∷ fs) = choose (between (f .first) (f .last) q) (answer f) (ofFamily q answer fs)
 
--- whether constraint q applies at row i of a trace of k batches
-unfoldable pub applies : ℕ → ℕ → ℕ → Bool
-applies k i q = ofFamily q (λ f. f .rows k i (columnOf f q)) families
+-- whether constraint q applies at row i of a trace of k batches with a claim about c of them
+unfoldable pub applies : ℕ → ℕ → ℕ → ℕ → Bool
+applies k c i q = ofFamily q (λ f. f .rows k c i (columnOf f q)) families
 
 -- whether constraint q holds at row i, where it applies
 abbrev pub compares : List ℕ → List ℕ → List ℕ → ℕ → ℕ → Family → Bool
@@ -171,18 +173,18 @@ keep true x xs = x ∷ xs
 keep false x xs = xs
 
 -- the tests of row i among the constraints q to q + n - 1
-unfoldable pub rowTests : ℕ → ℕ → ℕ → ℕ → List Test
-rowTests k i q zero = []
-rowTests k i q (suc n) = keep (applies k i q) (record { at = i; number = q }) (rowTests k i (q + 1) n)
+unfoldable pub rowTests : ℕ → ℕ → ℕ → ℕ → ℕ → List Test
+rowTests k c i q zero = []
+rowTests k c i q (suc n) = keep (applies k c i q) (record { at = i; number = q }) (rowTests k c i (q + 1) n)
 
 -- the tests of the rows i to i + n - 1
-unfoldable pub testsFrom : ℕ → ℕ → ℕ → List Test
-testsFrom k i zero = []
-testsFrom k i (suc n) = rowTests k i 1 52 ++ testsFrom k (i + 1) n
+unfoldable pub testsFrom : ℕ → ℕ → ℕ → ℕ → List Test
+testsFrom k c i zero = []
+testsFrom k c i (suc n) = rowTests k c i 1 52 ++ testsFrom k c (i + 1) n
 
--- all tests of a trace of k batches
-unfoldable pub tests : ℕ → List Test
-tests k = testsFrom k 0 (traceRows k)
+-- all tests of a trace of k batches with a claim about c of them
+unfoldable pub tests : ℕ → ℕ → List Test
+tests k c = testsFrom k c 0 (traceRows k)
 
 -- the walk after n tests: it stops at the first test that fails, whose place is counted from 1
 unfoldable pub walk : List ℕ → List ℕ → List ℕ → List Test → ℕ → Answer
@@ -192,5 +194,5 @@ walk T t claim (x ∷ xs) n =
     (walk T t claim xs (n + 1))
 
 -- what the walk through all tests answers
-unfoldable pub constraintTest : List ℕ → List ℕ → List ℕ → ℕ → Answer
-constraintTest T t claim k = walk T t claim (tests k) 0
+unfoldable pub constraintTest : List ℕ → List ℕ → List ℕ → ℕ → ℕ → Answer
+constraintTest T t claim c k = walk T t claim (tests k c) 0

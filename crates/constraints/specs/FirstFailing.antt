@@ -3,7 +3,7 @@
 -- Assumes nothing.
 use mathlib.Core.Path.{_≡_}
 use mathlib.Core.Bool.{true, false}
-use mathlib.Core.List.{List, _∷_, _++_, List·Memᴰ}
+use mathlib.Core.List.{List, [], _∷_, _++_, List·Memᴰ}
 use Prim.Native.Nat.{ℕ, _+_}
 use lib.ListN.{length}
 use Rattle.lists.specs.Lists.{choose, sum}
@@ -22,12 +22,22 @@ pub record IsFirstFailing (T t claim : List ℕ) (tests : List Test) (i q n : �
   pub fails : holds T t claim i q ≡ false
   pub place : n ≡ length before + 1
 
--- ---- places: how many tests of a trace of k batches stand in the order up to a test, itself included
+-- ---- places: how many tests of a trace of k batches, with a claim about c of them, stand in the order up to a test,
+-- itself included
 
 -- the tests of row i among the constraints 1 to q
-abbrev pub testsUpTo : ℕ → ℕ → ℕ → ℕ
-testsUpTo k i q = sum q (λ n. choose (applies k i (n + 1)) 1 0)
+abbrev pub testsUpTo : ℕ → ℕ → ℕ → ℕ → ℕ
+testsUpTo k c i q = sum q (λ n. choose (applies k c i (n + 1)) 1 0)
 
 -- constraint q at row i: all tests of the rows before, and those of its row up to its own number
-unfoldable pub placeOf : ℕ → ℕ → ℕ → ℕ
-placeOf k i q = sum i (λ n. testsUpTo k n 52) + testsUpTo k i q
+unfoldable pub placeOf : ℕ → ℕ → ℕ → ℕ → ℕ
+placeOf k c i q = sum i (λ n. testsUpTo k c n 52) + testsUpTo k c i q
+
+-- the tests of the constraints q to q + 3 at row i, as they stand at a row 31 (document 02, U6)
+abbrev pub fourTests : ℕ → ℕ → List Test
+fourTests i q =
+    record { at = i; number = q }
+    ∷ record { at = i; number = q + 1 }
+    ∷ record { at = i; number = q + 2 }
+    ∷ record { at = i; number = q + 3 }
+    ∷ []

@@ -12,13 +12,11 @@ use borrow.Author.Tests.{eqb-true, eq-eqb}
 use lib.Dec.{eqb, lit<}
 use lib.ListN.{length}
 use Rattle.lists.proofs.Bools.{or-cases, and-both}
-use Rattle.numbers.specs.Numbers.{IsPermitted, mostBatches, isTapLength, tapWordBatches, isTraceLength}
-use Rattle.numbers.specs.Numbers.{traceWordBatches}
-use Rattle.numbers.proofs.Laws.{trace-length-sound}
+use Rattle.numbers.specs.Numbers.{mostBatches, isTapLength, tapWordBatches, traceWordBatches}
 use Rattle.refusals.specs.Refusals.{told, digest, digestWords, state}
 use Rattle.refusals.specs.Answers.{Refuses as IsRefusal, digestAfter, stateAfter, testsAfter, leaves}
 use Rattle.refusals.specs.declared.Refusal.{Refusal}
-use Rattle.refusals.specs.declared.Refusal.the-variants.{NoInverse, WrongInverse, TapLength, TraceLength}
+use Rattle.refusals.specs.declared.Refusal.the-variants.{NoInverse, WrongInverse, TapLength}
 use Rattle.refusals.specs.declared.Refusal.the-variants.{DestinationLength}
 use Rattle.refusals.specs.declared.Answer.{Answer}
 use Rattle.refusals.specs.declared.Answer.the-variants as answer
@@ -39,8 +37,8 @@ use Rattle.trace.proofs.Answers.{BuildInputs, build-inputs}
 use Rattle.constraints.specs.Constraints as order
 use Rattle.constraints.specs.ReadOff.{readTaps}
 use Rattle.constraints.proofs.TestCount.{length-tests}
-use Rattle.checker.specs.Answers.{checkAnswer, checkTest}
-use Rattle.checker.proofs.Answers.{check-inputs}
+use Rattle.checker.specs.Answers.{openingTest, checkAnswer, checkTest}
+use Rattle.checker.proofs.Answers.{Opened, opened, check-inputs}
 use Rattle.readoff.specs.Answers.{readOffAnswer, readOffLeaves, readOffTest}
 use Rattle.readoff.proofs.Answers.{read-off-inputs}
 use Rattle.edit.specs.Answers.{editAnswer, editLeaves, editTest, alteredTaps}
@@ -48,13 +46,14 @@ use Rattle.unhash.specs.Unhash.{tapsBefore}
 use Rattle.unhash.specs.Answers.{unhashTest, unhashAnswer}
 use Rattle.board.specs.Board.{packTest, packed, packLeaves, unpackAnswer, unpackTest, tapsIn, claimIn, unpackLeaves}
 use Rattle.board.proofs.Round.{claim-is}
-use Rattle.export.specs.Code.{code as code-of, answerCode, digestCode, stateCode, testsCode}
-use Rattle.export.specs.Calls.{written, HandsOver, writtenState, HandsOverState, PrepareCall, hashCallTest, hashCall}
+use Rattle.handover.specs.Code.{code as code-of, answerCode, digestCode, stateCode, testsCode}
+use Rattle.handover.specs.HandsOver.{written, HandsOver, writtenState, HandsOverState}
+use Rattle.export.specs.Calls.{PrepareCall, hashCallTest, hashCall}
 use Rattle.export.specs.Calls.{chainCallTest, chainCall, buildCallTest, buildCall, BuildCall, ReadOffCall}
 use Rattle.export.specs.Calls.{editCallTest, editCall, EditCall, unhashCallTest, UnhashCall, PackCall}
 use Rattle.export.specs.Calls.{unpackCallTest, unpackCall, UnpackCall}
 use Rattle.export.proofs.Answers.{chain-room, build-room}
-use Rattle.export.proofs.Bits.{RefusalInBits, says, says-accepted}
+use Rattle.handover.proofs.Bits.{RefusalInBits, says, says-accepted}
 use Rattle.export.proofs.Endings as ends
 use Rattle.export.proofs.Endings.{TableCauses}
 use Rattle.export.proofs.Theorems as bits
@@ -103,19 +102,20 @@ prepare-numbers =
     let ns = numbers prepare in
     ends.prepare-ends (OneOf ns) (one-of 1 ns refl) (one-of 8 ns refl) (λ i l. one-of 2 ns refl) (one-of 3 ns refl)
 
-check-numbers : (T t claim : List ℕ) → AnswerEnds (OneOf (numbers check)) (checkTest T t claim)
-check-numbers T t claim =
+check-numbers : (T t claim : List ℕ) (c : ℕ) → AnswerEnds (OneOf (numbers check)) (checkTest T t claim c)
+check-numbers T t claim c =
     let ns = numbers check in
-    ends.check-ends (OneOf ns) (table-causes ns refl refl refl) T t claim (one-of 7 ns refl) (λ i h. one-of 9 ns refl)
-    (λ k s p i h. one-of 10 ns refl) (λ h i c n f. one-of 11 ns refl)
+    ends.check-ends (OneOf ns) (table-causes ns refl refl refl) T t claim c (one-of 7 ns refl)
+    (λ k e p s o. one-of 17 ns refl) (λ i h. one-of 9 ns refl) (λ k s p i h. one-of 10 ns refl)
+    (λ h i q n f. one-of 11 ns refl)
 
-read-off-numbers : (T t claim : List ℕ) (size : ℕ)
-    → AnswerEnds (OneOf (numbers read-off)) (readOffTest T t claim size)
-read-off-numbers T t claim size =
+read-off-numbers : (T t claim : List ℕ) (c size : ℕ)
+    → AnswerEnds (OneOf (numbers read-off)) (readOffTest T t claim c size)
+read-off-numbers T t claim c size =
     let ns = numbers read-off in
-    ends.read-off-ends (OneOf ns) (table-causes ns refl refl refl) T t claim (one-of 7 ns refl)
-    (λ i h. one-of 9 ns refl) (λ k s p i h. one-of 10 ns refl) size (one-of 8 ns refl)
-    (λ s h i c n f. one-of 11 ns refl)
+    ends.read-off-ends (OneOf ns) (table-causes ns refl refl refl) T t claim c (one-of 7 ns refl)
+    (λ k e p s o. one-of 17 ns refl) (λ i h. one-of 9 ns refl) (λ k s p i h. one-of 10 ns refl) size (one-of 8 ns refl)
+    (λ s h i q n f. one-of 11 ns refl)
 
 pack-numbers : (w claim : List ℕ) (size : ℕ) → AnswerEnds (OneOf (numbers pack)) (packTest w claim size)
 pack-numbers w claim size =
@@ -140,17 +140,17 @@ numbered o r (build-refuses T w size q e) =
     subst (AnswerEnds (OneOf ns)) (digest-refused (buildTest T w size) _ q e)
     (ends.build-ends (OneOf ns) (table-causes ns refl refl refl) T w (one-of 5 ns refl) (λ k s p i h. one-of 6 ns refl)
     size (one-of 8 ns refl))
-numbered o r (check-refuses T t claim q e) =
-    subst (AnswerEnds (OneOf (numbers check))) (tests-refused (checkTest T t claim) _ q e) (check-numbers T t claim)
-numbered o r (read-off-refuses T t claim size q e) =
-    subst (AnswerEnds (OneOf (numbers read-off))) (tests-refused (readOffTest T t claim size) _ q e)
-    (read-off-numbers T t claim size)
-numbered o r (edit-refuses T t claim n new q e) =
+numbered o r (check-refuses T t claim c q e) =
+    subst (AnswerEnds (OneOf (numbers check))) (tests-refused (checkTest T t claim c) _ q e) (check-numbers T t claim c)
+numbered o r (read-off-refuses T t claim c size q e) =
+    subst (AnswerEnds (OneOf (numbers read-off))) (tests-refused (readOffTest T t claim c size) _ q e)
+    (read-off-numbers T t claim c size)
+numbered o r (edit-refuses T t claim c n new q e) =
     let ns = numbers edit in
-    subst (AnswerEnds (OneOf ns)) (digest-refused (editTest T t claim n new) _ q e)
-    (ends.edit-ends (OneOf ns) (table-causes ns refl refl refl) T t claim (one-of 7 ns refl) (λ i h. one-of 9 ns refl)
-    (λ k s p i h. one-of 10 ns refl) n new (one-of 15 ns refl) (λ i h. one-of 6 ns refl)
-    (λ l a h i c m f. one-of 11 ns refl))
+    subst (AnswerEnds (OneOf ns)) (digest-refused (editTest T t claim c n new) _ q e)
+    (ends.edit-ends (OneOf ns) (table-causes ns refl refl refl) T t claim c (one-of 7 ns refl)
+    (λ k e p s o. one-of 17 ns refl) (λ i h. one-of 9 ns refl) (λ k s p i h. one-of 10 ns refl) n new
+    (one-of 15 ns refl) (λ i h. one-of 6 ns refl) (λ l a h i j m f. one-of 11 ns refl))
 numbered o r (unhash-refuses T s q e) =
     let ns = numbers unhash in
     subst (AnswerEnds (OneOf ns)) (pair-refused (unhashTest T s) _ q e)
@@ -271,9 +271,9 @@ unfolding rescue.outputAt
 output-size T w zero l = absurd (omega arith)
 output-size T w (suc h) l = hash-tap T _ _ .size
 
-chain-words : (T w : List ℕ) (k : ℕ) → IsPermitted k → digestWords (digest (rescue.chain T w k)) ≡ rescue.chain T w k
+chain-words : (T w : List ℕ) (k : ℕ) → 1 ≤ k → digestWords (digest (rescue.chain T w k)) ≡ rescue.chain T w k
 unfolding rescue.chain
-chain-words T w k p = four-words (rescue.outputAt T w (3 * k)) (output-size T w (3 * k) (omega (arith, p .low)))
+chain-words T w k some = four-words (rescue.outputAt T w (3 * k)) (output-size T w (3 * k) (omega arith))
 
 chain-call-inputs : (T w : List ℕ) (size : ℕ) → chainCallTest T w size ≡ answer.Accepted
     → ChainInputs T w (tapWordBatches (length w))
@@ -311,7 +311,7 @@ chain-call T w output output′ code h =
       k = k;
       permitted = i .permitted;
       taps = i .size;
-      output-is = output-new t d code output output′ h e ∙ chain-words T w k (i .permitted);
+      output-is = output-new t d code output output′ h e ∙ chain-words T w k (i .permitted .low);
     }))
     (output-old t d code output output′ h)
 
@@ -332,83 +332,85 @@ build-call T w rows rows′ output output′ code h =
       k = k;
       permitted = i .permitted;
       taps = i .taps;
-      output-is = output-new t d code output output′ (h .four) e ∙ chain-words T w k (i .permitted);
+      output-is = output-new t d code output output′ (h .four) e ∙ chain-words T w k (i .permitted .low);
       rows-are = h .rows ∙ ap (λ x. leaves x (trace T w k) rows) e;
     }))
     (λ r. (h .rows ∙ ap (λ x. leaves x (trace T w k) rows) (r .1), output-old t d code output output′ (h .four) r))
 
-module _ (T t : List ℕ) (c0 c1 c2 c3 : ℕ) where
-  check-call : (code : ℕ) → code ≡ testsCode (checkAnswer T t (c0 ∷ c1 ∷ c2 ∷ c3 ∷ []))
-      → Answered code (callNumbers check) (CheckResult t) Unit
+module _ (T t : List ℕ) (c0 c1 c2 c3 c : ℕ) where
+  check-call : (code : ℕ) → code ≡ testsCode (checkAnswer T t (c0 ∷ c1 ∷ c2 ∷ c3 ∷ []) c)
+      → Answered code (callNumbers check) (CheckResult t c) Unit
   unfolding checkAnswer
   check-call code h =
       let claim : List ℕ = c0 ∷ c1 ∷ c2 ∷ c3 ∷ [] in
       let k = traceWordBatches (length t) in
-      tests-says code (callNumbers check) (CheckResult t) Unit (checkTest T t claim) (length (order.tests k)) h
-      (λ e. bits.tests-bits k (check-inputs T t claim e .0 .permitted))
-      (bits.check-bits T t claim refl)
-      (check-numbers T t claim)
-      (λ e. (let i = check-inputs T t claim e .0 in record {
+      tests-says code (callNumbers check) (CheckResult t c) Unit (checkTest T t claim c) (length (order.tests k c)) h
+      (λ e. (let o = check-inputs T t claim c e .0 .opening in bits.tests-bits k c (o .permitted) (o .low) (o .high)))
+      (bits.check-bits T t claim c refl)
+      (check-numbers T t claim c)
+      (λ e. (let o = check-inputs T t claim c e .0 .opening in record {
         k = k;
-        permitted = i .permitted;
-        rows = i .size;
-        all = length-tests k;
+        permitted = o .permitted;
+        rows = o .size;
+        claimed = (o .low, o .high);
+        all = length-tests k c (o .low) (o .high);
       }))
       (λ r. tt)
 
-  read-off-call : (taps taps′ : List ℕ) (code : ℕ) → ReadOffCall T t (c0 ∷ c1 ∷ c2 ∷ c3 ∷ []) code taps taps′
-      → Answered code (callNumbers read-off) (ReadOffResult T t taps′) (taps′ ≡ taps)
+  read-off-call : (taps taps′ : List ℕ) (code : ℕ) → ReadOffCall T t (c0 ∷ c1 ∷ c2 ∷ c3 ∷ []) c code taps taps′
+      → Answered code (callNumbers read-off) (ReadOffResult T t c taps′) (taps′ ≡ taps)
   unfolding readOffAnswer readOffLeaves
   read-off-call taps taps′ code h =
       let claim : List ℕ = c0 ∷ c1 ∷ c2 ∷ c3 ∷ [] in
       let k = traceWordBatches (length t) in
-      tests-says code (callNumbers read-off) (ReadOffResult T t taps′) (taps′ ≡ taps)
-      (readOffTest T t claim (length taps)) (length (order.tests k)) (h .coded)
-      (λ e. bits.tests-bits k (read-off-inputs T t claim (length taps) e .1 .permitted))
-      (bits.read-off-bits T t claim refl (length taps))
-      (read-off-numbers T t claim (length taps))
-      (λ e. (let i = read-off-inputs T t claim (length taps) e .1 in record {
+      tests-says code (callNumbers read-off) (ReadOffResult T t c taps′) (taps′ ≡ taps)
+      (readOffTest T t claim c (length taps)) (length (order.tests k c)) (h .coded)
+      (λ e. (let o = read-off-inputs T t claim c (length taps) e .1 .opening in
+      bits.tests-bits k c (o .permitted) (o .low) (o .high)))
+      (bits.read-off-bits T t claim c refl (length taps))
+      (read-off-numbers T t claim c (length taps))
+      (λ e. (let o = read-off-inputs T t claim c (length taps) e .1 .opening in record {
         k = k;
-        permitted = i .permitted;
-        rows = i .size;
-        all = length-tests k;
+        permitted = o .permitted;
+        rows = o .size;
+        claimed = (o .low, o .high);
+        all = length-tests k c (o .low) (o .high);
         taps-are = h .list ∙ ap (λ x. leaves x (readTaps T t k) taps) e;
       }))
       (λ r. h .list ∙ ap (λ x. leaves x (readTaps T t k) taps) (r .1))
 
-edit-call-inputs : (T t claim : List ℕ) (n : ℕ) (new : List ℕ) (size : ℕ)
-    → editCallTest T t claim n new size ≡ answer.Accepted
-    → let k = traceWordBatches (length t) in (length t ≡ 384 * k) × IsPermitted k
+edit-call-inputs : (T t claim : List ℕ) (c n : ℕ) (new : List ℕ) (size : ℕ)
+    → editCallTest T t claim c n new size ≡ answer.Accepted → Opened T t c (traceWordBatches (length t))
 unfolding editCallTest
-edit-call-inputs T t claim n new size e =
-    let a = both-accepted (tableTest T) _ e in
-    let b = passed (isTraceLength mostBatches (length t)) TraceLength _ (a .1) in
-    trace-length-sound mostBatches (length t) (b .0)
+edit-call-inputs T t claim c n new size e = opened T t c (both-accepted (openingTest T t c) _ e .0)
 
-edit-call : (T t t′ output output′ : List ℕ) (c0 c1 c2 c3 n w0 w1 w2 w3 code : ℕ)
-    → EditCall T t (c0 ∷ c1 ∷ c2 ∷ c3 ∷ []) n (w0 ∷ w1 ∷ w2 ∷ w3 ∷ []) code t′ output output′
-    → Answered code (callNumbers edit) (EditResult T t n (w0 ∷ w1 ∷ w2 ∷ w3 ∷ []) t′ output′)
+edit-call : (T t t′ output output′ : List ℕ) (c0 c1 c2 c3 c n w0 w1 w2 w3 code : ℕ)
+    → EditCall T t (c0 ∷ c1 ∷ c2 ∷ c3 ∷ []) c n (w0 ∷ w1 ∷ w2 ∷ w3 ∷ []) code t′ output output′
+    → Answered code (callNumbers edit) (EditResult T t c n (w0 ∷ w1 ∷ w2 ∷ w3 ∷ []) t′ output′)
     ((t′ ≡ t) × (output′ ≡ output))
 unfolding editCall
-edit-call T t t′ output output′ c0 c1 c2 c3 n w0 w1 w2 w3 code h =
+edit-call T t t′ output output′ c0 c1 c2 c3 c n w0 w1 w2 w3 code h =
     let claim : List ℕ = c0 ∷ c1 ∷ c2 ∷ c3 ∷ [] in
     let new : List ℕ = w0 ∷ w1 ∷ w2 ∷ w3 ∷ [] in
     let ns = callNumbers edit in
     let k = traceWordBatches (length t) in
     let w = alteredTaps T t n new in
-    let tested = editCallTest T t claim n new (length output) in
-    let d = digest (rescue.chain T w k) in
-    digest-says code ns (EditResult T t n new t′ output′) ((t′ ≡ t) × (output′ ≡ output)) tested d (h .four .coded)
-    (bits.edit-bits T t claim refl n new (length output) refl)
-    (ends.edit-call-ends (OneOf ns) (table-causes ns refl refl refl) T t claim (one-of 7 ns refl)
-    (λ i l. one-of 9 ns refl) (λ k s p i l. one-of 10 ns refl) n new (one-of 15 ns refl) (λ i l. one-of 6 ns refl)
-    (length output) (one-of 8 ns refl) (λ s l a h i c m f. one-of 11 ns refl))
-    (λ e. (let i = edit-call-inputs T t claim n new (length output) e in record {
+    let first = rescue.firstTaps c w in
+    let tested = editCallTest T t claim c n new (length output) in
+    let d = digest (rescue.chain T first c) in
+    digest-says code ns (EditResult T t c n new t′ output′) ((t′ ≡ t) × (output′ ≡ output)) tested d (h .four .coded)
+    (bits.edit-bits T t claim c refl n new (length output) refl)
+    (ends.edit-call-ends (OneOf ns) (table-causes ns refl refl refl) T t claim c (one-of 7 ns refl)
+    (λ k e p s o. one-of 17 ns refl) (λ i l. one-of 9 ns refl) (λ k s p i l. one-of 10 ns refl) n new
+    (one-of 15 ns refl) (λ i l. one-of 6 ns refl) (length output) (one-of 8 ns refl)
+    (λ s l a h i q m f. one-of 11 ns refl))
+    (λ e. (let o = edit-call-inputs T t claim c n new (length output) e in record {
       none = refl;
       k = k;
-      permitted = i .1;
-      rows = i .0;
-      output-is = output-new tested d code output output′ (h .four) e ∙ chain-words T w k (i .1);
+      permitted = o .permitted;
+      rows = o .size;
+      claimed = (o .low, o .high);
+      output-is = output-new tested d code output output′ (h .four) e ∙ chain-words T first c (o .low);
       rows-are = h .rows ∙ ap (λ x. leaves x (trace T w k) t) e;
     }))
     (λ r. (h .rows ∙ ap (λ x. leaves x (trace T w k) t) (r .1), output-old tested d code output output′ (h .four) r))
@@ -473,8 +475,9 @@ demand-1 = record {
   prepare-answers-once = prepares-unique;
   prepare-keeps = refused-kept;
   build-keeps = λ T w old r e. kept-old _ r (digest-refused (buildTest T w (length old)) _ r e) _ old;
-  read-off-keeps = λ T t claim old r e. kept-old _ r (tests-refused (readOffTest T t claim (length old)) _ r e) _ old;
-  edit-keeps = λ T t claim n new r e. kept-old _ r (digest-refused (editTest T t claim n new) _ r e) _ t;
+  read-off-keeps = λ T t claim old c r e.
+      kept-old _ r (tests-refused (readOffTest T t claim c (length old)) _ r e) _ old;
+  edit-keeps = λ T t claim c n new r e. kept-old _ r (digest-refused (editTest T t claim c n new) _ r e) _ t;
   pack-keeps = λ w claim old r e. kept-old _ r e _ old;
   unpack-keeps = λ file old r e. kept-old _ r (digest-refused (unpackTest file (length old)) _ r e) _ old;
   prepare-call = prepare-call;
@@ -482,7 +485,7 @@ demand-1 = record {
   chain-call = chain-call;
   build-call = build-call;
   check-call = check-call;
-  read-off-call = λ T t taps taps′ c0 c1 c2 c3 code h. read-off-call T t c0 c1 c2 c3 taps taps′ code h;
+  read-off-call = λ T t taps taps′ c0 c1 c2 c3 c code h. read-off-call T t c0 c1 c2 c3 c taps taps′ code h;
   edit-call = edit-call;
   unhash-call = unhash-call;
   pack-call = pack-call;

@@ -3,7 +3,7 @@
 -- Assumes nothing.
 use mathlib.Core.Path.{_≡_, sym, ap, ap₂, _∙_}
 use mathlib.Core.List.{List, _++_}
-use Prim.Native.Nat.{ℕ, _+_, _*_}
+use Prim.Native.Nat.{ℕ, _+_, _*_, _-_, _≤_}
 use native.Mathlib.Omega.{arith}
 use lib.ListN.{length, take, drop}
 use lib.Seq.{take-at, drop-at}
@@ -21,17 +21,18 @@ use Rattle.refusals.specs.declared.TestsAnswer.the-variants as counted
 use Rattle.refusals.proofs.Laws.{digest-accepted, tests-accepted}
 use Rattle.table.specs.Table.{tableTest, IsTable}
 use Rattle.table.proofs.Theorems.{test-sound}
-use Rattle.hash.specs.Hash.{finalState, input, hash, chain}
+use Rattle.hash.specs.Hash.{finalState, input, hash, chain, firstTaps}
 use Rattle.hash.specs.Answers.{hashAnswer, chainAnswer}
 use Rattle.hash.proofs.Answers.{ChainInputs, hash-passes, chain-passes}
 use Rattle.hash.proofs.States.{finalState-state}
 use Rattle.hash.proofs.Inputs.{IsTap, output-tap}
-use Rattle.trace.specs.Trace.{trace}
+use Rattle.hash.proofs.FirstTaps.{chain-first}
+use Rattle.trace.specs.Trace.{traceRow, trace, row}
 use Rattle.trace.specs.Answers.{buildTest, buildAnswer, buildLeaves}
 use Rattle.trace.proofs.Answers.{build-inputs}
-use Rattle.trace.proofs.TraceCells.{length-trace, trace-canonical}
+use Rattle.trace.proofs.TraceCells.{length-trace, trace-canonical, last-row-output}
 use Rattle.trace.proofs.Theorems.{build-accepts, build-leaves}
-use Rattle.constraints.specs.Constraints.{tests}
+use Rattle.constraints.specs.Constraints.{tests, constraintTest}
 use Rattle.constraints.specs.ReadOff.{readTaps}
 use Rattle.constraints.proofs.TestCount.{length-tests}
 use Rattle.checker.proofs.Theorems.{check-verdict}
@@ -40,7 +41,8 @@ use Rattle.readoff.proofs.Theorems.{same-for}
 use Rattle.elements.specs.Words.{AllBytes}
 use Rattle.board.specs.Board.{packTest, packed, packLeaves, unpackTest, unpackAnswer, tapsIn, claimIn, unpackLeaves}
 use Rattle.board.proofs.Theorems.{unpack-packed, pack-unpack}
-use Rattle.exact.proofs.Exactness.{reading-off-a-built-trace}
+use Rattle.exact.proofs.ReadList.{row-of-trace}
+use Rattle.exact.proofs.Exactness.{accepts-built, reading-off-a-built-trace}
 use Rattle.demands.specs.Demand2.{Demand2}
 use Rattle.refusals.proofs.Returned.{four-words, twelve-words}
 
@@ -71,46 +73,72 @@ chains T w k table permitted size canonical =
     ∙ ap (λ n. Accepted (digest (chain T w n))) batches
 
 -- ---- reading off what was built
-output-is-tap : (T w : List ℕ) (k : ℕ) → length w ≡ 12 * k + 4 → AllCanonical w → IsTap (chain T w k)
+pub output-is-tap : (T w : List ℕ) (k : ℕ) → length w ≡ 12 * k + 4 → AllCanonical w → (c : ℕ) → IsTap (chain T w c)
 unfolding chain
-output-is-tap T w k size canonical = output-tap T w canonical (omega (arith, size)) (3 * k)
+output-is-tap T w k size canonical c = output-tap T w canonical (omega (arith, size)) (3 * c)
 
 module _ (T w : List ℕ) (k : ℕ) (table : IsTable T) (permitted : IsPermitted k) (size : length w ≡ 12 * k + 4)
-    (canonical : AllCanonical w) where
+    (canonical : AllCanonical w) (c : ℕ) (low : 1 ≤ c) (high : c ≤ k) where
+  -- under the output of the first 3c + 1 taps
   reads-off : (room : List ℕ) → length room ≡ 12 * k + 4
-      → (readOffAnswer T (trace T w k) (chain T w k) (length room) ≡ counted.Accepted (372 * k))
-      × (readOffLeaves T (trace T w k) (chain T w k) room ≡ w)
+      → (readOffAnswer T (trace T w k) (chain T w c) c (length room) ≡ counted.Accepted (372 * k))
+      × (readOffLeaves T (trace T w k) (chain T w c) c room ≡ w)
   unfolding readOffAnswer readOffLeaves
   reads-off room l =
       let t = trace T w k in
-      let claim = chain T w k in
+      let claim = chain T w c in
       let long = length-trace T w k in
-      let output = output-is-tap T w k size canonical in
-      let read = reading-off-a-built-trace T k table permitted w size canonical in
-      let answered : readOffAnswer T t claim (length room) ≡ counted.Accepted (372 * k) =
-      ap (readOffAnswer T t claim) l
-      ∙ same-for T t claim k long
-      ∙ check-verdict T t claim k table permitted long (trace-canonical T w k size canonical) (output .canonical)
-      ∙ ap (λ a. testsAfter a (length (tests k))) (read .0)
-      ∙ ap counted.Accepted (length-tests k) in
-      let passes = tests-accepted (readOffTest T t claim (length room)) _ _ answered .0 in
+      let output = output-is-tap T w k size canonical c in
+      let accepted = ap (λ x. constraintTest T t x c k) (sym (chain-first T w c))
+      ∙ accepts-built T k table permitted c w size canonical in
+      let answered : readOffAnswer T t claim c (length room) ≡ counted.Accepted (372 * k) =
+      ap (readOffAnswer T t claim c) l
+      ∙ same-for T t claim c k long
+      ∙ check-verdict T t claim c k table permitted low high long (trace-canonical T w k size canonical)
+      (output .canonical)
+      ∙ ap (λ a. testsAfter a (length (tests k c))) accepted
+      ∙ ap counted.Accepted (length-tests k c low high) in
+      let passes = tests-accepted (readOffTest T t claim c (length room)) _ _ answered .0 in
       let batches : traceWordBatches (length t) ≡ k = omega (arith, long) in
       let left = ap (λ a. leaves a (readTaps T t (traceWordBatches (length t))) room) passes in
-      (answered, left ∙ ap (readTaps T t) batches ∙ read .1)
+      (answered, left ∙ ap (readTaps T t) batches ∙ reading-off-a-built-trace T k table permitted w size canonical .1)
+
+  -- row 31 of batch c − 1 shows it
+  pub shown : take 4 (row (trace T w k) (32 * (c - 1) + 31)) ≡ chain T w c
+  shown =
+      let i : 32 * (c - 1) + 31 ≡ 32 * c - 1 = omega arith in
+      ap (take 4) (row-of-trace T w k size canonical (32 * (c - 1) + 31) (omega arith) ∙ ap (traceRow T w) i)
+      ∙ last-row-output T w c low
 
 reads-back : (T w old room : List ℕ) (d : Digest) → buildAnswer T w (length old) ≡ Accepted d → length room ≡ length w
-    → (readOffAnswer T (buildLeaves T w old) (digestWords d) (length room)
-    ≡ counted.Accepted (372 * tapWordBatches (length w)))
-    × (readOffLeaves T (buildLeaves T w old) (digestWords d) room ≡ w)
+    → let k = tapWordBatches (length w) in
+    (readOffAnswer T (buildLeaves T w old) (digestWords d) k (length room) ≡ counted.Accepted (372 * k))
+    × (readOffLeaves T (buildLeaves T w old) (digestWords d) k room ≡ w)
 unfolding buildAnswer
 reads-back T w old room d e l =
     let k = tapWordBatches (length w) in
     let a = digest-accepted (buildTest T w (length old)) _ d e in
     let i = build-inputs T w (length old) (a .0) in
-    let four = output-is-tap T w k (i .taps) (i .canonical) .size in
+    let four = output-is-tap T w k (i .taps) (i .canonical) k .size in
     let output = sym (ap digestWords (a .1)) ∙ four-words (chain T w k) four in
     rw (build-leaves T w k (i .table) (i .permitted) (i .taps) (i .canonical) old (i .room), output)
-    (reads-off T w k (i .table) (i .permitted) (i .taps) (i .canonical) room (l ∙ i .taps))
+    (reads-off T w k (i .table) (i .permitted) (i .taps) (i .canonical) k (i .permitted .low) (omega arith) room
+    (l ∙ i .taps))
+
+reads-back-early : (T w old room : List ℕ) (c : ℕ) (d : Digest) → buildAnswer T w (length old) ≡ Accepted d
+    → length room ≡ length w → 1 ≤ c → c ≤ tapWordBatches (length w)
+    → let claim = chain T (firstTaps c w) c in
+    (readOffAnswer T (buildLeaves T w old) claim c (length room) ≡ counted.Accepted (372 * tapWordBatches (length w)))
+    × (readOffLeaves T (buildLeaves T w old) claim c room ≡ w)
+    × (take 4 (row (buildLeaves T w old) (32 * (c - 1) + 31)) ≡ claim)
+unfolding buildAnswer
+reads-back-early T w old room c d e l low high =
+    let k = tapWordBatches (length w) in
+    let i = build-inputs T w (length old) (digest-accepted (buildTest T w (length old)) _ d e .0) in
+    let r = reads-off T w k (i .table) (i .permitted) (i .taps) (i .canonical) c low high room (l ∙ i .taps) in
+    let s = shown T w k (i .table) (i .permitted) (i .taps) (i .canonical) c low high in
+    rw (build-leaves T w k (i .table) (i .permitted) (i .taps) (i .canonical) old (i .room), chain-first T w c)
+    (r .0, r .1, s)
 
 -- ---- the board file
 unpacks : (w claim old room : List ℕ) → length claim ≡ 4 → packTest w claim (length old) ≡ answer.Accepted
@@ -148,6 +176,7 @@ demand-2 = record {
     build-leaves T w k (test-sound T table) permitted size canonical old l,
   );
   reads-back = reads-back;
+  reads-back-early = reads-back-early;
   unpacks = unpacks;
   packs = packs;
 }

@@ -1,10 +1,10 @@
 -- Request 3: Hash returns the whole final state. From demand 2's hashes, the outputs along a chain, and the last row of
 -- a batch (crate `exact`, proofs/Built.antt); for an edit from request 1.
 -- Assumes nothing.
-use mathlib.Core.Path.{_≡_, refl, sym, ap, ap₂, _∙_, subst, subst₂}
+use mathlib.Core.Path.{_≡_, refl, sym, ap, ap₂, _∙_, subst}
 use mathlib.Core.List.{List, _++_}
 use mathlib.Core.Logic.{_↔_}
-use Prim.Native.Nat.{ℕ, _+_, _*_, _-_, _<_}
+use Prim.Native.Nat.{ℕ, _+_, _*_, _-_, _≤_, _<_}
 use native.Mathlib.Omega.{arith}
 use lib.ListN.{length, take, drop}
 use lib.Seq.{take-at, drop-at}
@@ -25,6 +25,7 @@ use Rattle.table.proofs.Theorems.{test-sound, test-complete}
 use Rattle.hash.specs.Hash.{finalState, input, hash, tap, outputAt, chain}
 use Rattle.hash.specs.Answers.{hashTest, hashAnswer, chainTest, chainAnswer}
 use Rattle.hash.proofs.States.{finalState-state}
+use Rattle.hash.proofs.FirstTaps.{chain-first}
 use Rattle.hash.proofs.Answers.{hash-inputs, hash-passes, chain-inputs}
 use Rattle.trace.specs.Trace.{hashInput, trace, row}
 use Rattle.trace.specs.Answers.{buildTest, buildAnswer, buildLeaves}
@@ -33,7 +34,7 @@ use Rattle.trace.proofs.TraceCells.{next-output, output-is-tap, next-tap-is-tap
 use Rattle.trace.proofs.Theorems.{build-leaves}
 use Rattle.exact.specs.Exact.{IsListFor}
 use Rattle.exact.proofs.Built.{end-row}
-use Rattle.edit.specs.Edit.{altered}
+use Rattle.rewriting.specs.Edit.{altered}
 use Rattle.edit.specs.Answers.{editAnswer, editLeaves}
 use Rattle.export.specs.Calls.{hashNoRoom, hashCall}
 use Rattle.export.proofs.Answers.{hash-short, hash-answer}
@@ -106,22 +107,24 @@ module _ (T w : List ℕ) (k : ℕ) (table : IsTable T) (permitted : IsPermitted
       let r = has-state h l in
       (r .0, r .1, ap (take 4) (r .2) ∙ sym (next-output T w h))
 
-  -- the last output, as it is returned
-  output-returned : (d : Digest) → digest (chain T w k) ≡ d → HasOutput T w (3 * k - 1) (digestWords d)
+  -- the output of c batches, as it is returned
+  output-returned : (c : ℕ) (d : Digest) → 1 ≤ c → c ≤ k → digest (chain T w c) ≡ d
+      → HasOutput T w (3 * c - 1) (digestWords d)
   unfolding chain
-  output-returned d e =
-      let last : 3 * k - 1 + 1 ≡ 3 * k = omega (arith, permitted .low) in
-      let words = four-words (outputAt T w (3 * k)) (output-is-tap T w k size canonical (3 * k) .size) in
-      subst (HasOutput T w (3 * k - 1))
+  output-returned c d low high e =
+      let last : 3 * c - 1 + 1 ≡ 3 * c = omega arith in
+      let words = four-words (outputAt T w (3 * c)) (output-is-tap T w k size canonical (3 * c) .size) in
+      subst (HasOutput T w (3 * c - 1))
       (ap (outputAt T w) last ∙ sym words ∙ ap digestWords e)
-      (has-output (3 * k - 1) (omega (arith, permitted .low)))
+      (has-output (3 * c - 1) (omega arith))
 
-  ends : (t : List ℕ) (d : Digest) → t ≡ trace T w k → digest (chain T w k) ≡ d → Ends T w k t d
-  ends t d e f = record {
+  ends : (c : ℕ) (t : List ℕ) (d : Digest) → 1 ≤ c → c ≤ k → t ≡ trace T w k → digest (chain T w c) ≡ d
+      → Ends T w c k t d
+  ends c t d low high e f = record {
     rows-31 = λ b l.
         let shown = ap (λ s. row s (32 * b + 31)) e ∙ end-row T w k table size canonical b l in
         subst (HasState T w (3 * b + 2)) (sym shown) (has-state (3 * b + 2) (omega arith));
-    output-is = output-returned d f;
+    output-is = output-returned c d low high f;
   }
 
 chains : (T w : List ℕ) (d : Digest) → chainAnswer T w ≡ four.Accepted d
@@ -137,30 +140,44 @@ unfolding chainAnswer
 chain-output T w d e =
     let a = digest-accepted (chainTest T w) _ d e in
     let i = chain-inputs T w (a .0) in
-    output-returned T w (tapWordBatches (length w)) (i .table) (i .permitted) (i .size) (i .canonical) d (a .1)
+    let k = tapWordBatches (length w) in
+    output-returned T w k (i .table) (i .permitted) (i .size) (i .canonical) k d (i .permitted .low) (omega arith)
+    (a .1)
 
 builds : (T w old : List ℕ) (d : Digest) → buildAnswer T w (length old) ≡ four.Accepted d
-    → (length old ≡ 384 * tapWordBatches (length w)) × Ends T w (tapWordBatches (length w)) (buildLeaves T w old) d
+    → let k = tapWordBatches (length w) in Ends T w k k (buildLeaves T w old) d
 unfolding buildAnswer
 builds T w old d e =
     let k = tapWordBatches (length w) in
     let a = digest-accepted (buildTest T w (length old)) _ d e in
     let i = build-inputs T w (length old) (a .0) in
     let left = build-leaves T w k (i .table) (i .permitted) (i .taps) (i .canonical) old (i .room) in
-    (i .room, ends T w k (i .table) (i .permitted) (i .taps) (i .canonical) (buildLeaves T w old) d left (a .1))
+    ends T w k (i .table) (i .permitted) (i .taps) (i .canonical) k (buildLeaves T w old) d (i .permitted .low)
+    (omega arith) left (a .1)
 
--- an edit is a build of the altered list
-edits : (T t claim : List ℕ) (n : ℕ) (new : List ℕ) (d : Digest) → length claim ≡ 4 → length new ≡ 4
-    → editAnswer T t claim n new ≡ four.Accepted d
-    → (k : ℕ) × (w : List ℕ) × IsListFor T t claim k w × Ends T (altered w n new) k (editLeaves T t claim n new) d
-edits T t claim n new d four′ four″ e =
-    let r = request-1 .edits T t claim n new d four′ four″ e in
+-- the trace of an edit is that of a build of the altered list
+edits : (T t claim : List ℕ) (c n : ℕ) (new : List ℕ) (d : Digest) → length claim ≡ 4 → length new ≡ 4
+    → editAnswer T t claim c n new ≡ four.Accepted d
+    → (k : ℕ) × (w : List ℕ) × IsListFor T t claim c k w
+    × Ends T (altered w n new) c k (editLeaves T t claim c n new) d
+unfolding buildAnswer
+edits T t claim c n new d four′ four″ e =
+    let r = request-1 .edits T t claim c n new d four′ four″ e in
     let k = r .0 in
     let w = r .1 in
-    let built = r .2 .as-built t (r .2 .size) in
-    let b = builds T (altered w n new) t d (built .0) in
-    let batches : tapWordBatches (length (altered w n new)) ≡ k = omega (arith, b .0, r .2 .size) in
-    (k, w, r .2 .stands-for, subst₂ (λ m s. Ends T (altered w n new) m s d) batches (built .1) (b .1))
+    let x = r .2 in
+    let v = altered w n new in
+    let built = x .as-built t (x .size) in
+    let i = build-inputs T v (length t) (digest-accepted (buildTest T v (length t)) _ _ (built .0) .0) in
+    let batches : tapWordBatches (length v) ≡ k = omega (arith, i .room, x .size) in
+    let taps : length v ≡ 12 * k + 4 = omega (arith, i .taps) in
+    let output = ap digest (sym (chain-first T v c)) ∙ sym (x .output-is) in (
+      k,
+      w,
+      x .stands-for,
+      ends T v k (i .table) (x .permitted) taps (i .canonical) c _ d (x .claimed .0) (x .claimed .1) (x .trace-is)
+          output,
+    )
 
 -- ---- the request
 pub request-3 : Request3
@@ -171,6 +188,6 @@ request-3 = record {
   call-without = call-without;
   chains = chains;
   chain-output = chain-output;
-  builds = λ T w old d e. builds T w old d e .1;
+  builds = builds;
   edits = edits;
 }

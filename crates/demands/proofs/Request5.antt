@@ -47,10 +47,10 @@ use Rattle.exact.proofs.Exactness.{reads-that-list}
 use Rattle.unhash.specs.Unhash.{inputBefore, tapsBefore, endsInZeros}
 use Rattle.unhash.specs.Answers.{unhashTest, unhashAnswer}
 use Rattle.unhash.proofs.Theorems.{taps-size, answered-hash, hash-answered, answered-or-16, other-input}
-use Rattle.export.specs.Code.{refusalCode, answerCode, numberIn}
+use Rattle.handover.specs.Code.{refusalCode, answerCode, numberIn}
 use Rattle.export.specs.Calls.{hashNoRoom, unhashCallTest, UnhashCall}
 use Rattle.export.proofs.Answers.{hash-no-room-refuses, unhash-room, unhash-short}
-use Rattle.export.proofs.Bits.{RefusalInBits, says}
+use Rattle.handover.proofs.Bits.{RefusalInBits, says}
 use Rattle.export.proofs.Endings as ends
 use Rattle.export.proofs.Theorems.{unhash-bits}
 use Rattle.demands.specs.Request3.{Ends}
@@ -243,7 +243,7 @@ module _ (T s old new : List ℕ) (code : ℕ) (called : UnhashCall T s code old
 
 -- ---- row 31
 module _ (T w : List ℕ) (k : ℕ) (permitted : IsPermitted k) (size : length w ≡ 12 * k + 4) (canonical : AllCanonical w)
-    (t : List ℕ) (d : Digest) (shown : Ends T w k t d) where
+    (t : List ℕ) (d : Digest) (shown : Ends T w k k t d) where
   rows-31 : (b : ℕ) → b < k
       → unhashAnswer T (row t (32 * b + 31)) ≡ Accepted (pair (outputAt T w (3 * b + 2) ++ tap w (3 * b + 3)))
   rows-31 b l =
@@ -284,17 +284,18 @@ builds T w old d e =
     (request-3 .builds T w old d e)
 
 -- an accepted trace is one that was built
-checks : (T t claim : List ℕ) (n : ℕ) → length claim ≡ 4 → checkAnswer T t claim ≡ tests.Accepted n
-    → (k : ℕ) × (w : List ℕ) × IsListFor T t claim k w × GivesBack T w k t
+checks : (T t claim : List ℕ) (c n : ℕ) → length claim ≡ 4 → checkAnswer T t claim c ≡ tests.Accepted n
+    → (k : ℕ) × (w : List ℕ) × IsListFor T t claim c k w × GivesBack T w k t
 unfolding checkAnswer
-checks T t claim n four e =
+checks T t claim c n four e =
     let k = traceWordBatches (length t) in
     let w = readTaps T t k in
-    let c = check-inputs T t claim (tests-accepted (checkTest T t claim) _ n e .0) in
-    let i = c .0 in
-    let list = reads-that-list T t claim k (i .table) (i .permitted) (i .size) (i .canonical) four (c .1) in
-    let table = test-complete T (i .table) in
-    let b = demand-2 .builds T w t k table (i .permitted) (list .size) (list .canonical) (i .size) in
+    let i = check-inputs T t claim c (tests-accepted (checkTest T t claim c) _ n e .0) in
+    let o = i .0 .opening in
+    let list = reads-that-list T t claim c k (o .table) (o .permitted) (o .low) (o .high) (o .size) (i .0 .canonical)
+    four (i .1) in
+    let table = test-complete T (o .table) in
+    let b = demand-2 .builds T w t k table (o .permitted) (list .size) (list .canonical) (o .size) in
     let batches : tapWordBatches (length w) ≡ k = omega (arith, list .size) in
     (k, w, list, subst₂ (GivesBack T w) batches (b .1 ∙ list .traced) (builds T w t _ (b .0)))
 

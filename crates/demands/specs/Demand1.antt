@@ -4,7 +4,7 @@
 -- Assumes nothing.
 use mathlib.Core.Path.{_≡_}
 use mathlib.Core.List.{List, [], _∷_, List·Memᴰ}
-use Prim.Native.Nat.{ℕ, _*_}
+use Prim.Native.Nat.{ℕ, _*_, _≤_}
 use lib.ListN.{length}
 use Rattle.numbers.specs.Numbers.{tapWords, traceWords, IsPermitted}
 use Rattle.refusals.specs.Refusals.{told, indexed}
@@ -28,12 +28,13 @@ use Rattle.edit.specs.Answers.{alteredTaps, editAnswer, editLeaves}
 use Rattle.unhash.specs.Unhash.{tapsBefore}
 use Rattle.unhash.specs.Answers.{unhashAnswer}
 use Rattle.board.specs.Board.{packTest, packed, packLeaves, unpackAnswer, tapsIn, claimIn, unpackLeaves}
-use Rattle.export.specs.Code.{Says, testsCode}
-use Rattle.export.specs.Calls.{HandsOver, HandsOverState, PrepareCall, hashCall, chainCall, BuildCall, ReadOffCall}
+use Rattle.handover.specs.Code.{Says, testsCode}
+use Rattle.handover.specs.HandsOver.{HandsOver, HandsOverState}
+use Rattle.export.specs.Calls.{PrepareCall, hashCall, chainCall, BuildCall, ReadOffCall}
 use Rattle.export.specs.Calls.{EditCall, UnhashCall, PackCall, UnpackCall}
 
 -- ---- the operations, and the numbers that each can return, in the order of their tests (document 01, "What is
--- turned back"; document 02 for Edit and Unhash)
+-- turned back"; document 02 for Edit, Unhash and 17)
 
 pub data Operation : Type 0 where
   prepare : Operation
@@ -52,9 +53,9 @@ numbers prepare = 1 ∷ 8 ∷ 2 ∷ 3 ∷ []
 numbers hash = 1 ∷ 2 ∷ 4 ∷ 6 ∷ []
 numbers chain = 1 ∷ 2 ∷ 4 ∷ 5 ∷ 6 ∷ []
 numbers build = 1 ∷ 2 ∷ 4 ∷ 5 ∷ 8 ∷ 6 ∷ []
-numbers check = 1 ∷ 2 ∷ 4 ∷ 7 ∷ 9 ∷ 10 ∷ 11 ∷ []
-numbers read-off = 1 ∷ 2 ∷ 4 ∷ 7 ∷ 8 ∷ 9 ∷ 10 ∷ 11 ∷ []
-numbers edit = 1 ∷ 2 ∷ 4 ∷ 7 ∷ 15 ∷ 9 ∷ 10 ∷ 6 ∷ 11 ∷ []
+numbers check = 1 ∷ 2 ∷ 4 ∷ 7 ∷ 17 ∷ 9 ∷ 10 ∷ 11 ∷ []
+numbers read-off = 1 ∷ 2 ∷ 4 ∷ 7 ∷ 17 ∷ 8 ∷ 9 ∷ 10 ∷ 11 ∷ []
+numbers edit = 1 ∷ 2 ∷ 4 ∷ 7 ∷ 17 ∷ 15 ∷ 9 ∷ 10 ∷ 6 ∷ 11 ∷ []
 numbers unhash = 1 ∷ 2 ∷ 4 ∷ 6 ∷ 16 ∷ []
 numbers pack = 5 ∷ 8 ∷ 9 ∷ 6 ∷ []
 numbers unpack = 12 ∷ 13 ∷ 14 ∷ 8 ∷ []
@@ -68,7 +69,7 @@ callNumbers chain = 1 ∷ 2 ∷ 4 ∷ 5 ∷ 8 ∷ 6 ∷ []
 callNumbers build = numbers build
 callNumbers check = numbers check
 callNumbers read-off = numbers read-off
-callNumbers edit = 1 ∷ 2 ∷ 4 ∷ 7 ∷ 15 ∷ 8 ∷ 9 ∷ 10 ∷ 6 ∷ 11 ∷ []
+callNumbers edit = 1 ∷ 2 ∷ 4 ∷ 7 ∷ 17 ∷ 15 ∷ 8 ∷ 9 ∷ 10 ∷ 6 ∷ 11 ∷ []
 callNumbers unhash = 1 ∷ 2 ∷ 4 ∷ 8 ∷ 6 ∷ 16 ∷ []
 callNumbers pack = numbers pack
 callNumbers unpack = numbers unpack
@@ -83,11 +84,12 @@ pub data Refuses : Operation → Refusal → Type 0 where
   hash-refuses : (T words : List ℕ) (r : Refusal) → hashAnswer T words ≡ state.Refused r → Refuses hash r
   chain-refuses : (T w : List ℕ) (r : Refusal) → chainAnswer T w ≡ digest.Refused r → Refuses chain r
   build-refuses : (T w : List ℕ) (size : ℕ) (r : Refusal) → buildAnswer T w size ≡ digest.Refused r → Refuses build r
-  check-refuses : (T t claim : List ℕ) (r : Refusal) → checkAnswer T t claim ≡ tests.Refused r → Refuses check r
-  read-off-refuses : (T t claim : List ℕ) (size : ℕ) (r : Refusal) → readOffAnswer T t claim size ≡ tests.Refused r
+  check-refuses : (T t claim : List ℕ) (c : ℕ) (r : Refusal) → checkAnswer T t claim c ≡ tests.Refused r
+      → Refuses check r
+  read-off-refuses : (T t claim : List ℕ) (c size : ℕ) (r : Refusal) → readOffAnswer T t claim c size ≡ tests.Refused r
       → Refuses read-off r
-  edit-refuses : (T t claim : List ℕ) (n : ℕ) (new : List ℕ) (r : Refusal)
-      → editAnswer T t claim n new ≡ digest.Refused r → Refuses edit r
+  edit-refuses : (T t claim : List ℕ) (c n : ℕ) (new : List ℕ) (r : Refusal)
+      → editAnswer T t claim c n new ≡ digest.Refused r → Refuses edit r
   unhash-refuses : (T s : List ℕ) (r : Refusal) → unhashAnswer T s ≡ pair.Refused r → Refuses unhash r
   pack-refuses : (w claim : List ℕ) (size : ℕ) (r : Refusal) → packTest w claim size ≡ answer.Refused r → Refuses pack r
   unpack-refuses : (file : List ℕ) (size : ℕ) (r : Refusal) → unpackAnswer file size ≡ digest.Refused r
@@ -125,25 +127,28 @@ pub record BuildResult (T w rows output : List ℕ) (tests : ℕ) : Type 0 where
   pub output-is : output ≡ rescue.chain T w k
   pub rows-are : rows ≡ trace T w k
 
-pub record CheckResult (t : List ℕ) (tests : ℕ) : Type 0 where
+pub record CheckResult (t : List ℕ) (c tests : ℕ) : Type 0 where
   pub k : ℕ
   pub permitted : IsPermitted k
   pub rows : length t ≡ traceWords k
+  pub claimed : (1 ≤ c) × (c ≤ k)
   pub all : tests ≡ 372 * k
 
-pub record ReadOffResult (T t taps : List ℕ) (tests : ℕ) : Type 0 where
+pub record ReadOffResult (T t : List ℕ) (c : ℕ) (taps : List ℕ) (tests : ℕ) : Type 0 where
   pub k : ℕ
   pub permitted : IsPermitted k
   pub rows : length t ≡ traceWords k
+  pub claimed : (1 ≤ c) × (c ≤ k)
   pub all : tests ≡ 372 * k
   pub taps-are : taps ≡ readTaps T t k
 
-pub record EditResult (T t : List ℕ) (n : ℕ) (new t′ output : List ℕ) (tests : ℕ) : Type 0 where
+pub record EditResult (T t : List ℕ) (c n : ℕ) (new t′ output : List ℕ) (tests : ℕ) : Type 0 where
   pub none : tests ≡ 0
   pub k : ℕ
   pub permitted : IsPermitted k
   pub rows : length t ≡ traceWords k
-  pub output-is : output ≡ rescue.chain T (alteredTaps T t n new) k
+  pub claimed : (1 ≤ c) × (c ≤ k)
+  pub output-is : output ≡ rescue.chain T (rescue.firstTaps c (alteredTaps T t n new)) c
   pub rows-are : t′ ≡ trace T (alteredTaps T t n new) k
 
 pub record UnhashResult (T s taps : List ℕ) (tests : ℕ) : Type 0 where
@@ -175,10 +180,10 @@ pub record Demand1 : Type 0 where
   pub prepare-keeps : (raw old new : List ℕ) (r : Refusal) → Prepares raw old (answer.Refused r) new → new ≡ old
   pub build-keeps : (T w old : List ℕ) (r : Refusal) → buildAnswer T w (length old) ≡ digest.Refused r
       → buildLeaves T w old ≡ old
-  pub read-off-keeps : (T t claim old : List ℕ) (r : Refusal) → readOffAnswer T t claim (length old) ≡ tests.Refused r
-      → readOffLeaves T t claim old ≡ old
-  pub edit-keeps : (T t claim : List ℕ) (n : ℕ) (new : List ℕ) (r : Refusal)
-      → editAnswer T t claim n new ≡ digest.Refused r → editLeaves T t claim n new ≡ t
+  pub read-off-keeps : (T t claim old : List ℕ) (c : ℕ) (r : Refusal)
+      → readOffAnswer T t claim c (length old) ≡ tests.Refused r → readOffLeaves T t claim c old ≡ old
+  pub edit-keeps : (T t claim : List ℕ) (c n : ℕ) (new : List ℕ) (r : Refusal)
+      → editAnswer T t claim c n new ≡ digest.Refused r → editLeaves T t claim c n new ≡ t
   pub pack-keeps : (w claim old : List ℕ) (r : Refusal) → packTest w claim (length old) ≡ answer.Refused r
       → packLeaves w claim old ≡ old
   pub unpack-keeps : (file old : List ℕ) (r : Refusal) → unpackAnswer file (length old) ≡ digest.Refused r
@@ -195,14 +200,15 @@ pub record Demand1 : Type 0 where
       → Answered code (callNumbers chain) (ChainResult T w output′) (output′ ≡ output)
   pub build-call : (T w rows rows′ output output′ : List ℕ) (code : ℕ) → BuildCall T w code rows rows′ output output′
       → Answered code (callNumbers build) (BuildResult T w rows′ output′) ((rows′ ≡ rows) × (output′ ≡ output))
-  pub check-call : (T t : List ℕ) (c0 c1 c2 c3 code : ℕ) → code ≡ testsCode (checkAnswer T t (c0 ∷ c1 ∷ c2 ∷ c3 ∷ []))
-      → Answered code (callNumbers check) (CheckResult t) Unit
-  pub read-off-call : (T t taps taps′ : List ℕ) (c0 c1 c2 c3 code : ℕ)
-      → ReadOffCall T t (c0 ∷ c1 ∷ c2 ∷ c3 ∷ []) code taps taps′
-      → Answered code (callNumbers read-off) (ReadOffResult T t taps′) (taps′ ≡ taps)
-  pub edit-call : (T t t′ output output′ : List ℕ) (c0 c1 c2 c3 n w0 w1 w2 w3 code : ℕ)
-      → EditCall T t (c0 ∷ c1 ∷ c2 ∷ c3 ∷ []) n (w0 ∷ w1 ∷ w2 ∷ w3 ∷ []) code t′ output output′
-      → Answered code (callNumbers edit) (EditResult T t n (w0 ∷ w1 ∷ w2 ∷ w3 ∷ []) t′ output′)
+  pub check-call : (T t : List ℕ) (c0 c1 c2 c3 c code : ℕ)
+      → code ≡ testsCode (checkAnswer T t (c0 ∷ c1 ∷ c2 ∷ c3 ∷ []) c)
+      → Answered code (callNumbers check) (CheckResult t c) Unit
+  pub read-off-call : (T t taps taps′ : List ℕ) (c0 c1 c2 c3 c code : ℕ)
+      → ReadOffCall T t (c0 ∷ c1 ∷ c2 ∷ c3 ∷ []) c code taps taps′
+      → Answered code (callNumbers read-off) (ReadOffResult T t c taps′) (taps′ ≡ taps)
+  pub edit-call : (T t t′ output output′ : List ℕ) (c0 c1 c2 c3 c n w0 w1 w2 w3 code : ℕ)
+      → EditCall T t (c0 ∷ c1 ∷ c2 ∷ c3 ∷ []) c n (w0 ∷ w1 ∷ w2 ∷ w3 ∷ []) code t′ output output′
+      → Answered code (callNumbers edit) (EditResult T t c n (w0 ∷ w1 ∷ w2 ∷ w3 ∷ []) t′ output′)
       ((t′ ≡ t) × (output′ ≡ output))
   pub unhash-call : (T taps taps′ : List ℕ) (s0 s1 s2 s3 s4 s5 s6 s7 s8 s9 s10 s11 code : ℕ)
       → let s = s0 ∷ s1 ∷ s2 ∷ s3 ∷ s4 ∷ s5 ∷ s6 ∷ s7 ∷ s8 ∷ s9 ∷ s10 ∷ s11 ∷ [] in

@@ -1,14 +1,14 @@
--- Demand 2 (document 00; document 02, U3, for the twelve cells of Hash): hash, chain and trace are those of the Rescue
--- STARK documentation 1.0 for every accepted table; reading off a built trace, under the output its building returned,
--- yields the taps that it was built from; a packed board file unpacks to its taps and claim, and an accepted file packs
--- to the same bytes.
+-- Demand 2 (document 00; document 02, U3, for the twelve cells of Hash, and U6 for c): hash, chain and trace are those
+-- of the Rescue STARK documentation 1.0 for every accepted table; reading off a built trace, under the output its
+-- building returned, yields the taps that it was built from; a packed board file unpacks to its taps and claim, and an
+-- accepted file packs to the same bytes.
 -- Assumes nothing.
 use mathlib.Core.Path.{_≡_}
 use mathlib.Core.List.{List, _++_}
-use Prim.Native.Nat.{ℕ, _+_, _*_}
+use Prim.Native.Nat.{ℕ, _+_, _*_, _-_, _≤_}
 use lib.ListN.{length, take}
 use Rattle.words.specs.Words.{AllCanonical}
-use Rattle.numbers.specs.Numbers.{tapWords, traceWords, IsPermitted, tapWordBatches}
+use Rattle.numbers.specs.Numbers.{batchRows, tapWords, traceWords, IsPermitted, tapWordBatches}
 use Rattle.refusals.specs.Refusals.{digest, digestWords, stateWords}
 use Rattle.refusals.specs.declared.Answer.the-variants as answer
 use Rattle.refusals.specs.declared.Digest.{Digest}
@@ -17,9 +17,9 @@ use Rattle.refusals.specs.declared.State.{State}
 use Rattle.refusals.specs.declared.StateAnswer.the-variants as final
 use Rattle.refusals.specs.declared.TestsAnswer.the-variants as tests
 use Rattle.table.specs.Table.{tableTest}
-use Rattle.hash.specs.Hash.{finalState, input, hash, chain}
+use Rattle.hash.specs.Hash.{finalState, input, hash, chain, firstTaps}
 use Rattle.hash.specs.Answers.{hashAnswer, chainAnswer}
-use Rattle.trace.specs.Trace.{trace}
+use Rattle.trace.specs.Trace.{trace, row}
 use Rattle.trace.specs.Answers.{buildAnswer, buildLeaves}
 use Rattle.readoff.specs.Answers.{readOffAnswer, readOffLeaves}
 use Rattle.elements.specs.Words.{AllBytes}
@@ -38,12 +38,19 @@ pub record Demand2 : Type 0 where
   pub builds : (T w old : List ℕ) (k : ℕ) → tableTest T ≡ answer.Accepted → IsPermitted k → length w ≡ tapWords k
       → AllCanonical w → length old ≡ traceWords k
       → (buildAnswer T w (length old) ≡ Accepted (digest (chain T w k))) × (buildLeaves T w old ≡ trace T w k)
-  -- a trace that Build wrote into old, read off under the output d that it returned
+  -- a trace that Build wrote into old, read off with c = k under the output d that it returned
   pub reads-back : (T w old room : List ℕ) (d : Digest) → buildAnswer T w (length old) ≡ Accepted d
       → length room ≡ length w
-      → (readOffAnswer T (buildLeaves T w old) (digestWords d) (length room)
-      ≡ tests.Accepted (372 * tapWordBatches (length w)))
-      × (readOffLeaves T (buildLeaves T w old) (digestWords d) room ≡ w)
+      → let k = tapWordBatches (length w) in
+      (readOffAnswer T (buildLeaves T w old) (digestWords d) k (length room) ≡ tests.Accepted (372 * k))
+      × (readOffLeaves T (buildLeaves T w old) (digestWords d) k room ≡ w)
+  -- and with every c from 1 to k under the output of the first 3c + 1 taps, which row 31 of batch c − 1 shows
+  pub reads-back-early : (T w old room : List ℕ) (c : ℕ) (d : Digest) → buildAnswer T w (length old) ≡ Accepted d
+      → length room ≡ length w → 1 ≤ c → c ≤ tapWordBatches (length w)
+      → let claim = chain T (firstTaps c w) c in
+      (readOffAnswer T (buildLeaves T w old) claim c (length room) ≡ tests.Accepted (372 * tapWordBatches (length w)))
+      × (readOffLeaves T (buildLeaves T w old) claim c room ≡ w)
+      × (take 4 (row (buildLeaves T w old) (batchRows * (c - 1) + 31)) ≡ claim)
   -- a file that Pack wrote into old, unpacked
   pub unpacks : (w claim old room : List ℕ) → length claim ≡ 4 → packTest w claim (length old) ≡ answer.Accepted
       → length room ≡ length w

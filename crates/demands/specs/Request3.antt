@@ -23,7 +23,7 @@ use Rattle.hash.specs.Answers.{hashAnswer, chainAnswer}
 use Rattle.trace.specs.Trace.{row}
 use Rattle.trace.specs.Answers.{buildAnswer, buildLeaves}
 use Rattle.exact.specs.Exact.{IsListFor}
-use Rattle.edit.specs.Edit.{altered}
+use Rattle.rewriting.specs.Edit.{altered}
 use Rattle.edit.specs.Answers.{editAnswer, editLeaves}
 use Rattle.export.specs.Calls.{hashCall}
 
@@ -47,13 +47,13 @@ HasState T w h cells = (s : State) × (hashOf T w h ≡ final.Accepted s) × (st
 abbrev pub HasOutput : List ℕ → List ℕ → ℕ → List ℕ → Type 0
 HasOutput T w h output = (s : State) × (hashOf T w h ≡ final.Accepted s) × (take 4 (stateWords s) ≡ output)
 
--- what is promised of the trace t of a list w of k batches, and of the output d that is returned with it
-pub record Ends (T w : List ℕ) (k : ℕ) (t : List ℕ) (d : Digest) : Type 0 where
+-- what is promised of the trace t of a list w of k batches, and of the output d of c of them that is returned with it
+pub record Ends (T w : List ℕ) (c k : ℕ) (t : List ℕ) (d : Digest) : Type 0 where
   -- row 31 of each batch is the final state of its third hash, in all twelve cells: so the last row is that of the last
   -- hash
   pub rows-31 : (b : ℕ) → b < k → HasState T w (3 * b + 2) (row t (batchRows * b + 31))
-  -- the output is cells 0 to 3 of the last hash's final state
-  pub output-is : HasOutput T w (3 * k - 1) (digestWords d)
+  -- the output is cells 0 to 3 of the final state of the last hash of the c batches
+  pub output-is : HasOutput T w (3 * c - 1) (digestWords d)
 
 pub record Request3 : Type 0 where
   -- Hash accepts exactly when the table is accepted and the words are below p
@@ -74,8 +74,8 @@ pub record Request3 : Type 0 where
   -- Build and Edit take the output from there, and their traces show the final states; an edited trace those of the
   -- altered list
   pub builds : (T w old : List ℕ) (d : Digest) → buildAnswer T w (length old) ≡ four.Accepted d
-      → Ends T w (tapWordBatches (length w)) (buildLeaves T w old) d
-  pub edits : (T t claim : List ℕ) (n : ℕ) (new : List ℕ) (d : Digest) → length claim ≡ 4 → length new ≡ 4
-      → editAnswer T t claim n new ≡ four.Accepted d
-      → (k : ℕ) × (w : List ℕ) × IsListFor T t claim k w
-      × Ends T (altered w n new) k (editLeaves T t claim n new) d
+      → let k = tapWordBatches (length w) in Ends T w k k (buildLeaves T w old) d
+  pub edits : (T t claim : List ℕ) (c n : ℕ) (new : List ℕ) (d : Digest) → length claim ≡ 4 → length new ≡ 4
+      → editAnswer T t claim c n new ≡ four.Accepted d
+      → (k : ℕ) × (w : List ℕ) × IsListFor T t claim c k w
+      × Ends T (altered w n new) c k (editLeaves T t claim c n new) d

@@ -31,7 +31,7 @@ use Rattle.trace.specs.Answers.{buildAnswer, buildLeaves}
 use Rattle.checker.specs.Answers.{checkAnswer}
 use Rattle.exact.specs.Exact.{IsListFor}
 use Rattle.unhash.specs.Answers.{unhashAnswer}
-use Rattle.export.specs.Code.{refusalCode, answerCode}
+use Rattle.handover.specs.Code.{refusalCode, answerCode}
 use Rattle.export.specs.Calls.{UnhashCall}
 
 -- Hash of these eight words, two taps, ends in the state s, in all twelve cells: so it accepts them, and the taps are
@@ -87,5 +87,5 @@ pub record Request5 : Type 0 where
   -- row 31 of a trace that Build wrote, and of one that Check accepted
   pub builds : (T w old : List ℕ) (d : Digest) → buildAnswer T w (length old) ≡ four.Accepted d
       → GivesBack T w (tapWordBatches (length w)) (buildLeaves T w old)
-  pub checks : (T t claim : List ℕ) (n : ℕ) → length claim ≡ 4 → checkAnswer T t claim ≡ tests.Accepted n
-      → (k : ℕ) × (w : List ℕ) × IsListFor T t claim k w × GivesBack T w k t
+  pub checks : (T t claim : List ℕ) (c n : ℕ) → length claim ≡ 4 → checkAnswer T t claim c ≡ tests.Accepted n
+      → (k : ℕ) × (w : List ℕ) × IsListFor T t claim c k w × GivesBack T w k t

@@ -1,4 +1,2 @@
-pub mod Altered
 pub mod Answers
-pub mod Rewriting
 pub mod Theorems

@@ -24,24 +24,24 @@ use Rattle.checker.specs.Answers.{checkTest, checkAnswer}
 use Rattle.checker.proofs.Answers.{check-passes}
 use Rattle.exact.proofs.ReadList.{row-of-trace}
 use Rattle.exact.proofs.InputRows.{same-output, same-next-tap}
-use Rattle.edit.specs.Edit.{altered, firstTouched}
+use Rattle.rewriting.specs.Edit.{altered, firstTouched}
 use Rattle.edit.specs.Answers.{editTest, editAnswer}
-use Rattle.edit.proofs.Altered.{touched-is, length-altered, altered-canonical, tap-altered, row-before}
+use Rattle.rewriting.proofs.Altered.{touched-is, length-altered, altered-canonical, tap-altered, row-before}
 use Rattle.edit.proofs.Answers.{same-test, edit-inputs}
 
-pub accepts-exactly : (T t claim : List ℕ) (n : ℕ) (new : List ℕ)
-    → ((d : Digest) × (editAnswer T t claim n new ≡ Accepted d))
-    ↔ (((m : ℕ) × (checkAnswer T t claim ≡ counted.Accepted m))
+pub accepts-exactly : (T t claim : List ℕ) (c n : ℕ) (new : List ℕ)
+    → ((d : Digest) × (editAnswer T t claim c n new ≡ Accepted d))
+    ↔ (((m : ℕ) × (checkAnswer T t claim c ≡ counted.Accepted m))
     × (n ≤ 3 * traceWordBatches (length t)) × AllCanonical new)
 unfolding editAnswer checkAnswer
-accepts-exactly T t claim n new = (
+accepts-exactly T t claim c n new = (
   λ s.
-      let i = edit-inputs T t claim n new (digest-accepted (editTest T t claim n new) _ (s .0) (s .1) .0) in
-      let e = check-passes T t claim (traceWordBatches (length t)) (i .0) (i .3) in
+      let i = edit-inputs T t claim c n new (digest-accepted (editTest T t claim c n new) _ (s .0) (s .1) .0) in
+      let e = check-passes T t claim c (traceWordBatches (length t)) (i .0) (i .3) in
       ((_, sym (tests-returned refl e refl)), i .1, i .2),
   λ s.
-      let e = tests-accepted (checkTest T t claim) _ (s .0 .0) (s .0 .1) .0 in
-      (_, sym (digest-returned refl (same-test T t claim n new (s .1) (s .2) ∙ e) refl)),
+      let e = tests-accepted (checkTest T t claim c) _ (s .0 .0) (s .0 .1) .0 in
+      (_, sym (digest-returned refl (same-test T t claim c n new (s .1) (s .2) ∙ e) refl)),
 )
 
 module _ (T w : List ℕ) (k n : ℕ) (new : List ℕ) (table : IsTable T) (some : 1 ≤ k) (size : length w ≡ 12 * k + 4)

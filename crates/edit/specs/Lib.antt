@@ -1,3 +1,1 @@
-pub mod Edit
 pub mod Answers
-pub mod EditHelpers

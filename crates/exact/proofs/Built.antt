@@ -1,5 +1,5 @@
--- The section 3.1 trace of a list of canonical taps, with the chain's output as the claim, meets the equations of the
--- 52 constraints, and the list is read off it again.
+-- The section 3.1 trace of a list of canonical taps, with the output of the first 3c + 1 as the claim, meets the
+-- equations of the 52 constraints, and the list is read off it again.
 -- Assumes nothing.
 use mathlib.Core.Path.{_≡_, refl, sym, ap, _∙_}
 use mathlib.Core.Bool.{Bool, true, false}
@@ -207,15 +207,15 @@ module _ (T w : List ℕ) (k : ℕ) (accepted : IsTable T) (size : length w ≡ 
       ∙ ap (λ y. cell y j)
       (ap (hashInput T w) g ∙ sym (start-row (i / 32 + 1) (omega arith)) ∙ ap (row (trace T w k)) f)
 
-  claims : (i j : ℕ) → i < 32 * k → i + 1 ≡ 32 * k → j < 4 → cell (row (trace T w k) i) j ≡ cell (chain T w k) j
-  claims i j l r m =
-      let e : i ≡ 32 * k - 1 = omega arith in
+  claims : (c i j : ℕ) → i < 32 * k → i + 1 ≡ 32 * c → j < 4 → cell (row (trace T w k) i) j ≡ cell (chain T w c) j
+  claims c i j l r m =
+      let e : i ≡ 32 * c - 1 = omega arith in
       ap (λ y. cell y j) (row-of-trace T w k size canonical i l ∙ ap (traceRow T w) e)
-      ∙ sym (cell-take (traceRow T w (32 * k - 1)) j m)
-      ∙ ap (λ y. cell y j) (last-row-output T w k (omega arith))
+      ∙ sym (cell-take (traceRow T w (32 * c - 1)) j m)
+      ∙ ap (λ y. cell y j) (last-row-output T w c (omega arith))
 
-  pub meets-equations : Equations T (trace T w k) (chain T w k) k
-  meets-equations =
+  pub meets-equations : (c : ℕ) → Equations T (trace T w k) (chain T w c) c k
+  meets-equations c =
       record {
         zero-columns = zero-columns;
         new-zeros = new-zeros;
@@ -224,5 +224,5 @@ module _ (T w : List ℕ) (k : ℕ) (accepted : IsTable T) (size : length w ≡ 
         goes-on = goes-on;
         ends = ends;
         joins = joins;
-        claims = claims;
+        claims = claims c;
       }

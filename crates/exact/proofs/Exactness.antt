@@ -5,7 +5,7 @@
 use mathlib.Core.Path.{_≡_, refl, sym, ap, _∙_}
 use mathlib.Core.Logic.{_↔_}
 use mathlib.Core.List.{List}
-use Prim.Native.Nat.{ℕ, _+_, _*_}
+use Prim.Native.Nat.{ℕ, _+_, _*_, _≤_}
 use lib.ListN.{length}
 use Rattle.words.specs.Words.{AllCanonical}
 use Rattle.numbers.specs.Numbers.{IsPermitted}
@@ -15,7 +15,8 @@ use Rattle.refusals.specs.declared.TestsAnswer.the-variants as counted
 use Rattle.refusals.specs.Answers.{testsAfter}
 use Rattle.refusals.proofs.Laws.{tests-accepted, tests-returned}
 use Rattle.table.specs.Table.{IsTable}
-use Rattle.hash.specs.Hash.{chain}
+use Rattle.hash.specs.Hash.{chain, firstTaps}
+use Rattle.hash.proofs.FirstTaps.{chain-first}
 use Rattle.trace.specs.Trace.{trace}
 use Rattle.constraints.specs.Constraints.{tests, constraintTest}
 use Rattle.constraints.specs.FirstFailing.{AllHold, IsFirstFailing}
@@ -24,35 +25,41 @@ use Rattle.constraints.proofs.Equations.{Equations, equations-hold, hold-equati
 use Rattle.constraints.proofs.TestList.{test-list}
 use Rattle.constraints.proofs.TestCount.{length-tests}
 use Rattle.constraints.proofs.WalkLaws as walks
-use Rattle.exact.specs.Exact.{IsListFor}
+use Rattle.exact.specs.Exact.{IsListFor, IsWholeListFor}
 use Rattle.exact.proofs.ReadList.{is-list-for}
 use Rattle.exact.proofs.Built.{reads-back, meets-equations}
 
 -- every test of the order holds exactly where the equations do
-tests-say : (T t claim : List ℕ) (k : ℕ) → AllHold T t claim (tests k) ↔ Equations T t claim k
-tests-say T t claim k = (
-  λ a. hold-equations T t claim k
-      (λ i c l e. a (record { at = i; number = c }) (test-list k (record { at = i; number = c }) .1 (l, e))),
-  λ q x m. (let s = test-list k x .0 m in equations-hold T t claim k q (x .at) (x .number) (s .0) (s .1)),
+tests-say : (T t claim : List ℕ) (c k : ℕ) → AllHold T t claim (tests k c) ↔ Equations T t claim c k
+tests-say T t claim c k = (
+  λ a. hold-equations T t claim k c
+      (λ i q l e. a (record { at = i; number = q }) (test-list k c (record { at = i; number = q }) .1 (l, e))),
+  λ q x m. (let s = test-list k c x .0 m in equations-hold T t claim k c q (x .at) (x .number) (s .0) (s .1)),
 )
 
 -- an acceptance is reported with 372 × k tests
-pub reported : (T t claim : List ℕ) (k : ℕ) → (constraintTest T t claim k ≡ Accepted)
-    ↔ (testsAfter (constraintTest T t claim k) (length (tests k)) ≡ counted.Accepted (372 * k))
-reported T t claim k = (
-  λ e. sym (tests-returned refl e (sym (length-tests k))),
-  λ e. tests-accepted (constraintTest T t claim k) (length (tests k)) (372 * k) e .0,
+pub reported : (T t claim : List ℕ) (c k : ℕ) → 1 ≤ c → c ≤ k → (constraintTest T t claim c k ≡ Accepted)
+    ↔ (testsAfter (constraintTest T t claim c k) (length (tests k c)) ≡ counted.Accepted (372 * k))
+reported T t claim c k low high = (
+  λ e. sym (tests-returned refl e (sym (length-tests k c low high))),
+  λ e. tests-accepted (constraintTest T t claim c k) (length (tests k c)) (372 * k) e .0,
 )
 
 -- ---- lists of taps and the traces built from them
 module _ (T : List ℕ) (k : ℕ) (table : IsTable T) (permitted : IsPermitted k) where
-  -- a built trace is accepted under the output its building returned, and reading it off yields the taps that it was
-  -- built from
+  -- for every c, a built trace is accepted under the output of the first 3c + 1 taps
+  pub accepts-built : (c : ℕ) (w : List ℕ) → length w ≡ 12 * k + 4 → AllCanonical w
+      → constraintTest T (trace T w k) (chain T (firstTaps c w) c) c k ≡ Accepted
+  accepts-built c w size canonical =
+      ap (λ claim. constraintTest T (trace T w k) claim c k) (chain-first T w c)
+      ∙ walks.all-hold-accepted T (trace T w k) (chain T w c) k c
+      (tests-say T (trace T w k) (chain T w c) c k .1 (meets-equations T w k table size canonical c))
+
+  -- so under the output its building returned; and reading it off yields the taps that it was built from
   pub reading-off-a-built-trace : (w : List ℕ) → length w ≡ 12 * k + 4 → AllCanonical w
-      → (constraintTest T (trace T w k) (chain T w k) k ≡ Accepted) × (readTaps T (trace T w k) k ≡ w)
+      → (constraintTest T (trace T w k) (chain T w k) k k ≡ Accepted) × (readTaps T (trace T w k) k ≡ w)
   reading-off-a-built-trace w size canonical = (
-    walks.all-hold-accepted T (trace T w k) (chain T w k) k
-        (tests-say T (trace T w k) (chain T w k) k .1 (meets-equations T w k table size canonical)),
+    ap (λ claim. constraintTest T (trace T w k) claim k k) (sym (chain-first T w k)) ∙ accepts-built k w size canonical,
     reads-back T w k table size canonical (permitted .low),
   )
 
@@ -64,47 +71,65 @@ module _ (T : List ℕ) (k : ℕ) (table : IsTable T) (permitted : IsPermitted k
       ∙ ap (λ t. readTaps T t k) e
       ∙ reading-off-a-built-trace v size′ canonical′ .1
 
--- ---- any trace and any claim
-module _ (T t claim : List ℕ) (k : ℕ) (table : IsTable T) (permitted : IsPermitted k) (size : length t ≡ 384 * k)
-    (canonical : AllCanonical t) (four : length claim ≡ 4) where
+-- ---- any trace and any claim, with any c from 1 to k
+module _ (T t claim : List ℕ) (c k : ℕ) (table : IsTable T) (permitted : IsPermitted k) (low : 1 ≤ c) (high : c ≤ k)
+    (size : length t ≡ 384 * k) (canonical : AllCanonical t) (four : length claim ≡ 4) where
   -- an accepted trace reports the whole of the order, which is 372 × k tests
-  pub whole-order : (n : ℕ) → testsAfter (constraintTest T t claim k) (length (tests k)) ≡ counted.Accepted n
-      → (n ≡ length (tests k)) × (n ≡ 372 * k)
+  pub whole-order : (n : ℕ) → testsAfter (constraintTest T t claim c k) (length (tests k c)) ≡ counted.Accepted n
+      → (n ≡ length (tests k c)) × (n ≡ 372 * k)
   whole-order n e =
-      let c = sym (tests-accepted (constraintTest T t claim k) (length (tests k)) n e .1) in
-      (c, c ∙ length-tests k)
+      let all = sym (tests-accepted (constraintTest T t claim c k) (length (tests k c)) n e .1) in
+      (all, all ∙ length-tests k c low high)
 
-  -- reading off an accepted trace yields a list that chains to the claim and has this trace
-  pub reads-that-list : constraintTest T t claim k ≡ Accepted → IsListFor T t claim k (readTaps T t k)
+  -- reading off an accepted trace yields a list whose first 3c + 1 taps chain to the claim and that has this trace
+  pub reads-that-list : constraintTest T t claim c k ≡ Accepted → IsListFor T t claim c k (readTaps T t k)
   reads-that-list e =
-      is-list-for T t claim k table (permitted .low) size canonical four
-      (tests-say T t claim k .0 (walks.accepted-all-hold T t claim k e))
+      is-list-for T t claim c k table low high size canonical four
+      (tests-say T t claim c k .0 (walks.accepted-all-hold T t claim k c e))
 
-  -- accepted exactly when some list of 3k + 1 taps chains to the claim and has this trace
-  pub accepts-exactly : (constraintTest T t claim k ≡ Accepted) ↔ ((w : List ℕ) × IsListFor T t claim k w)
+  -- accepted exactly when there is such a list
+  pub accepts-exactly : (constraintTest T t claim c k ≡ Accepted) ↔ ((w : List ℕ) × IsListFor T t claim c k w)
   accepts-exactly = (λ e. (readTaps T t k, reads-that-list e), λ s. from (s .0) (s .1))
     where
-      from : (w : List ℕ) → IsListFor T t claim k w → constraintTest T t claim k ≡ Accepted
+      from : (w : List ℕ) → IsListFor T t claim c k w → constraintTest T t claim c k ≡ Accepted
       from w l =
-          sym (ap (λ x. constraintTest T x claim k) (l .traced))
-          ∙ sym (ap (λ x. constraintTest T (trace T w k) x k) (l .chains))
-          ∙ reading-off-a-built-trace T k table permitted w (l .size) (l .canonical) .0
+          sym (ap (λ x. constraintTest T x claim c k) (l .traced))
+          ∙ sym (ap (λ x. constraintTest T (trace T w k) x c k) (l .chains))
+          ∙ accepts-built T k table permitted c w (l .size) (l .canonical)
 
   -- and no other list has it
-  pub only-one : (w v : List ℕ) → IsListFor T t claim k w → IsListFor T t claim k v → w ≡ v
+  pub only-one : (w v : List ℕ) → IsListFor T t claim c k w → IsListFor T t claim c k v → w ≡ v
   only-one w v l m =
       one-list-a-trace T k table permitted w v (l .size) (l .canonical) (m .size) (m .canonical)
       (l .traced ∙ sym (m .traced))
 
   -- a trace that is not accepted is refused with 11, and with row, constraint and place of the first test of the order
   -- that fails
-  pub first-failing : (constraintTest T t claim k ≡ Accepted → ⊥)
-      → (i : ℕ) × (c : ℕ) × (n : ℕ) × (constraintTest T t claim k ≡ Refused (Constraint (record { 0 = i }) c n))
-      × IsFirstFailing T t claim (tests k) i c n
+  pub first-failing : (constraintTest T t claim c k ≡ Accepted → ⊥)
+      → (i : ℕ) × (q : ℕ) × (n : ℕ) × (constraintTest T t claim c k ≡ Refused (Constraint (record { 0 = i }) q n))
+      × IsFirstFailing T t claim (tests k c) i q n
   first-failing never =
-      let r = walks.else-first-failing T t claim k never in
-      (r .0, r .1, r .2, r .3, walks.refused-first-failing T t claim k (r .0) (r .1) (r .2) (r .3))
+      let r = walks.else-first-failing T t claim k c never in
+      (r .0, r .1, r .2, r .3, walks.refused-first-failing T t claim k c (r .0) (r .1) (r .2) (r .3))
 
-  pub refuses-exactly : (i c n : ℕ) → (constraintTest T t claim k ≡ Refused (Constraint (record { 0 = i }) c n))
-      ↔ IsFirstFailing T t claim (tests k) i c n
-  refuses-exactly i c n = (walks.refused-first-failing T t claim k i c n, walks.first-failing-refused T t claim k i c n)
+  pub refuses-exactly : (i q n : ℕ) → (constraintTest T t claim c k ≡ Refused (Constraint (record { 0 = i }) q n))
+      ↔ IsFirstFailing T t claim (tests k c) i q n
+  refuses-exactly i q n =
+      (walks.refused-first-failing T t claim k c i q n, walks.first-failing-refused T t claim k c i q n)
+
+-- ---- the case c = k: the whole list chains to the claim
+pub whole-list : (T t claim : List ℕ) (k : ℕ) (w : List ℕ) → IsListFor T t claim k k w ↔ IsWholeListFor T t claim k w
+whole-list T t claim k w = (
+  λ l. record {
+    size = l .size;
+    canonical = l .canonical;
+    chains = sym (chain-first T w k) ∙ l .chains;
+    traced = l .traced;
+  },
+  λ l. record {
+    size = l .size;
+    canonical = l .canonical;
+    chains = chain-first T w k ∙ l .chains;
+    traced = l .traced;
+  },
+)

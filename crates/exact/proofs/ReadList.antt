@@ -17,6 +17,7 @@ use Rattle.table.specs.Table.{IsTable}
 use Rattle.hash.specs.Hash.{outputAt, chain, middleState, finalState}
 use Rattle.hash.proofs.States.{state-cell, same-state, same-cells}
 use Rattle.hash.proofs.Inputs.{by-fours, cell-take, cell-tap, output-zero}
+use Rattle.hash.proofs.FirstTaps.{chain-first}
 use Rattle.trace.specs.Trace.{hashInput, traceRow, trace}
 use Rattle.trace.proofs.RowKinds.{RowKind, start, middle, end, row-kind, row-start, row-middle, row-end}
 use Rattle.trace.proofs.TraceCells.{length-trace, cell-trace, next-output, output-is-tap, hashInput-state}
@@ -57,9 +58,10 @@ row-of-trace T w k size canonical i l =
     (traceRow-state T w k size canonical i l .size)
     (λ j h. cell-row (trace T w k) i j h ∙ cell-trace T w k i j l h)
 
-module _ (T t claim : List ℕ) (k : ℕ) (accepted : IsTable T) (some : 1 ≤ k) (size : length t ≡ 384 * k)
+module _ (T t claim : List ℕ) (c k : ℕ) (accepted : IsTable T) (low : 1 ≤ c) (high : c ≤ k)
+    (size : length t ≡ 384 * k)
     (canonical : AllCanonical t)
-    (four : length claim ≡ 4) (q : Equations T t claim k) where
+    (four : length claim ≡ 4) (q : Equations T t claim c k) where
   read-canonical : AllCanonical (readTaps T t k)
   read-canonical n l = go (decLt n 4)
     where
@@ -71,13 +73,13 @@ module _ (T t claim : List ℕ) (k : ℕ) (accepted : IsTable T) (some : 1 ≤ k
           omega (
             arith,
             first-tap-read T t k n h,
-            state-cell (sound.row-is-state T t claim k accepted size canonical q 0 (omega arith)) n,
+            state-cell (sound.row-is-state T t claim c k accepted size canonical q 0 (omega arith)) n,
           )
       go (no h) =
           let e : 4 * (n / 4 - 1 + 1) + n % 4 ≡ n = omega arith in
           let f = next-tap-read T t k (n / 4 - 1) (n % 4) (omega (arith, within)) (omega arith) in
           let g =
-          state-cell (sound.read-state T t claim k accepted size canonical q (n / 4 - 1) (omega (arith, within)))
+          state-cell (sound.read-state T t claim c k accepted size canonical q (n / 4 - 1) (omega (arith, within)))
           (4 + n % 4) in
           subst (λ m. cell (readTaps T t k) m < P) e (omega arith)
 
@@ -87,14 +89,14 @@ module _ (T t claim : List ℕ) (k : ℕ) (accepted : IsTable T) (some : 1 ≤ k
       → hashInput T (readTaps T t k) h ≡ readInput T t h
   input-from-output h l left =
       same-state (hashInput-state T w k (length-read T t k) read-canonical h l)
-      (sound.read-state T t claim k accepted size canonical q h l)
+      (sound.read-state T t claim c k accepted size canonical q h l)
       (by-fours (λ j. cell (hashInput T w h) j ≡ cell (readInput T t h) j)
       (λ j m. input-output T w k (length-read T t k) read-canonical h j l m ∙ left j m)
       (λ j m. input-next-tap T w k (length-read T t k) read-canonical h j l m
       ∙ cell-tap w (h + 1) j m
       ∙ next-tap-read T t k h j l m)
       (λ j m. input-zeros T w k (length-read T t k) read-canonical h j l m
-      ∙ sym (sound.zeros-read T t claim k accepted size canonical q h j l m)))
+      ∙ sym (sound.zeros-read T t claim c k accepted size canonical q h j l m)))
     where
       w : List ℕ
       w = readTaps T t k
@@ -107,7 +109,7 @@ module _ (T t claim : List ℕ) (k : ℕ) (accepted : IsTable T) (some : 1 ≤ k
       ∙ cell-tap (readTaps T t k) 0 j m
       ∙ ap (cell (readTaps T t k)) (zero-add j)
       ∙ first-tap-read T t k j m
-      ∙ ap (λ s. cell s j) (sym (sound.start-read T t claim k accepted size canonical q 0 refl)))
+      ∙ ap (λ s. cell s j) (sym (sound.start-read T t claim c k accepted size canonical q 0 refl)))
   input-read (suc h) l =
       input-from-output (suc h) l
       (λ j m.
@@ -115,7 +117,7 @@ module _ (T t claim : List ℕ) (k : ℕ) (accepted : IsTable T) (some : 1 ≤ k
       ∙ ap (λ s. cell s j) (next-output T (readTaps T t k) h)
       ∙ cell-take (finalState T (hashInput T (readTaps T t k) h)) j m
       ∙ ap (λ s. cell (finalState T s) j) (input-read h (omega arith))
-      ∙ sym (sound.output-read T t claim k accepted size canonical q h j (omega arith) m)
+      ∙ sym (sound.output-read T t claim c k accepted size canonical q h j (omega arith) m)
       ∙ ap (λ n. cell (readInput T t n) j) (add-one h))
 
   -- ---- so every row is that of the list's trace
@@ -129,19 +131,19 @@ module _ (T t claim : List ℕ) (k : ℕ) (accepted : IsTable T) (some : 1 ≤ k
       go (start b e) =
           let x : i ≡ 32 * (3 * b / 3) = omega arith in
           ap (row t) x
-          ∙ sym (sound.start-read T t claim k accepted size canonical q (3 * b) (omega arith))
+          ∙ sym (sound.start-read T t claim c k accepted size canonical q (3 * b) (omega arith))
           ∙ sym (input-read (3 * b) (omega arith))
           ∙ sym (row-start T w b)
           ∙ ap (traceRow T w) (sym e)
       go (middle h j m e) =
           ap (row t) e
-          ∙ sound.row-round T t claim k accepted size canonical q h (omega arith) j m
+          ∙ sound.row-round T t claim c k accepted size canonical q h (omega arith) j m
           ∙ ap (λ s. middleState T s j) (sym (input-read h (omega arith)))
           ∙ sym (row-middle T w h j m)
           ∙ ap (traceRow T w) (sym e)
       go (end b e) =
           ap (row t) e
-          ∙ sound.end-row T t claim k accepted size canonical q b (omega arith)
+          ∙ sound.end-row T t claim c k accepted size canonical q b (omega arith)
           ∙ ap (finalState T) (sym (input-read (3 * b + 2) (omega arith)))
           ∙ sym (row-end T w b)
           ∙ ap (traceRow T w) (sym e)
@@ -154,21 +156,26 @@ module _ (T t claim : List ℕ) (k : ℕ) (accepted : IsTable T) (some : 1 ≤ k
       rows : 384 * k ≡ 12 * (32 * k)
       rows = omega arith
 
-  chain-read : chain T (readTaps T t k) k ≡ claim
+  chain-read : chain T (readTaps T t k) c ≡ claim
   unfolding chain
   chain-read =
-      same-cells 4 (outputAt T (readTaps T t k) (3 * k)) claim
-      (output-is-tap T (readTaps T t k) k (length-read T t k) read-canonical (3 * k) .size) four
+      same-cells 4 (outputAt T (readTaps T t k) (3 * c)) claim
+      (output-is-tap T (readTaps T t k) k (length-read T t k) read-canonical (3 * c) .size) four
       (λ j m.
       ap (λ n. cell (outputAt T (readTaps T t k) n) j) last
-      ∙ ap (λ s. cell s j) (next-output T (readTaps T t k) (3 * k - 1))
-      ∙ cell-take (finalState T (hashInput T (readTaps T t k) (3 * k - 1))) j m
-      ∙ ap (λ s. cell (finalState T s) j) (input-read (3 * k - 1) (omega arith))
-      ∙ sym (sound.claim-read T t claim k accepted size canonical q j some m))
+      ∙ ap (λ s. cell s j) (next-output T (readTaps T t k) (3 * c - 1))
+      ∙ cell-take (finalState T (hashInput T (readTaps T t k) (3 * c - 1))) j m
+      ∙ ap (λ s. cell (finalState T s) j) (input-read (3 * c - 1) (omega arith))
+      ∙ sym (sound.claim-read T t claim c k accepted size canonical q j low high m))
     where
-      last : 3 * k ≡ 3 * k - 1 + 1
+      last : 3 * c ≡ 3 * c - 1 + 1
       last = omega arith
 
-  pub is-list-for : IsListFor T t claim k (readTaps T t k)
+  pub is-list-for : IsListFor T t claim c k (readTaps T t k)
   is-list-for =
-      record { size = length-read T t k; canonical = read-canonical; chains = chain-read; traced = trace-read }
+      record {
+        size = length-read T t k;
+        canonical = read-canonical;
+        chains = chain-first T (readTaps T t k) c ∙ chain-read;
+        traced = trace-read;
+      }

@@ -29,8 +29,8 @@ use Rattle.constraints.proofs.Equations.{Equations}
 use Rattle.constraints.proofs.ForwardBack.{enters-not, entering-row, within-of, back-state}
 use Rattle.constraints.proofs.ForwardBack.{forward-is, forward-enters, row-from-back}
 
-module _ (T t claim : List ℕ) (k : ℕ) (accepted : IsTable T) (size : length t ≡ 384 * k)
-    (canonical : AllCanonical t) (q : Equations T t claim k) where
+module _ (T t claim : List ℕ) (c k : ℕ) (accepted : IsTable T) (size : length t ≡ 384 * k)
+    (canonical : AllCanonical t) (q : Equations T t claim c k) where
   pub row-is-state : (i : ℕ) → i < 32 * k → IsState (row t i)
   row-is-state i l = row-state t canonical i (omega arith)
 
@@ -75,8 +75,8 @@ module _ (T t claim : List ℕ) (k : ℕ) (accepted : IsTable T) (size : length 
     goes-on : (j : ℕ) → j < 9 → secondStep T j (row t (firstRow h + j)) ≡ back T t (firstRow h + j + 1)
     goes-on j b =
         same-state (secondStep-state T j (row t (firstRow h + j))) (back-state T t (firstRow h + j + 1))
-        (λ c m. ap (λ s. cell s c) (sym (forward-is T t h j (omega arith) not-entering))
-        ∙ q .goes-on (firstRow h + j) c (omega arith) (omega (arith, w)) (omega (arith, w)) not-entering m)
+        (λ n m. ap (λ s. cell s n) (sym (forward-is T t h j (omega arith) not-entering))
+        ∙ q .goes-on (firstRow h + j) n (omega arith) (omega (arith, w)) (omega (arith, w)) not-entering m)
       where
         w : within (firstRow h + j) ≡ 10 * (h % 3) + 1 + j
         w = within-of h j (omega arith)
@@ -174,10 +174,10 @@ module _ (T t claim : List ℕ) (k : ℕ) (accepted : IsTable T) (size : length 
           ∙ q .new-zeros (firstRow (h - 1) + 9) j (omega arith) (entering-row (h - 1) (λ z. omega arith)) m)
           ∙ sub-self (cell (initialConstant T) (8 + j)) (state-cell K₀-state (8 + j))
 
-  -- the claim is the output of the last hash
-  pub claim-read : (j : ℕ) → 1 ≤ k → j < 4 → cell claim j ≡ cell (finalState T (readInput T t (3 * k - 1))) j
-  claim-read j l m =
-      let x : 32 * (k - 1) + 31 + 1 ≡ 32 * k = omega arith in
-      let y : 3 * (k - 1) + 2 ≡ 3 * k - 1 = omega arith in
-      sym (q .claims (32 * (k - 1) + 31) j (omega arith) x m)
-      ∙ ap (λ s. cell s j) (end-row (k - 1) (omega arith) ∙ ap (λ n. finalState T (readInput T t n)) y)
+  -- the claim is the output of the last hash of its c batches
+  pub claim-read : (j : ℕ) → 1 ≤ c → c ≤ k → j < 4 → cell claim j ≡ cell (finalState T (readInput T t (3 * c - 1))) j
+  claim-read j low high m =
+      let x : 32 * (c - 1) + 31 + 1 ≡ 32 * c = omega arith in
+      let y : 3 * (c - 1) + 2 ≡ 3 * c - 1 = omega arith in
+      sym (q .claims (32 * (c - 1) + 31) j (omega arith) x m)
+      ∙ ap (λ s. cell s j) (end-row (c - 1) (omega arith) ∙ ap (λ n. finalState T (readInput T t n)) y)

@@ -7,107 +7,39 @@ use Prim.Native.Nat.{ℕ, _+_, _*_}
 use native.Mathlib.Omega.{arith}
 use borrow.Author.Tests.{eq-eqb, ne-eqb}
 use lib.Dec.{leb}
-use lib.ListN.{length, set, take, drop}
-use Rattle.lists.specs.Lists.{tab}
-use Rattle.lists.proofs.Tab.{tab-cell}
-use Rattle.numbers.specs.Numbers.{mostBatches, isTapLength, tapWordBatches, isTraceLength, traceWordBatches}
-use Rattle.refusals.specs.Refusals.{digest, digestWords, state, stateWords, pairWords}
+use lib.ListN.{length, take, drop}
+use Rattle.numbers.specs.Numbers.{mostBatches, isTapLength, tapWordBatches, traceWordBatches}
+use Rattle.refusals.specs.Refusals.{digest, state, pairWords}
 use Rattle.refusals.specs.Answers.{unless, after, Refuses, digestAfter, stateAfter, leaves}
 use Rattle.refusals.specs.declared.Refusal.{Refusal}
-use Rattle.refusals.specs.declared.Refusal.the-variants.{TapLength, TraceLength, DestinationLength, NoSuchTap}
+use Rattle.refusals.specs.declared.Refusal.the-variants.{TapLength, DestinationLength, NoSuchTap}
 use Rattle.refusals.specs.declared.Answer.{Answer}
 use Rattle.refusals.specs.declared.Answer.the-variants as answer
 use Rattle.refusals.specs.declared.Digest.{Digest}
-use Rattle.refusals.specs.declared.DigestAnswer.{DigestAnswer}
-use Rattle.refusals.specs.declared.DigestAnswer.the-variants.{Accepted, Refused}
 use Rattle.refusals.specs.declared.State.{State}
-use Rattle.refusals.specs.declared.StateAnswer.{StateAnswer}
-use Rattle.refusals.specs.declared.StateAnswer.the-variants as twelve
 use Rattle.refusals.specs.declared.Pair.{Pair}
 use Rattle.refusals.specs.declared.PairAnswer.the-variants as eight
-use Rattle.refusals.specs.declared.TestsAnswer.{TestsAnswer}
-use Rattle.refusals.specs.declared.TestsAnswer.the-variants as tests
 use Rattle.refusals.proofs.Laws.{pair-accepted, pair-refused, leaves-old, leaves-new}
 use Rattle.refusals.proofs.Returned.{eight-words}
 use Rattle.table.specs.Table.{tableTest}
-use Rattle.hash.specs.Hash.{finalState, input, chain}
+use Rattle.hash.specs.Hash.{finalState, input, chain, firstTaps}
 use Rattle.hash.specs.Answers.{hashTest, hashAnswer, chainTest, chainAnswer}
 use Rattle.trace.specs.Trace.{trace}
 use Rattle.trace.specs.Answers.{buildTest, buildAnswer, buildLeaves}
+use Rattle.checker.specs.Answers.{openingTest}
 use Rattle.edit.specs.Answers.{editTest, alteredTaps, editAnswer, editLeaves}
 use Rattle.unhash.specs.Unhash.{tapsBefore}
 use Rattle.unhash.specs.Answers.{unhashTest, unhashAnswer}
 use Rattle.unhash.proofs.Theorems.{taps-size}
 use Rattle.board.specs.Board.{batchesIn, claimIn, tapsIn, unpackTest, unpackAnswer, unpackLeaves}
 use Rattle.board.proofs.Answers.{unpack-accepted}
-use Rattle.export.specs.Code.{code, refusalCode, answerCode, digestCode, stateCode, testsCode}
-use Rattle.export.specs.Calls.{HandsOver, HandsOverState, hashCallTest, hashNoRoom, hashCall, chainCallTest}
+use Rattle.handover.specs.Code.{refusalCode, answerCode, digestCode}
+use Rattle.handover.specs.HandsOver.{HandsOver, HandsOverState}
+use Rattle.handover.proofs.Handed.{answer-accepted, answer-refused, digest-refused, handed-refused}
+use Rattle.handover.proofs.Handed.{state-handed-refused}
+use Rattle.export.specs.Calls.{hashCallTest, hashNoRoom, hashCall, chainCallTest}
 use Rattle.export.specs.Calls.{chainNoRoom, chainCall, buildCallTest, buildCall, editCallTest, editNoRoom}
 use Rattle.export.specs.Calls.{editCall, unhashCallTest, UnhashCall, unpackCallTest, unpackCall}
-
--- ---- the code of an answer that was found to be one or the other
-pub answer-accepted : (a : Answer) → a ≡ answer.Accepted → 0 ≡ answerCode a
-unfolding answerCode
-answer-accepted a e = rw e
-
-pub answer-refused : (a : Answer) (r : Refusal) → a ≡ answer.Refused r → refusalCode r ≡ answerCode a
-unfolding answerCode
-answer-refused a r e = rw e
-
-pub digest-accepted : (a : DigestAnswer) (d : Digest) → a ≡ Accepted d → 0 ≡ digestCode a
-unfolding digestCode
-digest-accepted a d e = rw e
-
-pub digest-refused : (a : DigestAnswer) (r : Refusal) → a ≡ Refused r → refusalCode r ≡ digestCode a
-unfolding digestCode
-digest-refused a r e = rw e
-
-pub tests-accepted : (a : TestsAnswer) (n : ℕ) → a ≡ tests.Accepted n → code 0 0 0 n ≡ testsCode a
-unfolding testsCode
-tests-accepted a n e = rw e
-
-pub tests-refused : (a : TestsAnswer) (r : Refusal) → a ≡ tests.Refused r → refusalCode r ≡ testsCode a
-unfolding testsCode
-tests-refused a r e = rw e
-
-pub state-accepted : (a : StateAnswer) (s : State) → a ≡ twelve.Accepted s → 0 ≡ stateCode a
-unfolding stateCode
-state-accepted a s e = rw e
-
-pub state-refused : (a : StateAnswer) (r : Refusal) → a ≡ twelve.Refused r → refusalCode r ≡ stateCode a
-unfolding stateCode
-state-refused a r e = rw e
-
--- ---- four words and their destination
-pub four-stores : (old : List ℕ) (a b c d : ℕ) → length old ≡ 4
-    → set (set (set (set old 0 a) 1 b) 2 c) 3 d ≡ a ∷ b ∷ c ∷ d ∷ []
-unfolding tab
-four-stores old a b c d e = ap (λ l. set (set (set (set l 0 a) 1 b) 2 c) 3 d) (sym (tab-cell 4 old e))
-
-pub handed-accepted : (a : DigestAnswer) (d : Digest) (old new : List ℕ) → a ≡ Accepted d → new ≡ digestWords d
-    → HandsOver a 0 old new
-handed-accepted a d old new e f = record { coded = digest-accepted a d e; output = rw e f }
-
-pub handed-refused : (a : DigestAnswer) (r : Refusal) (code : ℕ) (old : List ℕ) → a ≡ Refused r
-    → code ≡ refusalCode r → HandsOver a code old old
-handed-refused a r code old e f = record { coded = f ∙ digest-refused a r e; output = rw e }
-
-pub handed-as : (a b : DigestAnswer) (code : ℕ) (old new : List ℕ) → b ≡ a → HandsOver b code old new
-    → HandsOver a code old new
-handed-as a b code old new e t = rw e at t
-
--- ---- twelve words and theirs
-pub state-handed-accepted : (a : StateAnswer) (s : State) (old new : List ℕ) → a ≡ twelve.Accepted s
-    → new ≡ stateWords s → HandsOverState a 0 old new
-state-handed-accepted a s old new e f = record { coded = state-accepted a s e; output = rw e f }
-
-pub state-handed-refused : (a : StateAnswer) (r : Refusal) (code : ℕ) (old : List ℕ) → a ≡ twelve.Refused r
-    → code ≡ refusalCode r → HandsOverState a code old old
-state-handed-refused a r code old e f = record { coded = f ∙ state-refused a r e; output = rw e }
-
-pub state-handed-as : (a b : StateAnswer) (code : ℕ) (old new : List ℕ) → b ≡ a → HandsOverState b code old new
-    → HandsOverState a code old new
-state-handed-as a b code old new e t = rw e at t
 
 -- ---- tests t that can only refuse, as those of a call have become where its words find no room
 module _ (t called : Answer) (same : called ≡ t) (refuses : Refuses t) where
@@ -164,12 +96,12 @@ module _ (T w : List ℕ) (size : ℕ) where
   unfolding buildCallTest chainNoRoom
   build-short rows e = rw (ne-eqb size 4 e)
 
-module _ (T t claim : List ℕ) (n : ℕ) (new : List ℕ) (size : ℕ) where
-  pub edit-room : size ≡ 4 → editTest T t claim n new ≡ editCallTest T t claim n new size
+module _ (T t claim : List ℕ) (c n : ℕ) (new : List ℕ) (size : ℕ) where
+  pub edit-room : size ≡ 4 → editTest T t claim c n new ≡ editCallTest T t claim c n new size
   unfolding editTest editCallTest
   edit-room e = rw (eq-eqb size 4 e)
 
-  pub edit-short : (size ≡ 4 → ⊥) → editCallTest T t claim n new size ≡ editNoRoom T t n
+  pub edit-short : (size ≡ 4 → ⊥) → editCallTest T t claim c n new size ≡ editNoRoom T t c n
   unfolding editCallTest editNoRoom
   edit-short e = rw (ne-eqb size 4 e)
 
@@ -190,17 +122,14 @@ chain-no-room-refuses T w = go (tableTest T) (isTapLength mostBatches (length w)
     go answer.Accepted true = (DestinationLength, refl)
     go answer.Accepted false = (TapLength, refl)
 
-pub edit-no-room-refuses : (T t : List ℕ) (n : ℕ) → Refuses (editNoRoom T t n)
+pub edit-no-room-refuses : (T t : List ℕ) (c n : ℕ) → Refuses (editNoRoom T t c n)
 unfolding editNoRoom
-edit-no-room-refuses T t n =
-    go (tableTest T) (isTraceLength mostBatches (length t)) (leb n (3 * traceWordBatches (length t)))
+edit-no-room-refuses T t c n = go (openingTest T t c) (leb n (3 * traceWordBatches (length t)))
   where
-    go : (a : Answer) (b c : Bool)
-        → Refuses (after a (unless b TraceLength (unless c NoSuchTap (answer.Refused DestinationLength))))
-    go (answer.Refused r) b c = (r, refl)
-    go answer.Accepted true true = (DestinationLength, refl)
-    go answer.Accepted true false = (NoSuchTap, refl)
-    go answer.Accepted false c = (TraceLength, refl)
+    go : (a : Answer) (b : Bool) → Refuses (after a (unless b NoSuchTap (answer.Refused DestinationLength)))
+    go (answer.Refused r) b = (r, refl)
+    go answer.Accepted true = (DestinationLength, refl)
+    go answer.Accepted false = (NoSuchTap, refl)
 
 module _ (file : List ℕ) (taps size : ℕ) where
   pub unpack-room : size ≡ 4 → unpackTest file taps ≡ unpackCallTest file taps size
@@ -254,19 +183,19 @@ module _ (size : ℕ) (four : size ≡ 4) where
   build-left T w old =
       ap (λ t. leaves t (trace T w (tapWordBatches (length w))) old) (build-room T w size (length old) four)
 
-  pub edit-answer : (T t claim : List ℕ) (n : ℕ) (new : List ℕ)
-      → editAnswer T t claim n new ≡ editCall T t claim n new size
+  pub edit-answer : (T t claim : List ℕ) (c n : ℕ) (new : List ℕ)
+      → editAnswer T t claim c n new ≡ editCall T t claim c n new size
   unfolding editAnswer editCall
-  edit-answer T t claim n new =
-      ap (λ a. digestAfter a (digest (chain T (alteredTaps T t n new) (traceWordBatches (length t)))))
-      (edit-room T t claim n new size four)
+  edit-answer T t claim c n new =
+      ap (λ a. digestAfter a (digest (chain T (firstTaps c (alteredTaps T t n new)) c)))
+      (edit-room T t claim c n new size four)
 
-  pub edit-left : (T t claim : List ℕ) (n : ℕ) (new : List ℕ) → editLeaves T t claim n new
-      ≡ leaves (editCallTest T t claim n new size) (trace T (alteredTaps T t n new) (traceWordBatches (length t))) t
+  pub edit-left : (T t claim : List ℕ) (c n : ℕ) (new : List ℕ) → editLeaves T t claim c n new
+      ≡ leaves (editCallTest T t claim c n new size) (trace T (alteredTaps T t n new) (traceWordBatches (length t))) t
   unfolding editLeaves
-  edit-left T t claim n new =
+  edit-left T t claim c n new =
       ap (λ a. leaves a (trace T (alteredTaps T t n new) (traceWordBatches (length t))) t)
-      (edit-room T t claim n new size four)
+      (edit-room T t claim c n new size four)
 
   pub unpack-answer : (file : List ℕ) (taps : ℕ) → unpackAnswer file taps ≡ unpackCall file taps size
   unfolding unpackAnswer unpackCall

@@ -5,6 +5,7 @@
 use mathlib.Core.Path.{_≡_, subst}
 use mathlib.Core.Bool.{Bool, true, false, _&&_}
 use mathlib.Core.List.{List}
+use mathlib.Core.Logic.{_⊎_}
 use Prim.Native.Nat.{ℕ, zero, suc, _+_, _*_, _<_, _≤_}
 use native.Mathlib.Omega.{arith}
 use borrow.Author.Tests.{eqb-true, eqb-false, leb-true}
@@ -20,7 +21,7 @@ use Rattle.refusals.specs.declared.Refusal.{Refusal}
 use Rattle.refusals.specs.declared.Refusal.the-variants.{TableLength, TableWord, NoInverse, WrongInverse, TapLength}
 use Rattle.refusals.specs.declared.Refusal.the-variants.{TapWord, TraceLength, DestinationLength, ClaimWord, TraceWord}
 use Rattle.refusals.specs.declared.Refusal.the-variants.{Constraint, FileLength, WrongKind, WrongValue, NoSuchTap}
-use Rattle.refusals.specs.declared.Refusal.the-variants.{NoPair}
+use Rattle.refusals.specs.declared.Refusal.the-variants.{NoPair, ClaimBatches}
 use Rattle.refusals.specs.declared.Answer.{Answer}
 use Rattle.refusals.specs.declared.Answer.the-variants.{Accepted}
 use Rattle.refusals.specs.Answers.{unless, after}
@@ -29,11 +30,12 @@ use Rattle.table.specs.Table.{tableTest, rawTest, Prepares, accepts, no-inverse
 use Rattle.table.proofs.Theorems as table
 use Rattle.hash.specs.Answers.{hashTest, chainTest}
 use Rattle.trace.specs.Answers.{buildTest}
-use Rattle.constraints.specs.Constraints.{tests, walk, constraintTest}
+use Rattle.constraints.specs.Constraints.{between, tests, walk, constraintTest}
 use Rattle.constraints.specs.FirstFailing.{IsFirstFailing}
+use Rattle.constraints.proofs.Families.{outside}
 use Rattle.constraints.proofs.WalkLaws.{Ends, passes, stops, walk-ends}
-use Rattle.checker.specs.Answers.{checkTest}
-use Rattle.checker.proofs.Answers.{CheckInputs}
+use Rattle.checker.specs.Answers.{openingTest, traceTest, checkTest}
+use Rattle.checker.proofs.Answers.{Opened, CheckInputs, opened}
 use Rattle.readoff.specs.Answers.{readOffTest}
 use Rattle.edit.specs.Answers.{editTest}
 use Rattle.unhash.specs.Unhash.{inputBefore, endsInZeros}
@@ -155,9 +157,12 @@ module _ (Q : Refusal → Type 0) (causes : TableCauses Q) where
         after-ends Q (tableTest T) _ (table-ends T) λ e.
         room-ends q8 (eqb size 4 && eqb rows (384 * tapWordBatches (length w)))
 
-  -- ---- Check: 1, 2, 4, 7, 9, 10, 11; Read-off: 1, 2, 4, 7, 8, 9, 10, 11; and Edit: 1, 2, 4, 7, 15, 9, 10, 6, 11, from
-  -- another language 1, 2, 4, 7, 15, 8, 9, 10, 6, 11. What is to be shown of 11 may use all that was tested before it
-  module _ (T t claim : List ℕ) (q7 : Q TraceLength) (q9 : (i : ℕ) → i < length claim → Q (ClaimWord i))
+  -- ---- Check: 1, 2, 4, 7, 17, 9, 10, 11; Read-off: 1, 2, 4, 7, 17, 8, 9, 10, 11; and Edit: 1, 2, 4, 7, 17, 15, 9,
+  -- 10, 6, 11, from another language 1, 2, 4, 7, 17, 15, 8, 9, 10, 6, 11. What is to be shown of 17 and of 11 may use
+  -- all that was tested before
+  module _ (T t claim : List ℕ) (c : ℕ) (q7 : Q TraceLength)
+      (q17 : (k : ℕ) → tableTest T ≡ Accepted → IsPermitted k → length t ≡ 384 * k → (c ≡ 0) ⊎ (k < c) → Q ClaimBatches)
+      (q9 : (i : ℕ) → i < length claim → Q (ClaimWord i))
       (q10 : (k : ℕ) → length t ≡ 384 * k → IsPermitted k → (i : ℕ) → i < length t → Q (TraceWord i)) where
     -- the batches of a trace whose length passes
     abbrev k : ℕ
@@ -165,84 +170,82 @@ module _ (Q : Refusal → Type 0) (causes : TableCauses Q) where
 
     -- what is left to be shown of 11
     abbrev Eleven : Type 0
-    Eleven = (i c n : ℕ) → IsFirstFailing T t claim (tests k) i c n → Q (Constraint (record { 0 = i }) c n)
+    Eleven = (i q n : ℕ) → IsFirstFailing T t claim (tests k c) i q n → Q (Constraint (record { 0 = i }) q n)
 
-    constraints-end : Eleven → AnswerEnds Q (constraintTest T t claim k)
+    constraints-end : Eleven → AnswerEnds Q (constraintTest T t claim c k)
     unfolding constraintTest
-    constraints-end q11 = go (walk T t claim (tests k) 0) (walk-ends T t claim (tests k) 0)
+    constraints-end q11 = go (walk T t claim (tests k c) 0) (walk-ends T t claim (tests k c) 0)
       where
-        go : (a : Answer) → Ends T t claim (tests k) 0 a → AnswerEnds Q a
+        go : (a : Answer) → Ends T t claim (tests k c) 0 a → AnswerEnds Q a
         go a (passes h) = tt
-        go a (stops i c place f m e) =
+        go a (stops i q place f m e) =
             let n : place ≡ m = omega arith in
-            subst (λ x. Q (Constraint (record { 0 = i }) c x)) n (q11 i c place f)
+            subst (λ x. Q (Constraint (record { 0 = i }) q x)) n (q11 i q place f)
 
-    -- what the tests of the table and of the trace's length leave
-    abbrev Begun : Type 0
-    Begun = (tableTest T ≡ Accepted) × (length t ≡ 384 * k) × IsPermitted k
-
-    trace-ends : (rest : Answer) → (Begun → AnswerEnds Q rest)
-        → AnswerEnds Q (after (tableTest T) (unless (isTraceLength mostBatches (length t)) TraceLength rest))
-    trace-ends rest n =
+    -- the tests of the table, of the trace's length and of c
+    opening-ends : AnswerEnds Q (openingTest T t c)
+    unfolding openingTest
+    opening-ends =
         after-ends Q (tableTest T) _ (table-ends T) λ e.
-        unless-ends Q (isTraceLength mostBatches (length t)) TraceLength rest (λ f. q7) λ f.
+        unless-ends Q (isTraceLength mostBatches (length t)) TraceLength _ (λ f. q7) λ f.
         let s = trace-length-sound mostBatches (length t) f in
-        n (e, s .0, s .1)
+        unless-ends Q (between 1 k c) ClaimBatches Accepted (λ g. q17 k e (s .1) (s .0) (outside k c g)) λ g. tt
+
+    opened-ends : (rest : Answer) → (Opened T t c k → AnswerEnds Q rest) → AnswerEnds Q (after (openingTest T t c) rest)
+    opened-ends rest n = after-ends Q (openingTest T t c) rest opening-ends (λ e. n (opened T t c e))
 
     -- then the words of the claim and of the trace
-    judged-end : Begun → (rest : Answer) → (CheckInputs T t claim k → AnswerEnds Q rest)
+    judged-end : Opened T t c k → (rest : Answer) → (CheckInputs T t claim c k → AnswerEnds Q rest)
         → AnswerEnds Q (unless (canonicalWords claim) (ClaimWord (firstBad claim))
         (unless (canonicalWords t) (TraceWord (firstBad t)) rest))
-    judged-end b rest r =
+    judged-end o rest r =
         unless-ends Q (canonicalWords claim) (ClaimWord (firstBad claim)) _
         (λ e. q9 (firstBad claim) (bad-test claim e)) λ e.
         unless-ends Q (canonicalWords t) (TraceWord (firstBad t)) rest
-        (λ f. q10 k (b .1) (b .2) (firstBad t) (bad-test t f)) λ f.
-        r (record {
-          table = table.test-sound T (b .0);
-          permitted = b .2;
-          size = b .1;
-          claim-canonical = good-test claim e;
-          canonical = good-test t f;
-        })
+        (λ f. q10 k (o .size) (o .permitted) (firstBad t) (bad-test t f)) λ f.
+        r (record { opening = o; claim-canonical = good-test claim e; canonical = good-test t f })
 
-    pub check-ends : (CheckInputs T t claim k → Eleven) → AnswerEnds Q (checkTest T t claim)
+    trace-ends : Opened T t c k → (CheckInputs T t claim c k → Eleven) → AnswerEnds Q (traceTest T t claim c k)
+    unfolding traceTest
+    trace-ends o q11 = judged-end o _ λ i. constraints-end (q11 i)
+
+    pub check-ends : (CheckInputs T t claim c k → Eleven) → AnswerEnds Q (checkTest T t claim c)
     unfolding checkTest
-    check-ends q11 = trace-ends _ λ b. judged-end b _ λ i. constraints-end (q11 i)
+    check-ends q11 = opened-ends _ λ o. trace-ends o q11
 
-    pub read-off-ends : (size : ℕ) → Q DestinationLength → (size ≡ 12 * k + 4 → CheckInputs T t claim k → Eleven)
-        → AnswerEnds Q (readOffTest T t claim size)
+    pub read-off-ends : (size : ℕ) → Q DestinationLength → (size ≡ 12 * k + 4 → CheckInputs T t claim c k → Eleven)
+        → AnswerEnds Q (readOffTest T t claim c size)
     unfolding readOffTest
     read-off-ends size q8 q11 =
-        trace-ends _ λ b.
+        opened-ends _ λ o.
         unless-ends Q (eqb size (12 * k + 4)) DestinationLength _ (λ g. q8) λ g.
-        judged-end b _ λ i. constraints-end (q11 (eqb-true size (12 * k + 4) g) i)
+        trace-ends o (q11 (eqb-true size (12 * k + 4) g))
 
     -- n is the number of the tap, new the new one
     module _ (n : ℕ) (new : List ℕ) (q15 : Q NoSuchTap) (q6 : (i : ℕ) → i < length new → Q (TapWord i)) where
-      edited-end : Begun → (AllCanonical new → CheckInputs T t claim k → Eleven)
+      edited-end : Opened T t c k → (AllCanonical new → CheckInputs T t claim c k → Eleven)
           → AnswerEnds Q (unless (canonicalWords claim) (ClaimWord (firstBad claim))
           (unless (canonicalWords t) (TraceWord (firstBad t))
           (unless (canonicalWords new) (TapWord (firstBad new))
-          (constraintTest T t claim k))))
-      edited-end b q11 = judged-end b _ λ i. words-end T new q6 _ λ c. constraints-end (q11 c i)
+          (constraintTest T t claim c k))))
+      edited-end o q11 = judged-end o _ λ i. words-end T new q6 _ λ a. constraints-end (q11 a i)
 
-      pub edit-ends : (n ≤ 3 * k → AllCanonical new → CheckInputs T t claim k → Eleven)
-          → AnswerEnds Q (editTest T t claim n new)
+      pub edit-ends : (n ≤ 3 * k → AllCanonical new → CheckInputs T t claim c k → Eleven)
+          → AnswerEnds Q (editTest T t claim c n new)
       unfolding editTest
       edit-ends q11 =
-          trace-ends _ λ b.
-          unless-ends Q (leb n (3 * k)) NoSuchTap _ (λ g. q15) λ g. edited-end b (q11 (leb-true n (3 * k) g))
+          opened-ends _ λ o.
+          unless-ends Q (leb n (3 * k)) NoSuchTap _ (λ g. q15) λ g. edited-end o (q11 (leb-true n (3 * k) g))
 
       pub edit-call-ends : (size : ℕ) → Q DestinationLength
-          → (size ≡ 4 → n ≤ 3 * k → AllCanonical new → CheckInputs T t claim k → Eleven)
-          → AnswerEnds Q (editCallTest T t claim n new size)
+          → (size ≡ 4 → n ≤ 3 * k → AllCanonical new → CheckInputs T t claim c k → Eleven)
+          → AnswerEnds Q (editCallTest T t claim c n new size)
       unfolding editCallTest
       edit-call-ends size q8 q11 =
-          trace-ends _ λ b.
+          opened-ends _ λ o.
           unless-ends Q (leb n (3 * k)) NoSuchTap _ (λ g. q15) λ g.
           unless-ends Q (eqb size 4) DestinationLength _ (λ h. q8) λ h.
-          edited-end b (q11 (eqb-true size 4 h) (leb-true n (3 * k) g))
+          edited-end o (q11 (eqb-true size 4 h) (leb-true n (3 * k) g))
 
 -- ---- Pack: 5, 8, 9, 6
 pub pack-ends : (Q : Refusal → Type 0) (taps claim : List ℕ) (size : ℕ) → Q TapLength → Q DestinationLength

@@ -1,4 +1,3 @@
 pub mod Answers
-pub mod Bits
 pub mod Endings
 pub mod Theorems

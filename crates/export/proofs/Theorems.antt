@@ -2,7 +2,8 @@
 -- Assumes nothing.
 use mathlib.Core.Path.{_≡_, sym, ap, subst, _∙_}
 use mathlib.Core.List.{List, _∷_, List·Memᴰ}
-use Prim.Native.Nat.{ℕ, _+_, _*_, _^_, _<_}
+use mathlib.Core.Logic.{_⊎_}
+use Prim.Native.Nat.{ℕ, _+_, _*_, _^_, _≤_, _<_}
 use native.Mathlib.Omega.{arith}
 use lib.Dec.{lit<}
 use lib.ListN.{length, length-append}
@@ -14,15 +15,16 @@ use Rattle.constraints.proofs.Families.{applies-cases}
 use Rattle.constraints.proofs.TestList.{in-middle, number-range, test-list}
 use Rattle.constraints.proofs.TestCount.{length-tests}
 use Rattle.refusals.specs.declared.Answer.{Answer}
+use Rattle.refusals.specs.declared.Answer.the-variants.{Accepted}
 use Rattle.refusals.proofs.Laws.{AnswerEnds}
-use Rattle.table.specs.Table.{Prepares}
+use Rattle.table.specs.Table.{tableTest, Prepares}
 use Rattle.checker.specs.Answers.{checkTest}
 use Rattle.checker.proofs.Answers.{CheckInputs}
 use Rattle.readoff.specs.Answers.{readOffTest}
 use Rattle.board.specs.Board.{packTest, batchesIn}
 use Rattle.export.specs.Calls.{hashCallTest, chainCallTest, buildCallTest, editCallTest, unhashCallTest}
 use Rattle.export.specs.Calls.{unpackCallTest}
-use Rattle.export.proofs.Bits.{InBits, RefusalInBits}
+use Rattle.handover.proofs.Bits.{InBits, RefusalInBits}
 use Rattle.export.proofs.Endings as ends
 use Rattle.export.proofs.Endings.{TableCauses}
 
@@ -41,6 +43,11 @@ seven = alone-bits 7 (lit< tt)
 
 eight : InBits (alone 8)
 eight = alone-bits 8 (lit< tt)
+
+-- 17, whatever is known where it is said
+out-of-range : (T t : List ℕ) (c k : ℕ) → tableTest T ≡ Accepted → IsPermitted k → length t ≡ 384 * k
+    → (c ≡ 0) ⊎ (k < c) → InBits (alone 17)
+out-of-range T t c k e p s o = alone-bits 17 (lit< tt)
 
 indexed-bits : (n i : ℕ) → n < 2 ^ 6 → i < 2 ^ 28 → InBits (indexed n i)
 indexed-bits n i h l = record { number = h; constraint = lit< tt; row = lit< tt; value = l }
@@ -68,21 +75,22 @@ unfolding batchesIn
 file-bits file n j l h = indexed-bits n j l (omega arith)
 
 -- row, constraint and place of a failing test
-failing-bits : (T t claim : List ℕ) (k : ℕ) → IsPermitted k → (i c n : ℕ) → IsFirstFailing T t claim (tests k) i c n
-    → InBits (record { number = 11; values = 3; row = i; constraint = c; value = n })
-failing-bits T t claim k p i c n f =
+failing-bits : (T t claim : List ℕ) (c k : ℕ) → IsPermitted k → 1 ≤ c → c ≤ k → (i q n : ℕ)
+    → IsFirstFailing T t claim (tests k c) i q n
+    → InBits (record { number = 11; values = 3; row = i; constraint = q; value = n })
+failing-bits T t claim c k p low high i q n f =
     let among = in-middle x (f .before) (f .after) in
-    let in-list = test-list k x .0 (subst (List·Memᴰ x) (sym (f .order)) among) in
+    let in-list = test-list k c x .0 (subst (List·Memᴰ x) (sym (f .order)) among) in
     let count = ap length (f .order) ∙ length-append (f .before) (x ∷ f .after) in
     record {
       number = lit< tt;
-      constraint = omega (arith, number-range k i c (applies-cases k i c (in-list .1)) .1);
+      constraint = omega (arith, number-range k c i q (applies-cases k c i q (in-list .1)) .1);
       row = omega (arith, in-list .0, p .high);
-      value = omega (arith, f .place, count, length-tests k, p .high);
+      value = omega (arith, f .place, count, length-tests k c low high, p .high);
     }
   where
     x : Test
-    x = record { at = i; number = c }
+    x = record { at = i; number = q }
 
 -- ---- so nothing of an answer is lost
 pub prepare-bits : (raw old new : List ℕ) (a : Answer) → Prepares raw old a new → AnswerEnds RefusalInBits a
@@ -106,30 +114,35 @@ chain-bits T w size = ends.chain-call-ends RefusalInBits table-bits T w five (ta
 pub build-bits : (T w : List ℕ) (rows size : ℕ) → AnswerEnds RefusalInBits (buildCallTest T w rows size)
 build-bits T w rows size = ends.build-call-ends RefusalInBits table-bits T w five (taps-bits w) rows size eight
 
-module _ (T t claim : List ℕ) (four : length claim ≡ 4) where
+module _ (T t claim : List ℕ) (c : ℕ) (four : length claim ≡ 4) where
   failing : let k = traceWordBatches (length t) in
-      CheckInputs T t claim k → (i c n : ℕ) → IsFirstFailing T t claim (tests k) i c n
-      → InBits (record { number = 11; values = 3; row = i; constraint = c; value = n })
-  failing h = failing-bits T t claim (traceWordBatches (length t)) (h .permitted)
+      CheckInputs T t claim c k → (i q n : ℕ) → IsFirstFailing T t claim (tests k c) i q n
+      → InBits (record { number = 11; values = 3; row = i; constraint = q; value = n })
+  failing h =
+      let o = h .opening in
+      failing-bits T t claim c (traceWordBatches (length t)) (o .permitted) (o .low) (o .high)
 
-  pub check-bits : AnswerEnds RefusalInBits (checkTest T t claim)
+  pub check-bits : AnswerEnds RefusalInBits (checkTest T t claim c)
   check-bits =
-      ends.check-ends RefusalInBits table-bits T t claim seven (claim-bits claim four) (trace-bits t) failing
+      ends.check-ends RefusalInBits table-bits T t claim c seven (out-of-range T t c)
+      (claim-bits claim four) (trace-bits t) failing
 
-  pub read-off-bits : (size : ℕ) → AnswerEnds RefusalInBits (readOffTest T t claim size)
+  pub read-off-bits : (size : ℕ) → AnswerEnds RefusalInBits (readOffTest T t claim c size)
   read-off-bits size =
-      ends.read-off-ends RefusalInBits table-bits T t claim seven (claim-bits claim four) (trace-bits t) size eight
-      (λ s. failing)
+      ends.read-off-ends RefusalInBits table-bits T t claim c seven (out-of-range T t c)
+      (claim-bits claim four) (trace-bits t)
+      size eight (λ s. failing)
 
   pub edit-bits : (n : ℕ) (new : List ℕ) (size : ℕ) → length new ≡ 4
-      → AnswerEnds RefusalInBits (editCallTest T t claim n new size)
+      → AnswerEnds RefusalInBits (editCallTest T t claim c n new size)
   edit-bits n new size h =
-      ends.edit-call-ends RefusalInBits table-bits T t claim seven (claim-bits claim four) (trace-bits t) n new
-      (alone-bits 15 (lit< tt)) (λ i l. indexed-bits 6 i (lit< tt) (omega arith)) size eight (λ s l c. failing)
+      ends.edit-call-ends RefusalInBits table-bits T t claim c seven (out-of-range T t c)
+      (claim-bits claim four) (trace-bits t)
+      n new (alone-bits 15 (lit< tt)) (λ i l. indexed-bits 6 i (lit< tt) (omega arith)) size eight (λ s l a. failing)
 
 -- 372 × k tests, of an acceptance
-pub tests-bits : (k : ℕ) → IsPermitted k → length (tests k) < 2 ^ 28
-tests-bits k p = omega (arith, length-tests k, p .high)
+pub tests-bits : (k c : ℕ) → IsPermitted k → 1 ≤ c → c ≤ k → length (tests k c) < 2 ^ 28
+tests-bits k c p low high = omega (arith, length-tests k c low high, p .high)
 
 pub pack-bits : (taps claim : List ℕ) (size : ℕ) → length claim ≡ 4
     → AnswerEnds RefusalInBits (packTest taps claim size)

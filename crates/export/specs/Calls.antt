@@ -1,8 +1,9 @@
 -- What each call from another language answers and leaves (document 01, "What is turned back", and document 02, for
--- Edit U1, for Unhash U5, for the order of the refusals). Four words that are returned, Hash's twelve (document 02, U3)
--- and Unhash's eight go to a destination like any other; size is its length, and one other than 4, for Hash than 12,
--- for Unhash than 8, is refused with 8, where 8 stands in the order. T is the lent table, w a list of taps, t a trace,
--- n the number of a tap and new the new one, s a state.
+-- Edit U1, for Unhash U5, for c U6, for the order of the refusals). Four words that are returned, Hash's twelve
+-- (document 02, U3) and Unhash's eight go to a destination like any other; size is its length, and one other than 4,
+-- for Hash than 12, for Unhash than 8, is refused with 8, where 8 stands in the order. T is the lent table, w a list of
+-- taps, t a trace, c the number of batches that is lent with a claim, n the number of a tap and new the new one, s a
+-- state.
 -- Assumes nothing.
 use mathlib.Core.Bool.{_&&_}
 use mathlib.Core.List.{List}
@@ -12,55 +13,33 @@ use lib.Dec.{eqb, leb}
 use lib.ListN.{length, take, drop}
 use Rattle.words.specs.Words.{firstBad, canonicalWords}
 use Rattle.numbers.specs.Numbers.{width, tapWords, traceWords, mostBatches, isTapLength, tapWordBatches}
-use Rattle.numbers.specs.Numbers.{isTraceLength, traceWordBatches}
-use Rattle.refusals.specs.Refusals.{digest, digestWords, state, stateWords}
+use Rattle.numbers.specs.Numbers.{traceWordBatches}
+use Rattle.refusals.specs.Refusals.{digest, state}
 use Rattle.refusals.specs.Answers.{unless, after, digestAfter, stateAfter, leaves}
-use Rattle.refusals.specs.declared.Refusal.the-variants.{TapLength, TapWord, TraceLength, DestinationLength, ClaimWord}
+use Rattle.refusals.specs.declared.Refusal.the-variants.{TapLength, TapWord, DestinationLength, ClaimWord}
 use Rattle.refusals.specs.declared.Refusal.the-variants.{TraceWord, FileLength, NoSuchTap, NoPair}
 use Rattle.refusals.specs.declared.Answer.{Answer}
 use Rattle.refusals.specs.declared.Answer.the-variants as answer
 use Rattle.refusals.specs.declared.DigestAnswer.{DigestAnswer}
-use Rattle.refusals.specs.declared.DigestAnswer.the-variants as four
 use Rattle.refusals.specs.declared.StateAnswer.{StateAnswer}
-use Rattle.refusals.specs.declared.StateAnswer.the-variants as twelve
 use Rattle.table.specs.Table.{tableTest, Prepares}
-use Rattle.hash.specs.Hash.{finalState, input, chain}
+use Rattle.hash.specs.Hash.{finalState, input, chain, firstTaps}
 use Rattle.trace.specs.Trace.{trace}
 use Rattle.constraints.specs.Constraints.{constraintTest}
+use Rattle.checker.specs.Answers.{openingTest}
 use Rattle.readoff.specs.Answers.{readOffAnswer, readOffLeaves}
 use Rattle.edit.specs.Answers.{alteredTaps}
 use Rattle.unhash.specs.Unhash.{inputBefore, tapsBefore, endsInZeros}
 use Rattle.elements.specs.Words.{wordAt}
 use Rattle.elements.specs.Elements.{elementsTest}
 use Rattle.board.specs.Board.{fileSize, elementCount, packTest, packLeaves, batchesIn, claimIn, tapsIn, countTest}
-use Rattle.export.specs.Code.{answerCode, digestCode, stateCode, testsCode}
+use Rattle.handover.specs.Code.{answerCode, testsCode}
+use Rattle.handover.specs.HandsOver.{HandsOver}
 
 -- ---- the number of these calls: raised where a call that there was takes other parameters or lengths
 
 abbrev pub interface : ℕ
-interface = 2
-
--- ---- four words, and their destination
-
--- the words of an accepted answer, or what was there
-abbrev pub written : DigestAnswer → List ℕ → List ℕ
-written (four.Accepted d) old = digestWords d
-written (four.Refused r) old = old
-
--- the code that is returned for the answer, and what the destination of its four words holds then
-pub record HandsOver (answer : DigestAnswer) (code : ℕ) (old new : List ℕ) : Type 0 where
-  pub coded : code ≡ digestCode answer
-  pub output : new ≡ written answer old
-
--- ---- the same for twelve words
-
-abbrev pub writtenState : StateAnswer → List ℕ → List ℕ
-writtenState (twelve.Accepted s) old = stateWords s
-writtenState (twelve.Refused r) old = old
-
-pub record HandsOverState (answer : StateAnswer) (code : ℕ) (old new : List ℕ) : Type 0 where
-  pub coded : code ≡ stateCode answer
-  pub output : new ≡ writtenState answer old
+interface = 3
 
 -- ---- the calls
 
@@ -121,40 +100,38 @@ pub record BuildCall (T w : List ℕ) (code : ℕ) (old new output output′ : L
   pub four : HandsOver (buildCall T w (length old) (length output)) code output output′
   pub rows : new ≡ leaves (buildCallTest T w (length old) (length output)) (trace T w (tapWordBatches (length w))) old
 
--- Read-off: 1, 2, 4, 7, 8, 9, 10, 11
-pub record ReadOffCall (T t claim : List ℕ) (code : ℕ) (taps taps′ : List ℕ) : Type 0 where
-  pub coded : code ≡ testsCode (readOffAnswer T t claim (length taps))
-  pub list : taps′ ≡ readOffLeaves T t claim taps
+-- Read-off: 1, 2, 4, 7, 17, 8, 9, 10, 11
+pub record ReadOffCall (T t claim : List ℕ) (c code : ℕ) (taps taps′ : List ℕ) : Type 0 where
+  pub coded : code ≡ testsCode (readOffAnswer T t claim c (length taps))
+  pub list : taps′ ≡ readOffLeaves T t claim c taps
 
--- Edit: 1, 2, 4, 7, 15, 8, 9, 10, 6, 11
-unfoldable pub editCallTest : List ℕ → List ℕ → List ℕ → ℕ → List ℕ → ℕ → Answer
-editCallTest T t claim n new size =
-    after (tableTest T)
-    (unless (isTraceLength mostBatches (length t)) TraceLength
+-- Edit: 1, 2, 4, 7, 17, 15, 8, 9, 10, 6, 11
+unfoldable pub editCallTest : List ℕ → List ℕ → List ℕ → ℕ → ℕ → List ℕ → ℕ → Answer
+editCallTest T t claim c n new size =
+    after (openingTest T t c)
     (unless (leb n (3 * traceWordBatches (length t))) NoSuchTap
     (unless (eqb size 4) DestinationLength
     (unless (canonicalWords claim) (ClaimWord (firstBad claim))
     (unless (canonicalWords t) (TraceWord (firstBad t))
     (unless (canonicalWords new) (TapWord (firstBad new))
-    (constraintTest T t claim (traceWordBatches (length t)))))))))
+    (constraintTest T t claim c (traceWordBatches (length t))))))))
 
 -- what is left of it where the four words find no room
-unfoldable pub editNoRoom : List ℕ → List ℕ → ℕ → Answer
-editNoRoom T t n =
-    after (tableTest T)
-    (unless (isTraceLength mostBatches (length t)) TraceLength
+unfoldable pub editNoRoom : List ℕ → List ℕ → ℕ → ℕ → Answer
+editNoRoom T t c n =
+    after (openingTest T t c)
     (unless (leb n (3 * traceWordBatches (length t))) NoSuchTap
-    (answer.Refused DestinationLength)))
+    (answer.Refused DestinationLength))
 
-unfoldable pub editCall : List ℕ → List ℕ → List ℕ → ℕ → List ℕ → ℕ → DigestAnswer
-editCall T t claim n new size =
-    digestAfter (editCallTest T t claim n new size)
-    (digest (chain T (alteredTaps T t n new) (traceWordBatches (length t))))
+unfoldable pub editCall : List ℕ → List ℕ → List ℕ → ℕ → ℕ → List ℕ → ℕ → DigestAnswer
+editCall T t claim c n new size =
+    digestAfter (editCallTest T t claim c n new size) (digest (chain T (firstTaps c (alteredTaps T t n new)) c))
 
 -- the trace t is lent to be altered, and t′ is what it is afterwards
-pub record EditCall (T t claim : List ℕ) (n : ℕ) (new : List ℕ) (code : ℕ) (t′ output output′ : List ℕ) : Type 0 where
-  pub four : HandsOver (editCall T t claim n new (length output)) code output output′
-  pub rows : t′ ≡ leaves (editCallTest T t claim n new (length output))
+pub record EditCall (T t claim : List ℕ) (c n : ℕ) (new : List ℕ) (code : ℕ) (t′ output output′ : List ℕ)
+    : Type 0 where
+  pub four : HandsOver (editCall T t claim c n new (length output)) code output output′
+  pub rows : t′ ≡ leaves (editCallTest T t claim c n new (length output))
       (trace T (alteredTaps T t n new) (traceWordBatches (length t))) t
 
 -- Unhash: 1, 2, 4, 8, 6, 16

@@ -1,130 +1,26 @@
-// The library for other languages: each operation over numbers and slices, its answer in one returned number
-// (specs/Code.antt). A slice is passed as a pointer and a length. A refusal alters no lent buffer here either.
+// The library for other languages: each operation over numbers and slices, its answer in one returned number (crate
+// `handover`). A slice is passed as a pointer and a length. A refusal alters no lent buffer here either.
 ghost use mathlib.Core.Path.{_≡_};
 ghost use mathlib.Core.List.{[], _∷_};
 ghost use lib.ListN.{length};
-ghost use Rattle.numbers.specs.Numbers.{width};
-ghost use Rattle.refusals.specs.Refusals.{digestWords, pairWords};
 ghost use Rattle.checker.specs.Answers.{checkAnswer};
-ghost use Rattle.export.specs.Code.{code, refusalCode, answerCode, digestCode, testsCode};
-ghost use Rattle.export.specs.Calls.{interface, HandsOver, HandsOverState, PrepareCall, hashNoRoom, hashCall};
-ghost use Rattle.export.specs.Calls.{chainNoRoom, chainCall, BuildCall, ReadOffCall, editNoRoom, EditCall};
-ghost use Rattle.export.specs.Calls.{UnhashCall, PackCall, UnpackCall};
+ghost use Rattle.handover.specs.Code.{testsCode};
+ghost use Rattle.handover.specs.HandsOver.{HandsOver, HandsOverState};
+ghost use Rattle.export.specs.Calls.{interface, PrepareCall, hashNoRoom, hashCall, chainNoRoom, chainCall};
+ghost use Rattle.export.specs.Calls.{BuildCall, ReadOffCall, editNoRoom, EditCall, UnhashCall, PackCall};
+ghost use Rattle.export.specs.Calls.{UnpackCall};
+use numbers::BATCH_WORDS;
 use numbers::BatchCount;
 use numbers::MOST_BATCHES;
 use numbers::PAIR_WORDS;
-use numbers::TAP_WORDS;
 use numbers::TapNumber;
 use numbers::WIDTH;
 use refusals::Answer;
-use refusals::Digest;
-use refusals::DigestAnswer;
-use refusals::Pair;
 use refusals::PairAnswer;
 use refusals::Refusal;
-use refusals::StateAnswer;
-use refusals::TestsAnswer;
-
-// The parts of a code: 2^6 numbers and 2^6 constraints, 2^24 rows, 2^28 indices or tests, each above the ones before.
-const NUMBERS: u64 = 64;
-
-const CONSTRAINTS: u64 = 64;
-
-const ROWS: u64 = 16777216;
-
-const VALUES: u64 = 268435456;
-
-fn code(number: u64, constraint: u64, row: u64, value: u64) -> u64
-    ensures { λ r. ⌜ r ≡ code number constraint row value ⌝ }
-{
-    number % NUMBERS
-        + NUMBERS * (constraint % CONSTRAINTS)
-        + NUMBERS * CONSTRAINTS * (row % ROWS)
-        + NUMBERS * CONSTRAINTS * ROWS * (value % VALUES)
-}
-
-// The code of a refusal: its number, and what is returned with it.
-fn refusal_code(refusal: Refusal) -> u64
-    ensures { λ r. ⌜ r ≡ refusalCode refusal ⌝ }
-{
-    let told = refusals::told(refusal);
-    code(
-        told.number as u64,
-        told.constraint as u64,
-        told.row as u64,
-        told.value as u64,
-    )
-}
-
-// The code of an answer: 0 for acceptance, with the tests where the operation counts them.
-fn answer_code(answer: Answer) -> u64
-    ensures { λ r. ⌜ r ≡ answerCode answer ⌝ }
-{
-    match answer {
-        Answer::Accepted => 0,
-        Answer::Refused(r) => refusal_code(r),
-    }
-}
-
-fn digest_code(answer: DigestAnswer) -> u64
-    ensures { λ r. ⌜ r ≡ digestCode answer ⌝ }
-{
-    match answer {
-        DigestAnswer::Accepted(_) => 0,
-        DigestAnswer::Refused(r) => refusal_code(r),
-    }
-}
-
-fn tests_code(answer: TestsAnswer) -> u64
-    ensures { λ r. ⌜ r ≡ testsCode answer ⌝ }
-{
-    match answer {
-        TestsAnswer::Accepted(tests) => code(0, 0, 0, tests as u64),
-        TestsAnswer::Refused(r) => refusal_code(r),
-    }
-}
-
-// The four words into a part of four words.
-fn put_digest(part: &mut [u64], digest: Digest)
-    requires { ⌜ length (now part) ≡ 4 ⌝ }
-    ensures { λ r. ⌜ now (part .exit) ≡ digestWords digest ⌝ }
-{
-    part[0] = digest.0;
-    part[1] = digest.1;
-    part[2] = digest.2;
-    part[3] = digest.3;
-}
-
-// The code of the answer; the four words of an acceptance are written to the output.
-fn hand_over(answer: DigestAnswer, output: &mut [u64]) -> u64
-    requires { ⌜ length (now output) ≡ 4 ⌝ }
-    ensures { λ r. ⌜ HandsOver answer r (now (output .entry)) (now (output .exit)) ⌝ }
-{
-    match answer {
-        DigestAnswer::Accepted(digest) => {
-            put_digest(output, digest);
-            0
-        }
-        DigestAnswer::Refused(r) => refusal_code(r),
-    }
-}
-
-// The same for the twelve words of a state.
-fn hand_over_state(answer: StateAnswer, output: &mut [u64]) -> u64
-    requires { ⌜ length (now output) ≡ width ⌝ }
-    ensures { λ r. ⌜ HandsOverState answer r (now (output .entry)) (now (output .exit)) ⌝ }
-{
-    match answer {
-        StateAnswer::Accepted(state) => {
-            trace::put(output, state.cells());
-            0
-        }
-        StateAnswer::Refused(r) => refusal_code(r),
-    }
-}
 
 // Raised with LEMONCOLUMN_INTERFACE of include/lemoncolumn.h.
-const INTERFACE: u64 = 2;
+const INTERFACE: u64 = 3;
 
 // The number of these calls, which a caller compares with the one that it was compiled for before it makes any other.
 #[no_mangle]
@@ -139,7 +35,7 @@ pub extern "C" fn lemoncolumn_interface() -> u64
 pub extern "C" fn lemoncolumn_prepare(raw: &[u64], destination: &mut [u64]) -> u64
     ensures { λ r. ⌜ PrepareCall (now (raw .entry)) (now (destination .entry)) r (now (destination .exit)) ⌝ }
 {
-    answer_code(table::prepare(raw, destination))
+    handover::answer_code(table::prepare(raw, destination))
 }
 
 // What Hash and Unhash refuse where what they return finds no room: 1, 2, 4, 8.
@@ -172,9 +68,9 @@ pub extern "C" fn lemoncolumn_hash(
         (now (output .entry)) (now (output .exit)) ⌝ }
 {
     if output.len() != WIDTH {
-        return answer_code(hash_no_room(table));
+        return handover::answer_code(hash_no_room(table));
     }
-    hand_over_state(hash::hash(table, [w0, w1, w2, w3, w4, w5, w6, w7]), output)
+    handover::hand_over_state(hash::hash(table, [w0, w1, w2, w3, w4, w5, w6, w7]), output)
 }
 
 // What Chain and Build refuse where their output finds no room: 1, 2, 4, 5, 8.
@@ -198,9 +94,9 @@ pub extern "C" fn lemoncolumn_chain(table: &[u64], taps: &[u64], output: &mut [u
         (now (output .entry)) (now (output .exit)) ⌝ }
 {
     if output.len() != 4 {
-        return answer_code(chain_no_room(table, taps));
+        return handover::answer_code(chain_no_room(table, taps));
     }
-    hand_over(hash::chain(table, taps), output)
+    handover::hand_over(hash::chain(table, taps), output)
 }
 
 // Build: 1, 2, 4, 5, 8, 6.
@@ -215,12 +111,12 @@ pub extern "C" fn lemoncolumn_build(
         (now (output .entry)) (now (output .exit)) ⌝ }
 {
     if output.len() != 4 {
-        return answer_code(chain_no_room(table, taps));
+        return handover::answer_code(chain_no_room(table, taps));
     }
-    hand_over(trace::build(table, taps, trace), output)
+    handover::hand_over(trace::build(table, taps, trace), output)
 }
 
-// Check: 1, 2, 4, 7, 9, 10, 11.
+// Check: 1, 2, 4, 7, 17, 9, 10, 11.
 #[no_mangle]
 pub extern "C" fn lemoncolumn_check(
     table: &[u64],
@@ -229,13 +125,15 @@ pub extern "C" fn lemoncolumn_check(
     c1: u64,
     c2: u64,
     c3: u64,
+    c: usize,
 ) -> u64
-    ensures { λ r. ⌜ r ≡ testsCode (checkAnswer (now (table .entry)) (now (trace .entry)) (c0 ∷ c1 ∷ c2 ∷ c3 ∷ [])) ⌝ }
+    ensures { λ r. ⌜ r ≡ testsCode
+        (checkAnswer (now (table .entry)) (now (trace .entry)) (c0 ∷ c1 ∷ c2 ∷ c3 ∷ []) c) ⌝ }
 {
-    tests_code(checker::check(table, trace, [c0, c1, c2, c3]))
+    handover::tests_code(checker::check(table, trace, [c0, c1, c2, c3], c))
 }
 
-// Read-off: 1, 2, 4, 7, 8, 9, 10, 11.
+// Read-off: 1, 2, 4, 7, 17, 8, 9, 10, 11.
 #[no_mangle]
 pub extern "C" fn lemoncolumn_read_off(
     table: &[u64],
@@ -244,32 +142,30 @@ pub extern "C" fn lemoncolumn_read_off(
     c1: u64,
     c2: u64,
     c3: u64,
+    c: usize,
     taps: &mut [u64],
 ) -> u64
-    ensures { λ r. ⌜ ReadOffCall (now (table .entry)) (now (trace .entry)) (c0 ∷ c1 ∷ c2 ∷ c3 ∷ []) r
+    ensures { λ r. ⌜ ReadOffCall (now (table .entry)) (now (trace .entry)) (c0 ∷ c1 ∷ c2 ∷ c3 ∷ []) c r
         (now (taps .entry)) (now (taps .exit)) ⌝ }
 {
-    tests_code(readoff::read_off(table, trace, [c0, c1, c2, c3], taps))
+    handover::tests_code(readoff::read_off(table, trace, [c0, c1, c2, c3], c, taps))
 }
 
-// What Edit refuses where its output finds no room: 1, 2, 4, 7, 15, 8.
-fn edit_no_room(table: &[u64], trace: &[u64], tap: usize) -> Answer
-    ensures { λ r. ⌜ r ≡ editNoRoom (now (table .entry)) (now (trace .entry)) tap ⌝ }
+// What Edit refuses where its output finds no room: 1, 2, 4, 7, 17, 15, 8.
+fn edit_no_room(table: &[u64], trace: &[u64], c: usize, tap: usize) -> Answer
+    ensures { λ r. ⌜ r ≡ editNoRoom (now (table .entry)) (now (trace .entry)) c tap ⌝ }
 {
-    let of_table = table::test(table);
-    let Answer::Accepted = of_table else {
-        return of_table;
+    let opening = checker::test_opening(table, trace, c);
+    let Answer::Accepted = opening else {
+        return opening;
     };
-    let BatchCount::Permitted(k) = numbers::trace_batches(MOST_BATCHES, trace.len()) else {
-        return Answer::Refused(Refusal::TraceLength);
-    };
-    if 3 * k < tap {
+    if 3 * (trace.len() / BATCH_WORDS) < tap {
         return Answer::Refused(Refusal::NoSuchTap);
     }
     Answer::Refused(Refusal::DestinationLength)
 }
 
-// Edit: 1, 2, 4, 7, 15, 8, 9, 10, 6, 11.
+// Edit: 1, 2, 4, 7, 17, 15, 8, 9, 10, 6, 11.
 #[no_mangle]
 pub extern "C" fn lemoncolumn_edit(
     table: &[u64],
@@ -278,6 +174,7 @@ pub extern "C" fn lemoncolumn_edit(
     c1: u64,
     c2: u64,
     c3: u64,
+    c: usize,
     tap: usize,
     w0: u64,
     w1: u64,
@@ -285,31 +182,23 @@ pub extern "C" fn lemoncolumn_edit(
     w3: u64,
     output: &mut [u64],
 ) -> u64
-    ensures { λ r. ⌜ EditCall (now (table .entry)) (now (trace .entry)) (c0 ∷ c1 ∷ c2 ∷ c3 ∷ []) tap
+    ensures { λ r. ⌜ EditCall (now (table .entry)) (now (trace .entry)) (c0 ∷ c1 ∷ c2 ∷ c3 ∷ []) c tap
         (w0 ∷ w1 ∷ w2 ∷ w3 ∷ []) r (now (trace .exit)) (now (output .entry)) (now (output .exit)) ⌝ }
 {
     if output.len() != 4 {
-        return answer_code(edit_no_room(table, trace, tap));
+        return handover::answer_code(edit_no_room(table, trace, c, tap));
     }
-    hand_over(
+    handover::hand_over(
         edit::edit(
             table,
             trace,
             [c0, c1, c2, c3],
+            c,
             TapNumber(tap),
             [w0, w1, w2, w3],
         ),
         output,
     )
-}
-
-// The eight words into a destination of eight words, the first tap first.
-fn put_pair(destination: &mut [u64], pair: Pair)
-    requires { ⌜ length (now destination) ≡ 8 ⌝ }
-    ensures { λ r. ⌜ now (destination .exit) ≡ pairWords pair ⌝ }
-{
-    put_digest(&mut destination[0..TAP_WORDS], pair.first);
-    put_digest(&mut destination[TAP_WORDS..PAIR_WORDS], pair.second);
 }
 
 // Unhash: 1, 2, 4, 8, 6, 16.
@@ -335,14 +224,14 @@ pub extern "C" fn lemoncolumn_unhash(
         (now (pair .entry)) (now (pair .exit)) ⌝ }
 {
     if pair.len() != PAIR_WORDS {
-        return answer_code(hash_no_room(table));
+        return handover::answer_code(hash_no_room(table));
     }
     match unhash::unhash(table, [s0, s1, s2, s3, s4, s5, s6, s7, s8, s9, s10, s11]) {
         PairAnswer::Accepted(found) => {
-            put_pair(pair, found);
+            handover::put_pair(pair, found);
             0
         }
-        PairAnswer::Refused(r) => refusal_code(r),
+        PairAnswer::Refused(r) => handover::refusal_code(r),
     }
 }
 
@@ -358,7 +247,7 @@ pub extern "C" fn lemoncolumn_pack(
 ) -> u64
     ensures { λ r. ⌜ PackCall (now (taps .entry)) (c0 ∷ c1 ∷ c2 ∷ c3 ∷ []) (now (file .entry)) r (now (file .exit)) ⌝ }
 {
-    answer_code(board::pack(taps, [c0, c1, c2, c3], file))
+    handover::answer_code(board::pack(taps, [c0, c1, c2, c3], file))
 }
 
 // Unpack: 12 (below 4), word 0's 13 then 14, 12, 8, then each element's three kinds and its value.
@@ -368,7 +257,7 @@ pub extern "C" fn lemoncolumn_unpack(file: &[u8], taps: &mut [u64], claim: &mut 
         (now (claim .entry)) (now (claim .exit)) ⌝ }
 {
     if claim.len() != 4 {
-        return digest_code(board::unpack(file, &mut taps[..0]));
+        return handover::digest_code(board::unpack(file, &mut taps[..0]));
     }
-    hand_over(board::unpack(file, taps), claim)
+    handover::hand_over(board::unpack(file, taps), claim)
 }

@@ -6,7 +6,7 @@ use Prim.Native.Nat.{ℕ, zero, suc, _+_, _*_}
 use lib.ListN.{take, drop, replicate}
 use Rattle.lists.specs.Lists.{cell, tab}
 use Rattle.field.specs.Field.{add, cube, root}
-use Rattle.numbers.specs.Numbers.{width}
+use Rattle.numbers.specs.Numbers.{width, tapWords}
 use Rattle.matrix.specs.Matrix.{times}
 use Rattle.table.specs.Table.{matrixOf, initialConstant, firstStepConstant, secondStepConstant}
 
@@ -68,3 +68,7 @@ outputAt T w (suc h) = hash T (outputAt T w h) (tap w (suc h))
 -- a list of 3k + 1 taps chains to the output of its 3k hashes (Rescue STARK documentation 1.0, equation (1))
 unfoldable pub chain : List ℕ → List ℕ → ℕ → List ℕ
 chain T w k = outputAt T w (3 * k)
+
+-- the first 3c + 1 taps of a list, to whose output a claim about c batches belongs (document 02, U6)
+unfoldable pub firstTaps : ℕ → List ℕ → List ℕ
+firstTaps c w = take (tapWords c) w

@@ -17,6 +17,7 @@ use Rattle.matrix.specs.Matrix.{timesColumn, times}
 use Rattle.refusals.specs.Refusals.{digest, state}
 use Rattle.refusals.specs.Answers.{unless, after, digestAfter, stateAfter, testsAfter, leaves}
 use Rattle.refusals.specs.declared.Refusal.the-variants.{TapLength, TapWord, TraceLength, ClaimWord, TraceWord}
+use Rattle.refusals.specs.declared.Refusal.the-variants.{ClaimBatches}
 use Rattle.refusals.specs.declared.Answer.{Answer}
 use Rattle.refusals.specs.declared.Answer.the-variants as answer
 use Rattle.refusals.specs.declared.DigestAnswer.{DigestAnswer}
@@ -35,10 +36,10 @@ use Rattle.hash.proofs.Answers.{hash-passes}
 use Rattle.hash.proofs.Inputs.{IsTap}
 use Rattle.trace.specs.Trace.{row}
 use Rattle.constraints.specs.Constraints.{plusFirst, forward, minus, backStep, back, families, ofFamily, applies, holds}
-use Rattle.constraints.specs.Constraints.{rowTests, testsFrom, tests, walk, constraintTest}
+use Rattle.constraints.specs.Constraints.{between, rowTests, testsFrom, tests, walk, constraintTest}
 use Rattle.constraints.specs.FirstFailing.{placeOf}
 use Rattle.constraints.specs.ReadOff.{readInput, readWord, readTaps}
-use Rattle.checker.specs.Answers.{checkTest, checkAnswer}
+use Rattle.checker.specs.Answers.{openingTest, traceTest, checkTest, checkAnswer}
 use Rattle.readoff.specs.Answers.{readOffTest, readOffAnswer, readOffLeaves}
 use Rattle.readoff.proofs.Theorems.{same-for}
 use Rattle.knowndays.specs.Days.{shifted, Z, A, S, zeroTrace, altered, tapped, zeros, KnownDays}
@@ -65,15 +66,19 @@ module _ (T : List ℕ) (table : tableTest T ≡ answer.Accepted) where
   unfolding chainTest chainAnswer
   chained w e = ap (λ t. digestAfter t (digest (chain T w (tapWordBatches (length w))))) (accepted _) ∙ e
 
-  judges : (t claim : List ℕ) {a : TestsAnswer} → let k = traceWordBatches (length t) in
+  judges : (t claim : List ℕ) (c : ℕ) {a : TestsAnswer} → let k = traceWordBatches (length t) in
       testsAfter
+      (after
       (unless (isTraceLength mostBatches (length t)) TraceLength
+      (unless (between 1 k c) ClaimBatches answer.Accepted))
       (unless (canonicalWords claim) (ClaimWord (firstBad claim))
       (unless (canonicalWords t) (TraceWord (firstBad t))
-      (constraintTest T t claim k))))
-      (length (tests k)) ≡ a → checkAnswer T t claim ≡ a
-  unfolding checkTest checkAnswer
-  judges t claim e = ap (λ x. testsAfter x (length (tests (traceWordBatches (length t))))) (accepted _) ∙ e
+      (constraintTest T t claim c k))))
+      (length (tests k c)) ≡ a → checkAnswer T t claim c ≡ a
+  unfolding openingTest traceTest checkTest checkAnswer
+  judges t claim c e =
+      let k : ℕ = traceWordBatches (length t) in
+      ap (λ x. testsAfter (after x (traceTest T t claim c k)) (length (tests k c))) (accepted _) ∙ e
 
 -- ---- S: the second tap comes back, then four zeros and the first, whatever it is
 abbrev second : List ℕ
@@ -105,30 +110,30 @@ hash-S a size h =
     second-tap = record { size = refl; canonical = small }
 
 -- ---- the tapped trace
-tapped-accepted : checkAnswer Z tapped zeros ≡ counted.Accepted 372
+tapped-accepted : checkAnswer Z tapped zeros 1 ≡ counted.Accepted 372
 unfolding ones tab sum first firstBad timesColumn times matrixOf inverseOf constant initialConstant firstStepConstant
     secondStepConstant cubes plus mix secondStep row plusFirst forward minus backStep back families ofFamily applies
     holds rowTests testsFrom tests walk constraintTest shifted Z tapped zeros
-tapped-accepted = judges Z accepted-Z tapped zeros refl
+tapped-accepted = judges Z accepted-Z tapped zeros 1 refl
 
-tapped-read-off : readOffAnswer Z tapped zeros 16 ≡ counted.Accepted 372
+tapped-read-off : readOffAnswer Z tapped zeros 1 16 ≡ counted.Accepted 372
 unfolding tab tapped
-tapped-read-off = same-for Z tapped zeros 1 refl ∙ tapped-accepted
+tapped-read-off = same-for Z tapped zeros 1 1 refl ∙ tapped-accepted
 
 tapped-tap : tap (readTaps Z tapped 1) 2 ≡ 0 ∷ 1 ∷ 0 ∷ 0 ∷ []
 unfolding tab sum timesColumn times inverseOf constant initialConstant firstStepConstant cubes tap row minus backStep
     back readInput readWord readTaps shifted Z tapped
 tapped-tap = refl
 
-tapped-read : (old : List ℕ) → length old ≡ 16 → tap (readOffLeaves Z tapped zeros old) 2 ≡ 0 ∷ 1 ∷ 0 ∷ 0 ∷ []
+tapped-read : (old : List ℕ) → length old ≡ 16 → tap (readOffLeaves Z tapped zeros 1 old) 2 ≡ 0 ∷ 1 ∷ 0 ∷ 0 ∷ []
 unfolding tab tapped readOffAnswer readOffLeaves
 tapped-read old e =
     ap (λ x. tap (leaves x (readTaps Z tapped 1) old) 2)
-    (tests-accepted (readOffTest Z tapped zeros (length old)) _ 372 answered .0)
+    (tests-accepted (readOffTest Z tapped zeros 1 (length old)) _ 372 answered .0)
     ∙ tapped-tap
   where
-    answered : readOffAnswer Z tapped zeros (length old) ≡ counted.Accepted 372
-    answered = ap (readOffAnswer Z tapped zeros) e ∙ tapped-read-off
+    answered : readOffAnswer Z tapped zeros 1 (length old) ≡ counted.Accepted 372
+    answered = ap (readOffAnswer Z tapped zeros 1) e ∙ tapped-read-off
 
 pub known-days : KnownDays
 unfolding ones tab sum first firstBad halving power root timesColumn times matrixOf inverseOf constant initialConstant
@@ -145,11 +150,11 @@ known-days = record {
   hash-A = hashed A accepted-A (zeros ++ zeros) refl;
   hash-S = hash-S;
   chain-A = chained A accepted-A (replicate 16 0) refl;
-  zero-accepted = judges Z accepted-Z zeroTrace zeros refl;
-  zero-claim = judges Z accepted-Z zeroTrace (1 ∷ 0 ∷ 0 ∷ 0 ∷ []) refl;
-  altered-0-8 = judges Z accepted-Z (altered 0 8) zeros refl;
-  altered-31-5 = judges Z accepted-Z (altered 31 5) zeros refl;
-  altered-11-5 = judges Z accepted-Z (altered 11 5) zeros refl;
+  zero-accepted = judges Z accepted-Z zeroTrace zeros 1 refl;
+  zero-claim = judges Z accepted-Z zeroTrace (1 ∷ 0 ∷ 0 ∷ 0 ∷ []) 1 refl;
+  altered-0-8 = judges Z accepted-Z (altered 0 8) zeros 1 refl;
+  altered-31-5 = judges Z accepted-Z (altered 31 5) zeros 1 refl;
+  altered-11-5 = judges Z accepted-Z (altered 11 5) zeros 1 refl;
   places = (refl, refl, refl, refl);
   tapped-accepted = tapped-accepted;
   tapped-read-off = tapped-read-off;

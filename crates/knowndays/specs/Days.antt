@@ -98,14 +98,15 @@ pub record KnownDays : Type 0 where
   pub hash-S : (a : List ℕ) → length a ≡ 4 → AllCanonical a
       → hashAnswer S (a ++ (5 ∷ 6 ∷ 7 ∷ 9 ∷ [])) ≡ final.Accepted (state ((5 ∷ 6 ∷ 7 ∷ 9 ∷ []) ++ zeros ++ a))
   pub chain-A : chainAnswer A (replicate 16 0) ≡ output.Accepted (digest (3 ∷ 0 ∷ 0 ∷ 0 ∷ []))
-  pub zero-accepted : checkAnswer Z zeroTrace zeros ≡ tests.Accepted 372
-  pub zero-claim : checkAnswer Z zeroTrace (1 ∷ 0 ∷ 0 ∷ 0 ∷ [])
+  pub zero-accepted : checkAnswer Z zeroTrace zeros 1 ≡ tests.Accepted 372
+  pub zero-claim : checkAnswer Z zeroTrace (1 ∷ 0 ∷ 0 ∷ 0 ∷ []) 1
       ≡ tests.Refused (Constraint (record { 0 = 31 }) 49 369)
-  pub altered-0-8 : checkAnswer Z (altered 0 8) zeros ≡ tests.Refused (Constraint (record { 0 = 0 }) 1 1)
-  pub altered-31-5 : checkAnswer Z (altered 31 5) zeros ≡ tests.Refused (Constraint (record { 0 = 30 }) 38 362)
-  pub altered-11-5 : checkAnswer Z (altered 11 5) zeros ≡ tests.Refused (Constraint (record { 0 = 11 }) 26 138)
+  pub altered-0-8 : checkAnswer Z (altered 0 8) zeros 1 ≡ tests.Refused (Constraint (record { 0 = 0 }) 1 1)
+  pub altered-31-5 : checkAnswer Z (altered 31 5) zeros 1 ≡ tests.Refused (Constraint (record { 0 = 30 }) 38 362)
+  pub altered-11-5 : checkAnswer Z (altered 11 5) zeros 1 ≡ tests.Refused (Constraint (record { 0 = 11 }) 26 138)
   -- the places of the four tests that fail there, counted by themselves
-  pub places : (placeOf 1 31 49 ≡ 369) × (placeOf 1 0 1 ≡ 1) × (placeOf 1 30 38 ≡ 362) × (placeOf 1 11 26 ≡ 138)
-  pub tapped-accepted : checkAnswer Z tapped zeros ≡ tests.Accepted 372
-  pub tapped-read-off : readOffAnswer Z tapped zeros 16 ≡ tests.Accepted 372
-  pub tapped-read : (old : List ℕ) → length old ≡ 16 → tap (readOffLeaves Z tapped zeros old) 2 ≡ 0 ∷ 1 ∷ 0 ∷ 0 ∷ []
+  pub places : (placeOf 1 1 31 49 ≡ 369) × (placeOf 1 1 0 1 ≡ 1) × (placeOf 1 1 30 38 ≡ 362)
+      × (placeOf 1 1 11 26 ≡ 138)
+  pub tapped-accepted : checkAnswer Z tapped zeros 1 ≡ tests.Accepted 372
+  pub tapped-read-off : readOffAnswer Z tapped zeros 1 16 ≡ tests.Accepted 372
+  pub tapped-read : (old : List ℕ) → length old ≡ 16 → tap (readOffLeaves Z tapped zeros 1 old) 2 ≡ 0 ∷ 1 ∷ 0 ∷ 0 ∷ []

@@ -2,69 +2,59 @@
 -- destination.
 -- Assumes nothing.
 use mathlib.Core.Path.{_≡_, refl, sym, _∙_}
-use mathlib.Core.Bool.{true, false}
 use mathlib.Core.List.{List}
 use Prim.Native.Nat.{ℕ, _+_, _*_}
 use native.Mathlib.Omega.{arith}
-use borrow.Author.Tests.{eq-eqb, ne-eqb, eqb-true}
+use borrow.Author.Tests.{eq-eqb, eqb-true}
 use lib.Dec.{eqb}
 use lib.ListN.{length}
-use Rattle.numbers.specs.Numbers.{mostBatches, isTraceLength, traceWordBatches}
+use Rattle.numbers.specs.Numbers.{traceWordBatches}
 use Rattle.refusals.specs.declared.Refusal.{Refusal}
-use Rattle.refusals.specs.declared.Refusal.the-variants.{TraceLength, DestinationLength}
+use Rattle.refusals.specs.declared.Refusal.the-variants.{DestinationLength}
 use Rattle.refusals.specs.declared.Answer.the-variants as answer
 use Rattle.refusals.specs.declared.TestsAnswer.{TestsAnswer}
 use Rattle.refusals.specs.declared.TestsAnswer.the-variants.{Accepted, Refused}
 use Rattle.refusals.proofs.Laws.{passed, both-accepted, tests-accepted, tests-refused, leaves-old, leaves-new}
-use Rattle.table.specs.Table.{tableTest}
 use Rattle.constraints.specs.Constraints.{constraintTest}
 use Rattle.constraints.specs.ReadOff.{readTaps}
-use Rattle.checker.specs.Answers.{checkTest}
+use Rattle.checker.specs.Answers.{openingTest, checkTest}
 use Rattle.checker.proofs.Answers.{CheckInputs, check-inputs, check-passes}
 use Rattle.readoff.specs.Answers.{readOffTest, readOffAnswer, readOffLeaves}
 
-module _ (T t claim : List ℕ) (size : ℕ) where
+module _ (T t claim : List ℕ) (c size : ℕ) where
   -- into a destination of the right length the tests are those of Check
-  pub same-test : size ≡ 12 * traceWordBatches (length t) + 4 → readOffTest T t claim size ≡ checkTest T t claim
+  pub same-test : size ≡ 12 * traceWordBatches (length t) + 4 → readOffTest T t claim c size ≡ checkTest T t claim c
   unfolding readOffTest checkTest
   same-test e = rw (eq-eqb size (12 * traceWordBatches (length t) + 4) e)
 
-  pub read-off-inputs : readOffTest T t claim size ≡ answer.Accepted → let k = traceWordBatches (length t) in
-      (size ≡ 12 * k + 4) × CheckInputs T t claim k × (constraintTest T t claim k ≡ answer.Accepted)
+  pub read-off-inputs : readOffTest T t claim c size ≡ answer.Accepted → let k = traceWordBatches (length t) in
+      (size ≡ 12 * k + 4) × CheckInputs T t claim c k × (constraintTest T t claim c k ≡ answer.Accepted)
   unfolding readOffTest
   read-off-inputs e =
-      let a = both-accepted (tableTest T) _ e in
-      let b = passed (isTraceLength mostBatches (length t)) TraceLength _ (a .1) in
-      let c = passed (eqb size (12 * traceWordBatches (length t) + 4)) DestinationLength _ (b .1) in
-      let s = eqb-true size (12 * traceWordBatches (length t) + 4) (c .0) in
-      let i = check-inputs T t claim (sym (same-test s) ∙ e) in
+      let a = both-accepted (openingTest T t c) _ e in
+      let b = passed (eqb size (12 * traceWordBatches (length t) + 4)) DestinationLength _ (a .1) in
+      let s = eqb-true size (12 * traceWordBatches (length t) + 4) (b .0) in
+      let i = check-inputs T t claim c (sym (same-test s) ∙ e) in
       (s, i .0, i .1)
 
-  pub read-off-passes : (k : ℕ) → size ≡ 12 * k + 4 → CheckInputs T t claim k
-      → constraintTest T t claim k ≡ answer.Accepted → readOffTest T t claim size ≡ answer.Accepted
+  pub read-off-passes : (k : ℕ) → size ≡ 12 * k + 4 → CheckInputs T t claim c k
+      → constraintTest T t claim c k ≡ answer.Accepted → readOffTest T t claim c size ≡ answer.Accepted
   read-off-passes k e h q =
-      let s : size ≡ 12 * traceWordBatches (length t) + 4 = omega (arith, h .size) in
-      same-test s ∙ check-passes T t claim k h q
-
--- ---- the destination's length, for a trace of so many words, which are k batches
-module _ (size words k : ℕ) (e : words ≡ 384 * k) where
-  pub room : size ≡ 12 * k + 4 → eqb size (12 * traceWordBatches words + 4) ≡ true
-  room q = eq-eqb size (12 * traceWordBatches words + 4) (omega arith)
-
-  pub no-room : (size ≡ 12 * k + 4 → ⊥) → eqb size (12 * traceWordBatches words + 4) ≡ false
-  no-room h = ne-eqb size (12 * traceWordBatches words + 4) (λ q. h (omega arith))
+      let s : size ≡ 12 * traceWordBatches (length t) + 4 = omega (arith, h .opening .size) in
+      same-test s ∙ check-passes T t claim c k h q
 
 -- ---- what is left in the destination, by the answer
-module _ (T t claim old : List ℕ) {a : TestsAnswer} (answered : a ≡ readOffAnswer T t claim (length old)) where
-  pub accepted : {n : ℕ} → a ≡ Accepted n → readOffTest T t claim (length old) ≡ answer.Accepted
+module _ (T t claim old : List ℕ) (c : ℕ) {a : TestsAnswer}
+    (answered : a ≡ readOffAnswer T t claim c (length old)) where
+  pub accepted : {n : ℕ} → a ≡ Accepted n → readOffTest T t claim c (length old) ≡ answer.Accepted
   unfolding readOffAnswer
-  accepted e = tests-accepted (readOffTest T t claim (length old)) _ _ (sym answered ∙ e) .0
+  accepted e = tests-accepted (readOffTest T t claim c (length old)) _ _ (sym answered ∙ e) .0
 
-  pub kept : {r : Refusal} → a ≡ Refused r → old ≡ readOffLeaves T t claim old
+  pub kept : {r : Refusal} → a ≡ Refused r → old ≡ readOffLeaves T t claim c old
   unfolding readOffAnswer readOffLeaves
-  kept e = leaves-old (sym (tests-refused (readOffTest T t claim (length old)) _ _ (sym answered ∙ e))) _ refl
+  kept e = leaves-old (sym (tests-refused (readOffTest T t claim c (length old)) _ _ (sym answered ∙ e))) _ refl
 
   pub read : {n : ℕ} {new : List ℕ} → a ≡ Accepted n → new ≡ readTaps T t (traceWordBatches (length t))
-      → new ≡ readOffLeaves T t claim old
+      → new ≡ readOffLeaves T t claim c old
   unfolding readOffLeaves
   read e q = leaves-new (sym (accepted e)) _ refl q

@@ -1,4 +1,5 @@
--- Read-off into 12k + 4 words answers what Check answers, whatever the table, the trace and the claim are.
+-- Read-off into 12k + 4 words answers what Check answers, whatever the table, the trace, the claim and
+-- c are.
 -- Assumes nothing.
 use mathlib.Core.Path.{_≡_, refl, ap, _∙_}
 use mathlib.Core.List.{List}
@@ -9,12 +10,12 @@ use Rattle.checker.specs.Answers.{checkAnswer}
 use Rattle.readoff.specs.Answers.{readOffAnswer}
 use Rattle.readoff.proofs.Answers.{same-test}
 
-module _ (T t claim : List ℕ) where
-  pub same-answer : readOffAnswer T t claim (12 * (length t / 384) + 4) ≡ checkAnswer T t claim
+module _ (T t claim : List ℕ) (c : ℕ) where
+  pub same-answer : readOffAnswer T t claim c (12 * (length t / 384) + 4) ≡ checkAnswer T t claim c
   unfolding readOffAnswer checkAnswer
-  same-answer = rw (same-test T t claim (12 * (length t / 384) + 4) refl)
+  same-answer = rw (same-test T t claim c (12 * (length t / 384) + 4) refl)
 
-  pub same-for : (k : ℕ) → length t ≡ 384 * k → readOffAnswer T t claim (12 * k + 4) ≡ checkAnswer T t claim
+  pub same-for : (k : ℕ) → length t ≡ 384 * k → readOffAnswer T t claim c (12 * k + 4) ≡ checkAnswer T t claim c
   same-for k size =
       let z : 12 * k + 4 ≡ 12 * (length t / 384) + 4 = omega arith in
-      ap (readOffAnswer T t claim) z ∙ same-answer
+      ap (readOffAnswer T t claim c) z ∙ same-answer

@@ -1,4 +1,4 @@
-// Read-off: Check, and then the taps that the trace holds (document 01, "The 52 constraints").
+// Read-off: Check, and then the taps that the trace holds (document 01, "The 52 constraints"; document 02, U6).
 ghost use mathlib.Core.Path.{_≡_};
 ghost use Prim.Native.Nat.{_+_, _*_, _^_, _≤_, _<_};
 ghost use lib.ListN.{length};
@@ -12,9 +12,7 @@ ghost use Rattle.readoff.specs.Answers.{readOffAnswer, readOffLeaves};
 ghost use Rattle.readoff.specs.TapHelpers.{HasTap};
 use numbers::BATCH_TAP_WORDS;
 use numbers::BATCH_WORDS;
-use numbers::BatchCount;
 use numbers::HashNumber;
-use numbers::MOST_BATCHES;
 use numbers::RowNumber;
 use numbers::TAP_WORDS;
 use numbers::TapNumber;
@@ -68,44 +66,41 @@ fn write_taps(inverse: &[u64], table: &[u64], trace: &[u64], k: usize, destinati
     }
 }
 
-// What Read-off tests: 1, 2, 4; 7; 8; 9; 10; 11.
-fn test_read_off(table: &[u64], trace: &[u64], claim: &[u64; 4], size: usize) -> TestsAnswer
-    ensures { λ r. ⌜ r ≡ readOffAnswer (now (table .entry)) (now (trace .entry)) (now (claim .entry)) size ⌝ }
+// What Read-off tests: 1, 2, 4; 7; 17; 8; 9; 10; 11.
+fn test_read_off(
+    table: &[u64],
+    trace: &[u64],
+    claim: &[u64; 4],
+    c: usize,
+    size: usize,
+) -> TestsAnswer
+    ensures { λ r. ⌜ r ≡ readOffAnswer (now (table .entry)) (now (trace .entry)) (now (claim .entry)) c size ⌝ }
 {
-    let of_table = table::test(table);
-    let Answer::Accepted = of_table else {
-        return TestsAnswer::Refused(of_table.refusal());
+    let opening = checker::test_opening(table, trace, c);
+    let Answer::Accepted = opening else {
+        return TestsAnswer::Refused(opening.refusal());
     };
-    let BatchCount::Permitted(k) = numbers::trace_batches(MOST_BATCHES, trace.len()) else {
-        return TestsAnswer::Refused(Refusal::TraceLength);
-    };
+    let k = trace.len() / BATCH_WORDS;
     if size != BATCH_TAP_WORDS * k + TAP_WORDS {
         return TestsAnswer::Refused(Refusal::DestinationLength);
     }
-    let of_claim = checker::test_claim(claim);
-    let Answer::Accepted = of_claim else {
-        return TestsAnswer::Refused(of_claim.refusal());
-    };
-    let of_words = checker::test_words(trace);
-    let Answer::Accepted = of_words else {
-        return TestsAnswer::Refused(of_words.refusal());
-    };
-    checker::test_constraints(table, trace, claim, k)
+    checker::test_trace(table, trace, claim, c, k)
 }
 
-// Read-off: it writes when every test has passed.
+// Read-off: it writes when every test has passed, and all taps, whatever c is.
 pub fn read_off(
     table: &[u64],
     trace: &[u64],
     claim: [u64; 4],
+    c: usize,
     destination: &mut [u64],
 ) -> TestsAnswer
     ensures { λ r. ⌜
-        (r ≡ readOffAnswer (now (table .entry)) (now (trace .entry)) claim (length (now (destination .entry))))
+        (r ≡ readOffAnswer (now (table .entry)) (now (trace .entry)) claim c (length (now (destination .entry))))
         × (now (destination .exit)
-        ≡ readOffLeaves (now (table .entry)) (now (trace .entry)) claim (now (destination .entry))) ⌝ }
+        ≡ readOffLeaves (now (table .entry)) (now (trace .entry)) claim c (now (destination .entry))) ⌝ }
 {
-    let answer = test_read_off(table, trace, &claim, destination.len());
+    let answer = test_read_off(table, trace, &claim, c, destination.len());
     let TestsAnswer::Accepted(_) = answer else {
         return answer;
     };

@@ -28,6 +28,7 @@ pub enum Refusal {
     WrongValue(usize),
     NoSuchTap,
     NoPair,
+    ClaimBatches,
 }
 
 // What is told of a refusal: its number, and how many values come with it: none, an index (`value`), or row, constraint
@@ -96,6 +97,7 @@ pub fn told(refusal: Refusal) -> Particulars
         Refusal::WrongValue(i) => indexed(14, i),
         Refusal::NoSuchTap => alone(15),
         Refusal::NoPair => alone(16),
+        Refusal::ClaimBatches => alone(17),
     }
 }
 

@@ -50,14 +50,14 @@ all-tested i e = rw e refl
 not-entering : (i : ℕ) → within i ≡ 30 → entering i ≡ false
 not-entering i e = rw e refl
 
-placed : (k i q : ℕ) → Applies k i q → Placed k i q
-placed k i q (zero-columns j l e r) = omega arith
-placed k i q (new-zeros j l e r) = ⊎-elim (λ h. omega arith) (λ h. omega arith) (enters-at i r)
-placed k i q (starts j l e r) = omega arith
-placed k i q (output-kept j l e r s) = omega (arith, four-tested i)
-placed k i q (goes-on j f l e r s n) = omega (arith, all-tested i n)
-placed k i q (ends j l e r) = omega (arith, all-tested i (not-entering i r))
-placed k i q (joins j l e r n) = record {
+placed : (k c i q : ℕ) → Applies k c i q → Placed k i q
+placed k c i q (zero-columns j l e r) = omega arith
+placed k c i q (new-zeros j l e r) = ⊎-elim (λ h. omega arith) (λ h. omega arith) (enters-at i r)
+placed k c i q (starts j l e r) = omega arith
+placed k c i q (output-kept j l e r s) = omega (arith, four-tested i)
+placed k c i q (goes-on j f l e r s n) = omega (arith, all-tested i n)
+placed k c i q (ends j l e r) = omega (arith, all-tested i (not-entering i r))
+placed k c i q (joins j l e r n) = record {
   low = omega arith;
   high = omega arith;
   behind = omega arith;
@@ -66,7 +66,7 @@ placed k i q (joins j l e r n) = record {
   kept = omega arith;
   last = omega arith;
 }
-placed k i q (claims j l e r) = omega arith
+placed k c i q (claims j l e r) = omega arith
 
 -- the row is there, and so is the next of its batch
 pub has-row : {t : List ℕ} {i : ℕ} → InTrace t i → HasRow t i
@@ -111,7 +111,7 @@ module _ (T t : List ℕ) (i : ℕ) {w : ℕ} (e : w ≡ within i) where
 
 module _ {t : List ℕ} {i q : ℕ} (h : AppliesIn t i q) where
   found : Placed (h .place .k) i q
-  found = placed (h .place .k) i q (applies-cases (h .place .k) i q (h .applied))
+  found = placed (h .place .k) (h .c) i q (applies-cases (h .place .k) (h .c) i q (h .applied))
 
   pub from-one : 1 ≤ q
   from-one = found .low

@@ -27,25 +27,25 @@ record Room (w low end : ℕ) : Type 0 where
 not-entering : (i : ℕ) → entering i ≡ false → (within i ≡ 10 → ⊥) × (within i ≡ 20 → ⊥)
 not-entering i e = (λ z. enters-not-at i e (inl z), λ z. enters-not-at i e (inr z))
 
-within-span : (k i q low end : ℕ) → Room (within i) low end → Applies k i q → (low ≤ q) × (q < end)
-within-span k i q low end room (zero-columns j l e r) = omega (arith, room .at-0 r)
-within-span k i q low end room (new-zeros j l e r) =
+within-span : (k c i q low end : ℕ) → Room (within i) low end → Applies k c i q → (low ≤ q) × (q < end)
+within-span k c i q low end room (zero-columns j l e r) = omega (arith, room .at-0 r)
+within-span k c i q low end room (new-zeros j l e r) =
     ⊎-elim (λ h. omega (arith, room .at-10 h)) (λ h. omega (arith, room .at-20 h)) (enters-at i r)
-within-span k i q low end room (starts j l e r) = omega (arith, room .at-0 r)
-within-span k i q low end room (output-kept j l e r s) = omega (arith, room .middle r s)
-within-span k i q low end room (goes-on j f l e r s n) =
+within-span k c i q low end room (starts j l e r) = omega (arith, room .at-0 r)
+within-span k c i q low end room (output-kept j l e r s) = omega (arith, room .middle r s)
+within-span k c i q low end room (goes-on j f l e r s n) =
     let h = not-entering i n in
     omega (arith, room .middle r s, room .others r s (h .0) (h .1))
-within-span k i q low end room (ends j l e r) = omega (arith, room .at-30 r)
-within-span k i q low end room (joins j l e r n) = omega (arith, room .at-31 r)
-within-span k i q low end room (claims j l e r) = omega (arith, room .at-31 (omega arith))
+within-span k c i q low end room (ends j l e r) = omega (arith, room .at-30 r)
+within-span k c i q low end room (joins j l e r n) = omega (arith, room .at-31 r)
+within-span k c i q low end room (claims j l e r) = omega (arith, room .at-31 (omega arith))
 
 -- what does not apply
-no : (k i q : ℕ) → (Applies k i q → ⊥) → applies k i q ≡ false
-no k i q h = go (applies k i q) refl
+no : (k c i q : ℕ) → (Applies k c i q → ⊥) → applies k c i q ≡ false
+no k c i q h = go (applies k c i q) refl
   where
-    go : (b : Bool) → applies k i q ≡ b → b ≡ false
-    go true e = absurd (h (applies-cases k i q e))
+    go : (b : Bool) → applies k c i q ≡ b → b ≡ false
+    go true e = absurd (h (applies-cases k c i q e))
     go false e = refl
 
 spans : (i low end : ℕ) → 1 ≤ low → low < end → end ≤ 53 → Room (within i) low end → Spans i low end
@@ -53,8 +53,8 @@ spans i low end a b d room = record {
   from-one = a;
   some = b;
   to-last = d;
-  below = λ k q h. no k i q (λ p. omega (arith, within-span k i q low end room p));
-  above = λ k q h. no k i q (λ p. omega (arith, within-span k i q low end room p));
+  below = λ k c q h. no k c i q (λ p. omega (arith, within-span k c i q low end room p));
+  above = λ k c q h. no k c i q (λ p. omega (arith, within-span k c i q low end room p));
 }
 
 -- ---- one kind of row after the other, as the code goes through them. w is the row's number within its batch

@@ -3,7 +3,7 @@
 use mathlib.Core.Path.{_≡_}
 use mathlib.Core.Bool.{true, false}
 use mathlib.Core.List.{List}
-use Prim.Native.Nat.{ℕ, _+_, _*_, _^_, _≤_, _<_}
+use Prim.Native.Nat.{ℕ, _+_, _^_, _≤_, _<_}
 use lib.Dec.{leb}
 use lib.ListN.{length, replicate}
 use Rattle.lists.specs.Lists.{choose}
@@ -11,7 +11,7 @@ use Rattle.words.specs.Words.{AllCanonical}
 use Rattle.steps.specs.StepHelpers.{columns}
 use Rattle.rows.specs.RowHelpers.{testedColumns}
 use Rattle.numbers.specs.Numbers.{traceRows, traceWords, width, within}
-use Rattle.constraints.specs.Constraints.{between, entering, forward, back, applies}
+use Rattle.constraints.specs.Constraints.{between, forward, back, applies}
 
 -- the tested columns of forward of row i, at rows 1 to 30; no test asks for it elsewhere
 unfoldable pub forwardOf : List ℕ → List ℕ → ℕ → List ℕ
@@ -21,13 +21,14 @@ forwardOf T t i = choose (between 1 30 (within i)) (columns (testedColumns i) (f
 unfoldable pub backAfter : List ℕ → List ℕ → ℕ → List ℕ
 backAfter T t i = choose (leb (within i) 29) (back T t (i + 1)) (replicate width 0)
 
--- the constraints that can apply at row i, however many batches there are, stand from low on and before end
+-- the constraints that can apply at row i, however many batches there are and wherever the claim stands, stand from low
+-- on and before end
 pub record Spans (i low end : ℕ) : Type 0 where
   pub from-one : 1 ≤ low
   pub some : low < end
   pub to-last : end ≤ 53
-  pub below : (k q : ℕ) → q < low → applies k i q ≡ false
-  pub above : (k q : ℕ) → end ≤ q → applies k i q ≡ false
+  pub below : (k c q : ℕ) → q < low → applies k c i q ≡ false
+  pub above : (k c q : ℕ) → end ≤ q → applies k c i q ≡ false
 
 -- row i of a trace of k batches, whose words are canonical
 pub record InTrace (t : List ℕ) (i : ℕ) : Type 0 where
@@ -40,4 +41,5 @@ pub record InTrace (t : List ℕ) (i : ℕ) : Type 0 where
 -- constraint q applies at row i of the trace
 pub record AppliesIn (t : List ℕ) (i q : ℕ) : Type 0 where
   pub place : InTrace t i
-  pub applied : applies (place .k) i q ≡ true
+  pub c : ℕ
+  pub applied : applies (place .k) c i q ≡ true

@@ -28,7 +28,7 @@ fn is_middle(row: RowNumber, column: usize) -> bool
     !rows::is_entering(row) || column < 4
 }
 
-// The last row of a trace of k batches, after which no batch follows.
+// The last row of k batches.
 fn is_last_row(k: usize, row: RowNumber) -> bool
     requires { ⌜ (k < 2 ^ 32) × (row .0 < 2 ^ 40) ⌝ }
     ensures { λ r. ⌜ r ≡ lastRow k (row .0) ⌝ }
@@ -36,12 +36,12 @@ fn is_last_row(k: usize, row: RowNumber) -> bool
     row.0 + 1 == BATCH_ROWS * k
 }
 
-// The row that is compared with the claim, which is the last.
-fn is_claim_row(k: usize, row: RowNumber) -> bool
-    requires { ⌜ (k < 2 ^ 32) × (row .0 < 2 ^ 40) ⌝ }
-    ensures { λ r. ⌜ r ≡ claimRow k (row .0) ⌝ }
+// The row that is compared with the claim about c batches: the last of them.
+fn is_claim_row(c: usize, row: RowNumber) -> bool
+    requires { ⌜ (c < 2 ^ 32) × (row .0 < 2 ^ 40) ⌝ }
+    ensures { λ r. ⌜ r ≡ claimRow c (row .0) ⌝ }
 {
-    is_last_row(k, row)
+    is_last_row(c, row)
 }
 
 // The families of document 01's list, each by the number of its first constraint. It has one for each column that it
@@ -70,10 +70,10 @@ const CLAIMS: usize = 49;
 // One more than the last constraint.
 const END: usize = 53;
 
-// Whether the constraint applies at a row of a trace of k batches.
-pub fn applies(k: usize, row: RowNumber, constraint: usize) -> bool
-    requires { ⌜ (k < 2 ^ 32) × (row .0 < 2 ^ 40) × (1 ≤ constraint) × (constraint < 53) ⌝ }
-    ensures { λ r. ⌜ r ≡ applies k (row .0) constraint ⌝ }
+// Whether the constraint applies at a row of a trace of k batches with a claim about c of them.
+pub fn applies(k: usize, c: usize, row: RowNumber, constraint: usize) -> bool
+    requires { ⌜ (k < 2 ^ 32) × (c < 2 ^ 32) × (row .0 < 2 ^ 40) × (1 ≤ constraint) × (constraint < 53) ⌝ }
+    ensures { λ r. ⌜ r ≡ applies k c (row .0) constraint ⌝ }
 {
     if constraint < NEW_ZEROS {
         return row.within() == 0;
@@ -93,7 +93,7 @@ pub fn applies(k: usize, row: RowNumber, constraint: usize) -> bool
     if constraint < CLAIMS {
         return row.within() == 31 && !is_last_row(k, row);
     }
-    is_claim_row(k, row)
+    is_claim_row(c, row)
 }
 
 // The lowest constraint that can apply at a row, and one more than the highest, so that a row of twelve tests takes

@@ -1,7 +1,7 @@
 //! Edit (document 02, U1), beside the proved Check and Build of the same day: it
 //! tests the trace, and builds it again from the altered tap on.
 
-use crate::operations::Day;
+use crate::operations::{proved_check, Day};
 use crate::timing::{goal_cell, nanoseconds, times, Way};
 use inputs::edits::{tap_of, with_tap};
 use std::hint::black_box;
@@ -42,9 +42,7 @@ fn row(day: &Day, name: &str, tap: usize, of: Of) -> Row {
     let mut room = vec![0; day.trace.len()];
     let mut ways = [
         there_and_back(day, tap),
-        Way::new(day.k, || {
-            black_box(lemoncolumn::check(&day.table, &day.trace, day.output)).expect("accepted");
-        }),
+        proved_check(day, day.k),
         Way::new(day.k, || {
             black_box(lemoncolumn::build(&day.table, &day.taps, &mut room)).expect("built");
         }),
@@ -73,7 +71,7 @@ fn there_and_back(day: &Day, tap: usize) -> Way<'_> {
     let mut claim = day.output;
     let [mut other, mut new] = two_taps(day, tap);
     Way::new(day.k, move || {
-        let edited = lemoncolumn::edit(&day.table, &mut trace, claim, tap, new);
+        let edited = lemoncolumn::edit(&day.table, &mut trace, claim, day.k, tap, new);
         claim = black_box(edited).expect("edited");
         std::mem::swap(&mut new, &mut other);
     })
@@ -83,7 +81,7 @@ fn there_and_back(day: &Day, tap: usize) -> Way<'_> {
 fn compare(day: &Day, tap: usize) {
     let [_, new] = two_taps(day, tap);
     let mut trace = day.trace.clone();
-    let edited = lemoncolumn::edit(&day.table, &mut trace, day.output, tap, new);
+    let edited = lemoncolumn::edit(&day.table, &mut trace, day.output, day.k, tap, new);
     let mut built = vec![0; trace.len()];
     let altered = with_tap(&day.taps, tap, new);
     let second = second::build(&day.table, &altered, &mut built);

@@ -7,12 +7,13 @@
 //! prints the tables of README.md, "Speed". A further operation gets its row, with
 //! its goal, in the list of `operations` or in `field`; one that alters what is
 //! lent to it, as Edit does, in `edits`. Unhash, whose goal goes by Hash, is in
-//! `unhash`.
+//! `unhash`, and claims that end before the rows do in `claims`.
 //!
 //! The implementations take turns, many times over, and the shortest time of
 //! each counts, in the thread's own time: what else the machine does lengthens
 //! some turns of each.
 
+mod claims;
 mod edits;
 mod field;
 mod operations;
@@ -29,6 +30,7 @@ fn main() {
     let growth = operations::measure(&mut table, &days);
     let unhash = unhash::measure(&days[0]);
     let edits = edits::measure(&days[2]);
+    let claims = claims::measure(&days[2]);
     table.print();
     let growth: Vec<String> = growth
         .iter()
@@ -39,4 +41,6 @@ fn main() {
     edits.print();
     println!();
     unhash.print();
+    println!();
+    claims.print();
 }

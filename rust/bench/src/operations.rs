@@ -2,6 +2,7 @@
 
 use crate::timing::{Goal, Table, Way};
 use inputs::tables::dense;
+use inputs::traces::output_after;
 use inputs::Random;
 use std::hint::black_box;
 use yardstick::{Yardstick, BOTH};
@@ -46,14 +47,14 @@ impl Day {
         assert_eq!(second, Ok(self.output));
         assert!(trace == self.trace);
         let tests = 372 * self.k as u64;
-        let check = lemoncolumn::check(&self.table, &self.trace, self.output);
+        let check = lemoncolumn::check(&self.table, &self.trace, self.output, self.k);
         assert_eq!(check, Ok(tests));
         for yardstick in BOTH {
             trace.fill(0);
             let output = (yardstick.build)(&self.table, &self.taps, &mut trace);
             assert_eq!(output, Ok(self.output));
             assert!(trace == self.trace);
-            let check = (yardstick.check)(&self.table, &self.trace, self.output);
+            let check = (yardstick.check)(&self.table, &self.trace, self.output, self.k);
             assert_eq!(check, Ok(tests));
         }
     }
@@ -143,38 +144,54 @@ fn build(day: &Day) -> Vec<Way<'_>> {
 
 fn check(day: &Day) -> Vec<Way<'_>> {
     let mut ways = vec![
+        proved_check(day, day.k),
         Way::new(day.k, || {
-            black_box(lemoncolumn::check(&day.table, &day.trace, day.output)).expect("accepted");
-        }),
-        Way::new(day.k, || {
-            black_box(second::check(&day.table, &day.trace, day.output)).expect("accepted");
+            let tests = second::check(&day.table, &day.trace, day.output, day.k);
+            black_box(tests).expect("accepted");
         }),
     ];
     for Yardstick { check, .. } in BOTH {
         ways.push(Way::new(day.k, move || {
-            black_box(check(&day.table, &day.trace, day.output)).expect("accepted");
+            let tests = check(&day.table, &day.trace, day.output, day.k);
+            black_box(tests).expect("accepted");
         }));
     }
     ways
 }
 
+/// The proved Check under the claim of this c.
+pub fn proved_check(day: &Day, c: usize) -> Way<'_> {
+    let claim = output_after(&day.trace, c);
+    Way::new(day.k, move || {
+        let tests = lemoncolumn::check(&day.table, &day.trace, claim, c);
+        black_box(tests).expect("accepted");
+    })
+}
+
+/// The proved Read-off under the claim of this c.
+pub fn proved_read_off(day: &Day, c: usize) -> Way<'_> {
+    let claim = output_after(&day.trace, c);
+    let mut taps = vec![0; day.taps.len()];
+    Way::new(day.k, move || {
+        let tests = lemoncolumn::read_off(&day.table, &day.trace, claim, c, &mut taps);
+        black_box(tests).expect("read");
+    })
+}
+
 fn read_off(day: &Day) -> Vec<Way<'_>> {
     let room = || vec![0; day.taps.len()];
-    let (mut one, mut two) = (room(), room());
+    let mut two = room();
     let mut ways = vec![
+        proved_read_off(day, day.k),
         Way::new(day.k, move || {
-            let read = lemoncolumn::read_off(&day.table, &day.trace, day.output, &mut one);
-            black_box(read).expect("read");
-        }),
-        Way::new(day.k, move || {
-            let read = second::read_off(&day.table, &day.trace, day.output, &mut two);
+            let read = second::read_off(&day.table, &day.trace, day.output, day.k, &mut two);
             black_box(read).expect("read");
         }),
     ];
     for Yardstick { read_off, .. } in BOTH {
         let mut three = room();
         ways.push(Way::new(day.k, move || {
-            let read = read_off(&day.table, &day.trace, day.output, &mut three);
+            let read = read_off(&day.table, &day.trace, day.output, day.k, &mut three);
             black_box(read).expect("read");
         }));
     }

@@ -1,6 +1,7 @@
 //! What the comparisons share: seeds, guarded buffers, and one enum of
 //! refusals for both implementations.
 
+use std::collections::BTreeSet;
 use std::ops::{Deref, DerefMut};
 
 /// The first seed. Each further round adds one.
@@ -17,6 +18,21 @@ pub fn seeds(test: &str) -> impl Iterator<Item = u64> {
     );
     println!("{test}: seeds {SEED} to {}", SEED + rounds - 1);
     SEED..SEED + rounds
+}
+
+/// Some c for k batches: 1, one past the middle, which is no power of two from k = 4
+/// on, k - 1 and k.
+pub fn some_cs(k: usize) -> BTreeSet<usize> {
+    let some = BTreeSet::from([1, k / 2 + 1, k - 1, k]);
+    some.into_iter().filter(|c| (1..=k).contains(c)).collect()
+}
+
+/// Fewer of them above 64 batches, where the second implementation takes long.
+pub fn few_cs(k: usize) -> BTreeSet<usize> {
+    match k {
+        0..=64 => some_cs(k),
+        _ => BTreeSet::from([k / 2 + 1, k]),
+    }
 }
 
 /// Elements on either side of a lent buffer.
@@ -111,6 +127,7 @@ pub fn named(refusal: lemoncolumn::Refusal) -> second::Refusal {
         Proved::WrongValue { word } => Second::Value { word },
         Proved::NoSuchTap => Second::NoSuchTap,
         Proved::NoPair => Second::NoPair,
+        Proved::ClaimBatches => Second::ClaimBatches,
     }
 }
 

@@ -1,11 +1,12 @@
 //! The calls as C sees them: a digest's destination that has not four words, a final
 //! state's that has not twelve, or a pair's that has not eight, is refused with 8, in
-//! 8's place of the order, and nothing is written. Hash, Edit and Unhash with room,
-//! what they write between guards.
+//! 8's place of the order, and nothing is written. Check, and Read-off, Hash, Edit and
+//! Unhash with room, what they write between guards; c stands where the header has it.
 
 use differential::{holding, named, words, Lent};
 use inputs::pairs::end_of;
 use inputs::tables::{dense, first_unlike_identity};
+use inputs::traces::{failed, first_failure_of_cell, honest_days, Day};
 use inputs::*;
 use lemoncolumn::{calls, INTERFACE, PAIR_WORDS, STATE_WORDS};
 use second::field::{add, P};
@@ -20,11 +21,11 @@ fn seeds(test: &str) -> impl Iterator<Item = u64> {
 }
 
 /// The refusals that come before 8 (document 01, "What is turned back"; document
-/// 02 has 15 there).
+/// 02 has 15 and 17 there).
 fn before_8(refusal: Option<Refusal>) -> bool {
     matches!(
         refusal.map(Refusal::number),
-        Some(1 | 2 | 4 | 5 | 7 | 8 | 12 | 13 | 14 | 15)
+        Some(1 | 2 | 4 | 5 | 7 | 8 | 12 | 13 | 14 | 15 | 17)
     )
 }
 
@@ -38,22 +39,27 @@ fn expected(refusal: Option<Refusal>) -> Option<Refusal> {
 }
 
 /// What the returned word says: this, and nothing in its other bits (the end of
-/// include/lemoncolumn.h).
-fn says(about: &str, code: u64, refusal: Option<Refusal>) {
-    let said = lemoncolumn::decode(code).err().map(named);
-    assert_eq!(said, refusal, "{about}");
-    let number = refusal.map_or(0, Refusal::number);
-    let (constraint, row, value) = match refusal {
-        Some(Refusal::Constraint {
+/// include/lemoncolumn.h). Where it accepts, the tests are 0 for a call that has none.
+fn says_tests(about: &str, code: u64, answer: Result<u64, Refusal>) {
+    let said = lemoncolumn::decode(code).map_err(named);
+    assert_eq!(said, answer, "{about}");
+    let number = answer.map_or_else(Refusal::number, |_| 0);
+    let (constraint, row, value) = match answer {
+        Err(Refusal::Constraint {
             row,
             constraint,
             tests,
         }) => (constraint, row, tests),
-        Some(other) => (0, 0, other.place().first().copied().unwrap_or(0)),
-        None => (0, 0, 0),
+        Err(other) => (0, 0, other.place().first().copied().unwrap_or(0)),
+        Ok(tests) => (0, 0, tests),
     };
     let word = number | constraint << 6 | row << 12 | value << 36;
     assert_eq!(code, word, "{about}: other bits");
+}
+
+/// The same of a call that has no tests.
+fn says(about: &str, code: u64, refusal: Option<Refusal>) {
+    says_tests(about, code, refusal.map_or(Ok(0), Err));
 }
 
 /// Lengths other than a digest's four.
@@ -229,27 +235,103 @@ fn build() {
     }
 }
 
+fn call_check(table: &[u64], trace: &[u64], claim: [u64; 4], c: usize) -> u64 {
+    let [c0, c1, c2, c3] = claim;
+    unsafe {
+        calls::lemoncolumn_check(
+            table.as_ptr(),
+            table.len(),
+            trace.as_ptr(),
+            trace.len(),
+            c0,
+            c1,
+            c2,
+            c3,
+            c,
+        )
+    }
+}
+
+fn call_read_off(table: &[u64], trace: &[u64], claim: [u64; 4], c: usize, taps: &mut [u64]) -> u64 {
+    let [c0, c1, c2, c3] = claim;
+    unsafe {
+        calls::lemoncolumn_read_off(
+            table.as_ptr(),
+            table.len(),
+            trace.as_ptr(),
+            trace.len(),
+            c0,
+            c1,
+            c2,
+            c3,
+            c,
+            taps.as_mut_ptr(),
+            taps.len(),
+        )
+    }
+}
+
 fn call_edit(case: &EditCase, trace: &mut [u64], output: &mut [u64]) -> u64 {
-    let [a, b, c, d] = case.claim;
-    let [e, f, g, h] = case.new;
+    let [c0, c1, c2, c3] = case.claim;
+    let [w0, w1, w2, w3] = case.new;
     unsafe {
         calls::lemoncolumn_edit(
             case.table.as_ptr(),
             case.table.len(),
             trace.as_mut_ptr(),
             trace.len(),
-            a,
-            b,
-            c,
-            d,
+            c0,
+            c1,
+            c2,
+            c3,
+            case.c,
             case.tap,
-            e,
-            f,
-            g,
-            h,
+            w0,
+            w1,
+            w2,
+            w3,
             output.as_mut_ptr(),
             output.len(),
         )
+    }
+}
+
+/// The tests of an accepted trace, or the refusal.
+fn walked(trace: &[u64], refusal: Option<Refusal>) -> Result<u64, Refusal> {
+    let tests = 372 * (trace.len() / 384) as u64;
+    refusal.map_or(Ok(tests), Err)
+}
+
+#[test]
+fn check() {
+    for seed in seeds("calls, check") {
+        for case in check_cases(seed, 1000) {
+            let about = format!("seed {seed}: {}", case.name);
+            let trace = holding(&case.trace);
+            let code = call_check(&case.table, &trace, case.claim, case.c);
+            says_tests(&about, code, walked(&trace, case.refusal));
+            assert!(trace.is_untouched(), "{about}");
+        }
+    }
+}
+
+#[test]
+fn read_off() {
+    for seed in seeds("calls, read-off") {
+        for case in read_off_cases(seed, 1000) {
+            let about = format!("seed {seed}: {}", case.name);
+            let trace = holding(&case.trace);
+            let mut taps = words(case.destination);
+            let code = call_read_off(&case.table, &trace, case.claim, case.c, &mut taps);
+            says_tests(&about, code, walked(&trace, case.refusal));
+            assert!(trace.is_untouched(), "{about}");
+            if case.refusal.is_some() {
+                assert!(taps.is_untouched(), "{about}");
+                continue;
+            }
+            assert!(taps.is_guarded(), "{about}");
+            assert_eq!(taps[..], case.taps[..], "{about}");
+        }
     }
 }
 
@@ -286,6 +368,128 @@ fn edit_with_room() {
             assert_eq!(output[..], case.output, "{about}");
         }
     }
+}
+
+/// What is lent to Check, Read-off and Edit, and the refusal of each part that is
+/// damaged, in the order of Edit: 1, 2 or 4, then 7, 17, 15, 8, 9, 10, 6, 11.
+struct Faulty {
+    case: EditCase,
+    taps: usize,
+    output: usize,
+    refusals: [Option<Refusal>; 9],
+}
+
+impl Faulty {
+    /// The first refusal, but for those of parts that the call is not lent.
+    fn first(&self, left_out: &[u64]) -> Option<Refusal> {
+        let lent = |refusal: &Refusal| !left_out.contains(&refusal.number());
+        self.refusals.iter().flatten().copied().find(lent)
+    }
+}
+
+/// An honest day with some of eleven faults, in the order of Edit.
+fn faulty(random: &mut Random, honest: &Day, faults: [bool; 11]) -> Faulty {
+    let [length_1, word_2, inverse_4, length, c, tap, room, claim, word, new, constraint] = faults;
+    let k = honest.k();
+    let (table, table_refusal) = table_with(
+        random,
+        &honest.table.prepared,
+        [length_1, word_2, inverse_4],
+    );
+    // From the last to the first, since a fault hides those after it.
+    let mut trace = honest.trace.clone();
+    let fails = constraint.then(|| {
+        let (row, column) = (random.below(32 * k), random.below(12));
+        let cell = &mut trace[12 * row + column];
+        *cell = add(*cell, random.unit());
+        failed(
+            k,
+            honest.c,
+            first_failure_of_cell(&honest.table, row, column),
+        )
+    });
+    let mut new_tap = std::array::from_fn(|_| random.canonical());
+    let new_word = new.then(|| tap_word(random.spoil(&mut new_tap)));
+    let trace_word = word.then(|| trace_word(random.spoil(&mut trace)));
+    let (claim, claim_word) = lent_claim(random, honest.claim, claim);
+    let (taps, no_room) = lent_destination(random, honest.taps.len(), room);
+    let (lent_c, no_c) = lent_c(random, k, honest.c, c);
+    if length {
+        trace.push(P);
+    }
+    Faulty {
+        case: EditCase {
+            name: format!("{}, {faults:?}, lent c = {lent_c}", honest.name),
+            table,
+            trace,
+            claim,
+            c: lent_c,
+            tap: if tap {
+                3 * k + 1
+            } else {
+                random.below(3 * k + 1)
+            },
+            new: new_tap,
+            refusal: None,
+            altered: vec![],
+            output: [0; 4],
+        },
+        taps,
+        output: if room { random.pick(&LENGTHS) } else { 4 },
+        refusals: [
+            table_refusal,
+            length.then_some(Refusal::TraceLength),
+            no_c,
+            tap.then_some(Refusal::NoSuchTap),
+            no_room,
+            claim_word,
+            trace_word,
+            new_word,
+            fails,
+        ],
+    }
+}
+
+/// Each choice of the eleven faults at once, for every c of one and of two batches: the
+/// first in the order of the call is answered, and a refused call writes nothing.
+#[test]
+fn check_read_off_and_edit_with_faults_together() {
+    for seed in seeds("calls, check, read-off and edit with faults together") {
+        let mut random = Random::new(seed);
+        for k in [1, 2] {
+            let (table, taps) = (dense(&mut random), random.canonicals(12 * k + 4));
+            for honest in honest_days(&table, &taps, 1..=k) {
+                for choice in 0..1 << 11 {
+                    let faults = std::array::from_fn(|fault| choice >> fault & 1 == 1);
+                    let lent = faulty(&mut random, &honest, faults);
+                    answers_the_first(&format!("seed {seed}: {}", lent.case.name), &lent);
+                }
+            }
+        }
+    }
+}
+
+/// Check is lent no tap and no destination, Read-off no tap.
+fn answers_the_first(about: &str, lent: &Faulty) {
+    let case = &lent.case;
+    let mut trace = holding(&case.trace);
+    let code = call_check(&case.table, &trace, case.claim, case.c);
+    says_tests(about, code, walked(&trace, lent.first(&[15, 8, 6])));
+
+    let mut taps = words(lent.taps);
+    let code = call_read_off(&case.table, &trace, case.claim, case.c, &mut taps);
+    let refusal = lent.first(&[15, 6]);
+    says_tests(about, code, walked(&trace, refusal));
+    assert_eq!(taps.is_untouched(), refusal.is_some(), "{about}");
+    assert!(taps.is_guarded() && trace.is_untouched(), "{about}");
+
+    let mut output = words(lent.output);
+    let code = call_edit(case, &mut trace, &mut output);
+    let refusal = lent.first(&[]);
+    says(about, code, refusal);
+    assert_eq!(output.is_untouched(), refusal.is_some(), "{about}");
+    assert_eq!(trace.is_untouched(), refusal.is_some(), "{about}");
+    assert!(output.is_guarded() && trace.is_guarded(), "{about}");
 }
 
 fn call_unhash(table: &[u64], state: [u64; 12], pair: &mut [u64]) -> u64 {

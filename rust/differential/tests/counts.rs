@@ -1,10 +1,11 @@
-//! The count in refusal 11 is the failing test's place (document 02, U4). Traces
-//! that fail each test of the order alone, taken in the order, are refused with 1,
-//! 2, 3 and so on to 372k, by Check, Read-off and Edit of both implementations.
+//! The count in refusal 11 is the failing test's place (document 02, U4), in the order
+//! that c leaves (U6). Traces that fail each test of the order alone, taken in the
+//! order, are refused with 1, 2, 3 and so on to 372k, by Check, Read-off and Edit of
+//! both implementations.
 
-use differential::{holding, same_verdict, seeds, words};
+use differential::{few_cs, holding, same_verdict, seeds, words};
 use inputs::tables::{dense, good};
-use inputs::traces::{faulty_day, rows_of, Day, Fault};
+use inputs::traces::{cs_of, faulty_day, faulty_days, rows_for_some_c, rows_of, Day, Fault};
 use inputs::*;
 use second::Refusal;
 use std::collections::BTreeSet;
@@ -12,16 +13,27 @@ use std::collections::BTreeSet;
 /// Row and constraint.
 type Test = (usize, usize);
 
-/// The order, from the rows at which each constraint applies: rows rising,
-/// constraint numbers rising within a row. Neither implementation's list is used.
-fn order(k: usize) -> Vec<Test> {
-    let rows = |constraint| rows_of(constraint, k).into_iter();
-    let mut order: Vec<Test> = (1..=52)
-        .flat_map(|constraint| rows(constraint).map(move |row| (row, constraint)))
+/// The tests at the rows that are given for each constraint: rows rising, constraint
+/// numbers rising within a row. Neither implementation's list is used.
+fn sorted(rows: impl Fn(usize) -> Vec<usize>) -> Vec<Test> {
+    let at = |constraint| rows(constraint).into_iter();
+    let mut tests: Vec<Test> = (1..=52)
+        .flat_map(|constraint| at(constraint).map(move |row| (row, constraint)))
         .collect();
-    order.sort();
+    tests.sort();
+    tests
+}
+
+/// The order for this c.
+fn order(k: usize, c: usize) -> Vec<Test> {
+    let order = sorted(|constraint| rows_of(k, c, constraint));
     assert_eq!(order.len(), 372 * k);
     order
+}
+
+/// All tests that the order of some c has.
+fn tests_for_some_c(k: usize) -> Vec<Test> {
+    sorted(|constraint| rows_for_some_c(k, constraint))
 }
 
 fn fault(random: &mut Random, (row, constraint): Test) -> Fault {
@@ -41,26 +53,28 @@ fn refused_alike(seed: u64, day: &Day, tap: usize, (row, constraint): Test, coun
         constraint: constraint as u64,
         tests: count as u64,
     };
-    let (table, trace, claim) = (&day.table.prepared, &day.trace, day.claim);
-    let answer = lemoncolumn::check(table, trace, claim);
+    let (table, trace, claim, c) = (&day.table.prepared, &day.trace, day.claim, day.c);
+    let answer = lemoncolumn::check(table, trace, claim, c);
     same_verdict(answer, Err(refusal), &about);
-    assert_eq!(second::check(table, trace, claim), Err(refusal), "{about}");
+    let answer = second::check(table, trace, claim, c);
+    assert_eq!(answer, Err(refusal), "{about}");
 
     let mut taps = words(day.taps.len());
-    let answer = lemoncolumn::read_off(table, trace, claim, &mut taps);
+    let answer = lemoncolumn::read_off(table, trace, claim, c, &mut taps);
     same_verdict(answer, Err(refusal), &about);
-    let answer = second::read_off(table, trace, claim, &mut taps);
+    let answer = second::read_off(table, trace, claim, c, &mut taps);
     assert_eq!(answer, Err(refusal), "{about}");
     assert!(taps.is_untouched(), "{about}");
 
     let mut lent = holding(trace);
-    let answer = lemoncolumn::edit(table, &mut lent, claim, tap, [1; 4]);
+    let answer = lemoncolumn::edit(table, &mut lent, claim, c, tap, [1; 4]);
     same_verdict(answer, Err(refusal), &about);
-    let answer = second::edit(table, &mut lent, claim, tap, [1; 4]);
+    let answer = second::edit(table, &mut lent, claim, c, tap, [1; 4]);
     assert_eq!(answer, Err(refusal), "{about}");
     assert!(lent.is_untouched(), "{about}");
 }
 
+/// For every c.
 #[test]
 fn each_test_alone() {
     for seed in seeds("each_test_alone") {
@@ -68,10 +82,37 @@ fn each_test_alone() {
         for k in [1, 2, 4] {
             let table = dense(&mut random);
             let taps = random.canonicals(12 * k + 4);
-            for (before, test) in order(k).into_iter().enumerate() {
-                let fault = fault(&mut random, test);
-                let day = faulty_day(table.clone(), taps.clone(), &[fault]);
-                refused_alike(seed, &day, before % (3 * k + 1), test, before + 1);
+            let mut counts = vec![0; k];
+            for test in tests_for_some_c(k) {
+                let fault = [fault(&mut random, test)];
+                for day in faulty_days(&table, &taps, cs_of(k, test), &fault) {
+                    let count = &mut counts[day.c - 1];
+                    refused_alike(seed, &day, *count % (3 * k + 1), test, *count + 1);
+                    *count += 1;
+                }
+            }
+            assert_eq!(counts, vec![372 * k; k]);
+        }
+    }
+}
+
+/// Of each of eight batches the first test, the last one before row 31, and all of row
+/// 31, for every c.
+#[test]
+fn tests_where_batches_meet() {
+    for seed in seeds("tests_where_batches_meet") {
+        let mut random = Random::new(seed);
+        let k = 8;
+        let table = dense(&mut random);
+        let taps = random.canonicals(12 * k + 4);
+        let orders: Vec<Vec<Test>> = (1..=k).map(|c| order(k, c)).collect();
+        let meet = |test: &Test| test.0 % 32 == 31 || matches!(test.1, 1 | 44);
+        for test in tests_for_some_c(k).into_iter().filter(meet) {
+            let fault = [fault(&mut random, test)];
+            for day in faulty_days(&table, &taps, cs_of(k, test), &fault) {
+                let order = &orders[day.c - 1];
+                let before = order.binary_search(&test).expect("in the order");
+                refused_alike(seed, &day, 3 * k, test, before + 1);
             }
         }
     }
@@ -82,9 +123,10 @@ fn each_test_alone() {
 fn several_at_once() {
     for seed in seeds("several_at_once") {
         let mut random = Random::new(seed);
-        for k in [1, 2, 4] {
-            let order = order(k);
-            for turn in 0..200 {
+        let batches = [1, 2, 4, 8].into_iter();
+        for (k, c) in batches.flat_map(|k| (1..=k).map(move |c| (k, c))) {
+            let order = order(k, c);
+            for turn in 0..200 / k {
                 let first = random.below(order.len() - 1);
                 let mut failing = vec![first];
                 for _ in 0..1 + turn % 4 {
@@ -97,7 +139,7 @@ fn several_at_once() {
                     .map(|&before| fault(&mut random, order[before]))
                     .collect();
                 let table = good(&mut random);
-                let day = faulty_day(table, random.canonicals(12 * k + 4), &faults);
+                let day = faulty_day(table, random.canonicals(12 * k + 4), c, &faults);
                 let tap = random.below(3 * k + 1);
                 refused_alike(seed, &day, tap, order[first], first + 1);
             }
@@ -105,8 +147,9 @@ fn several_at_once() {
     }
 }
 
-/// For every permitted k the first and the last test of the first batch and of the
-/// last one.
+/// For every permitted k and a few c: the first test and the last of the first batch's
+/// 372, the last of the claim's row, the first test of the last batch, and the last of
+/// all.
 #[test]
 fn every_k() {
     for seed in seeds("every_k, counts") {
@@ -114,11 +157,18 @@ fn every_k() {
         for k in (0..=10).map(|exponent| 1 << exponent) {
             let table = dense(&mut random);
             let taps = random.canonicals(12 * k + 4);
-            let order = order(k);
-            for count in BTreeSet::from([1, 372, 372 * (k - 1) + 1, 372 * k]) {
-                let test = order[count - 1];
-                let day = faulty_day(table.clone(), taps.clone(), &[fault(&mut random, test)]);
-                refused_alike(seed, &day, 3 * k, test, count);
+            for c in few_cs(k) {
+                let claims = if c < k { 372 * c + 4 } else { 372 * k };
+                let moved = if c < k { 4 } else { 0 };
+                let last_batch = 372 * (k - 1) + moved + 1;
+                let places = BTreeSet::from([1, 372, claims, last_batch, 372 * k]);
+                let order = order(k, c);
+                for count in places {
+                    let test = order[count - 1];
+                    let fault = fault(&mut random, test);
+                    let day = faulty_day(table.clone(), taps.clone(), c, &[fault]);
+                    refused_alike(seed, &day, 3 * k, test, count);
+                }
             }
         }
     }

@@ -98,9 +98,9 @@ fn check() {
         for case in check_cases(seed, 2000) {
             let about = format!("seed {seed}: {}", case.name);
             let (table, trace) = (case.table.clone(), case.trace.clone());
-            let answer = lemoncolumn::check(&table, &trace, case.claim);
+            let answer = lemoncolumn::check(&table, &trace, case.claim, case.c);
             assert_eq!((&table, &trace), (&case.table, &case.trace), "{about}");
-            let second = second::check(&case.table, &case.trace, case.claim);
+            let second = second::check(&case.table, &case.trace, case.claim, case.c);
             let none = words(0);
             agree(&about, (answer, &none), (second, &none), case.refusal);
         }
@@ -115,9 +115,10 @@ fn read_off() {
             let mut proved = words(case.destination);
             let mut other = words(case.destination);
             let (table, trace) = (case.table.clone(), case.trace.clone());
-            let answer = lemoncolumn::read_off(&table, &trace, case.claim, &mut proved);
+            let (claim, c) = (case.claim, case.c);
+            let answer = lemoncolumn::read_off(&table, &trace, claim, c, &mut proved);
             assert_eq!((&table, &trace), (&case.table, &case.trace), "{about}");
-            let second = second::read_off(&case.table, &case.trace, case.claim, &mut other);
+            let second = second::read_off(&case.table, &case.trace, claim, c, &mut other);
             agree(&about, (answer, &proved), (second, &other), case.refusal);
             if case.refusal.is_none() {
                 assert_eq!(proved[..], case.taps[..], "{about}");
@@ -134,9 +135,10 @@ fn edit() {
             let mut proved = holding(&case.trace);
             let mut other = holding(&case.trace);
             let table = case.table.clone();
-            let answer = lemoncolumn::edit(&table, &mut proved, case.claim, case.tap, case.new);
+            let (claim, c, tap) = (case.claim, case.c, case.tap);
+            let answer = lemoncolumn::edit(&table, &mut proved, claim, c, tap, case.new);
             assert_eq!(table, case.table, "{about}");
-            let second = second::edit(&case.table, &mut other, case.claim, case.tap, case.new);
+            let second = second::edit(&case.table, &mut other, claim, c, tap, case.new);
             agree(&about, (answer, &proved), (second, &other), case.refusal);
             if case.refusal.is_none() {
                 assert_eq!(answer, Ok(case.output), "{about}");

@@ -28,11 +28,12 @@ fn final_states(table: &[u64], taps: &[u64], about: &str) -> Vec<State> {
 /// 31 of each batch is the final state of its third hash, and the row 0 after it
 /// has cells 0 to 3 of that, the next tap and four zeros.
 fn hashed_one_by_one(table: Good, taps: Vec<u64>, seed: u64) {
-    let honest = day(table, taps);
+    let k = taps.len() / 12;
+    let honest = day(table, taps, k);
     let about = format!("seed {seed}: {}", honest.name);
     let (table, taps) = (&honest.table.prepared, &honest.taps);
     let states = final_states(table, taps, &about);
-    let k = states.len() / 3;
+    assert_eq!(states.len(), 3 * k, "{about}");
 
     let output = Ok(honest.claim);
     assert_eq!(states[3 * k - 1][..4], honest.claim, "{about}");

@@ -45,6 +45,7 @@ pub struct CheckCase {
     pub table: Vec<u64>,
     pub trace: Vec<u64>,
     pub claim: [u64; 4],
+    pub c: usize,
     /// For 11 the tests are the failing test's place in the order.
     pub refusal: Option<Refusal>,
 }
@@ -55,6 +56,7 @@ pub struct ReadOffCase {
     pub table: Vec<u64>,
     pub trace: Vec<u64>,
     pub claim: [u64; 4],
+    pub c: usize,
     pub destination: usize,
     /// For 11 the tests are the failing test's place in the order.
     pub refusal: Option<Refusal>,
@@ -68,6 +70,7 @@ pub struct EditCase {
     pub table: Vec<u64>,
     pub trace: Vec<u64>,
     pub claim: [u64; 4],
+    pub c: usize,
     pub tap: usize,
     pub new: [u64; 4],
     /// For 11 the tests are the failing test's place in the order.
@@ -188,6 +191,38 @@ pub fn lent_claim(
     }
     let index = random.spoil(&mut lent);
     (lent, Some(claim_word(index)))
+}
+
+/// Numbers that are no c: 0, and above k the next ones, counts of taps and of rows, and
+/// some that are small again in 32 bits, or in 64 once they are multiplied by 3, 4, 12,
+/// 32, 372 or 384.
+pub fn no_c(k: usize) -> [usize; 15] {
+    [
+        0,
+        k + 1,
+        k + 2,
+        2 * k,
+        3 * k + 1,
+        32 * k,
+        1 << 32,
+        (1 << 32) + 1,
+        (1 << 57) + 1,
+        (1 << 59) + 1,
+        (1 << 62) + 1,
+        1 << 63,
+        usize::MAX / 3 + 1,
+        usize::MAX - 1,
+        usize::MAX,
+    ]
+}
+
+/// c as lent, and the refusal.
+pub fn lent_c(random: &mut Random, k: usize, c: usize, damaged: bool) -> (usize, Option<Refusal>) {
+    if damaged {
+        (random.pick(&no_c(k)), Some(Refusal::ClaimBatches))
+    } else {
+        (c, None)
+    }
 }
 
 /// Joins the names of the parts of a case, leaving out the empty ones.

@@ -1,10 +1,11 @@
-//! The cases of Edit (document 02, U1).
+//! The cases of Edit (document 02, U1 and U6).
 
-use crate::cases::{claim_word, damage, first_of, join, tap_word, trace_word, EditCase};
+use crate::cases::{claim_word, damage, first_of, join, no_c, tap_word, trace_word, EditCase};
 use crate::checks::{lent_day, Damaged, LENGTHS};
 use crate::random::Random;
 use crate::tables::{damaged_tables, dense, special_tables};
-use crate::traces::{broken, day, failed, with_faults, Day};
+use crate::taps::some_c;
+use crate::traces::{broken, day, honest_days, with_faults, Day};
 use second::field::{add, P};
 use second::Refusal;
 
@@ -56,12 +57,13 @@ fn new_tap(random: &mut Random, old: [u64; 4]) -> [u64; 4] {
 
 /// An edit of an honest day.
 fn accepted(day: &Day, tap: usize, new: [u64; 4]) -> EditCase {
-    let (altered, output) = with_faults(&day.table, &with_tap(&day.taps, tap, new), &[]);
+    let (altered, output) = with_faults(&day.table, &with_tap(&day.taps, tap, new), day.c, &[]);
     EditCase {
         name: format!("{}, tap {tap} by {new:?}", day.name),
         table: day.table.prepared.clone(),
         trace: day.trace.clone(),
         claim: day.claim,
+        c: day.c,
         tap,
         new,
         refusal: None,
@@ -77,6 +79,7 @@ fn refused(name: String, day: &Day, tap: usize, new: [u64; 4], refusal: Refusal)
         table: day.table.prepared.clone(),
         trace: day.trace.clone(),
         claim: day.claim,
+        c: day.c,
         tap,
         new,
         refusal: Some(refusal),
@@ -89,48 +92,53 @@ fn edit_corners(seed: u64) -> Vec<EditCase> {
     let mut random = Random::new(seed);
     let mut cases = accepted_edits(&mut random);
     let table = dense(&mut random);
-    let honest = day(table, random.canonicals(28));
+    let honest = day(table, random.canonicals(28), 2);
     for table in damaged_tables(&honest.table) {
         let refusal = table.refusal.expect("damaged");
         let mut case = refused(table.name, &honest, usize::MAX, [P; 4], refusal);
         case.table = table.words;
         case.trace = vec![P; 383];
         case.claim = [P; 4];
+        case.c = 0;
         cases.push(case);
     }
     cases.extend(refused_numbers(&mut random, &honest));
     cases.extend(refused_words(&honest));
     cases.extend(refused_traces(&mut random));
     // Every choice of what is damaged.
-    for choice in 0..1 << 7 {
+    for choice in 0..1 << 8 {
         let damaged = std::array::from_fn(|thing| choice >> thing & 1 == 1);
         cases.push(lent_case(&mut random, 8 * choice, damaged));
     }
     cases
 }
 
-/// Each tap of few batches, some of many, and each special table.
+/// Each tap of few batches under the claim of each c, some taps of many batches, and
+/// each special table.
 fn accepted_edits(random: &mut Random) -> Vec<EditCase> {
     let mut cases = vec![];
     for k in [1, 2, 4, 8, 16, 32] {
-        let table = dense(random);
-        let day = day(table, random.canonicals(12 * k + 4));
-        let middle = 3 * k / 2;
-        for tap in 0..=3 * k {
-            if k <= 4 || tap <= 2 || tap.abs_diff(middle) <= 1 || tap >= 3 * k - 2 {
-                let new = std::array::from_fn(|_| random.canonical());
-                cases.push(accepted(&day, tap, new));
+        let (table, taps) = (dense(random), random.canonicals(12 * k + 4));
+        let cs = if k <= 4 { 1..=k } else { k..=k };
+        for day in honest_days(&table, &taps, cs) {
+            let middle = 3 * k / 2;
+            for tap in 0..=3 * k {
+                if k <= 4 || tap <= 2 || tap.abs_diff(middle) <= 1 || tap >= 3 * k - 2 {
+                    let new = std::array::from_fn(|_| random.canonical());
+                    cases.push(accepted(&day, tap, new));
+                }
             }
         }
     }
+    cases.extend(beside_the_claim(random));
     for table in special_tables(random) {
-        let day = day(table, random.canonicals(16));
+        let day = day(table, random.canonicals(16), 1);
         for tap in 0..=3 {
             cases.push(accepted(&day, tap, [P - 1; 4]));
         }
     }
     let table = dense(random);
-    let day = day(table, vec![P - 1; 28]);
+    let day = day(table, vec![P - 1; 28], 2);
     for tap in 0..=6 {
         cases.push(accepted(&day, tap, [P - 1; 4])); // nothing changes
         for word in 0..4 {
@@ -142,7 +150,25 @@ fn accepted_edits(random: &mut Random) -> Vec<EditCase> {
     cases
 }
 
-/// 7 and 15.
+/// The last tap that the claim is about and the next one, for every c of eight
+/// batches, and for some of more.
+fn beside_the_claim(random: &mut Random) -> Vec<EditCase> {
+    let mut cases = vec![];
+    for k in [8, 16, 32] {
+        let (table, taps) = (dense(random), random.canonicals(12 * k + 4));
+        for day in honest_days(&table, &taps, 1..=k - 1) {
+            if k == 8 || [1, k / 2 + 1, k - 1].contains(&day.c) {
+                for tap in [3 * day.c, 3 * day.c + 1] {
+                    let new = std::array::from_fn(|_| random.canonical());
+                    cases.push(accepted(&day, tap, new));
+                }
+            }
+        }
+    }
+    cases
+}
+
+/// 7, 17 and 15.
 fn refused_numbers(random: &mut Random, honest: &Day) -> Vec<EditCase> {
     let mut cases = vec![];
     for length in LENGTHS {
@@ -151,10 +177,21 @@ fn refused_numbers(random: &mut Random, honest: &Day) -> Vec<EditCase> {
         let mut case = refused(name, honest, usize::MAX, [P; 4], refusal);
         case.trace = vec![P; length];
         case.claim = [P; 4];
+        case.c = 0;
         cases.push(case);
     }
     for k in [1, 2, 4] {
-        let day = day(dense(random), random.canonicals(12 * k + 4));
+        let c = some_c(random, k);
+        let day = day(dense(random), random.canonicals(12 * k + 4), c);
+        for c in no_c(k) {
+            let name = format!("lent c = {c}, k = {k}");
+            let refusal = Refusal::ClaimBatches;
+            let mut case = refused(name, &day, usize::MAX, [P; 4], refusal);
+            case.trace[0] = P;
+            case.claim = [P; 4];
+            case.c = c;
+            cases.push(case);
+        }
         for tap in no_taps(k) {
             let name = format!("tap {tap}, k = {k}");
             let mut case = refused(name, &day, tap, [P; 4], Refusal::NoSuchTap);
@@ -200,7 +237,7 @@ fn refused_traces(random: &mut Random) -> Vec<EditCase> {
     let mut cases = vec![];
     for kind in 0..10 {
         let day = broken(random, 2, kind);
-        let refusal = failed(day.fails.expect("broken"));
+        let refusal = day.refusal().expect("broken");
         for tap in [0, 1, 3, 6] {
             let old = tap_of(&day.taps, tap).expect("a tap");
             for new in [old, new_tap(random, old)] {
@@ -213,11 +250,12 @@ fn refused_traces(random: &mut Random) -> Vec<EditCase> {
 }
 
 /// A case with these things damaged, in the order of the refusals.
-fn lent_case(random: &mut Random, number: usize, damaged: [bool; 7]) -> EditCase {
-    let [table, length, tap, claim, word, new, constraint] = damaged;
+fn lent_case(random: &mut Random, number: usize, damaged: [bool; 8]) -> EditCase {
+    let [table, length, c, tap, claim, word, new, constraint] = damaged;
     let damaged = Damaged {
         table,
         length,
+        c,
         claim,
         word,
         constraint,
@@ -234,6 +272,7 @@ fn lent_case(random: &mut Random, number: usize, damaged: [bool; 7]) -> EditCase
     let refusal = first_of(&[
         day.table.refusal,
         day.length,
+        day.no_c,
         no_such_tap,
         day.claim_word,
         day.word,
@@ -241,7 +280,7 @@ fn lent_case(random: &mut Random, number: usize, damaged: [bool; 7]) -> EditCase
         day.fails,
     ]);
     let (altered, output) = match refusal {
-        None => with_faults(&day.good, &with_tap(&day.taps, tap, lent), &[]),
+        None => with_faults(&day.good, &with_tap(&day.taps, tap, lent), day.c, &[]),
         Some(_) => (vec![], [0; 4]),
     };
     EditCase {
@@ -249,6 +288,7 @@ fn lent_case(random: &mut Random, number: usize, damaged: [bool; 7]) -> EditCase
         table: day.table.words,
         trace: day.trace,
         claim: day.claim,
+        c: day.c,
         tap,
         new: lent,
         refusal,
@@ -257,7 +297,7 @@ fn lent_case(random: &mut Random, number: usize, damaged: [bool; 7]) -> EditCase
     }
 }
 
-/// Edit: 1, 2, 4, 7, 15, 9, 10, 6, 11. The corner cases and `n` others.
+/// Edit: 1, 2, 4, 7, 17, 15, 9, 10, 6, 11. The corner cases and `n` others.
 pub fn edit_cases(seed: u64, n: usize) -> Vec<EditCase> {
     let mut random = Random::new(seed);
     let make = |number| {

@@ -7,10 +7,10 @@
 //! 3. `tables`: Prepare ("The table")
 //! 4. `taps`: Hash, Chain and Build ("Hash and chain")
 //! 5. `traces`: days, honest or failing where one wishes ("The trace")
-//! 6. `checks`: Check and Read-off ("The 52 constraints")
+//! 6. `checks`: Check and Read-off ("The 52 constraints"; document 02, U6)
 //! 7. `files`: Pack and Unpack ("The board file")
 //! 8. `program`: the line that the program prints (there, "The program reads")
-//! 9. `edits`: Edit (document 02, U1)
+//! 9. `edits`: Edit (document 02, U1 and U6)
 //! 10. `pairs`: Unhash (document 02, U5)
 //!
 //! For each operation there is a kind of case and a function that makes its

@@ -78,7 +78,7 @@ fn clear_corners(seed: u64) -> Vec<ClearCase> {
         push(name, input_of(&good.raw, &file), line);
     }
     for k in [1, 2, 4, 8, 16, 32] {
-        let honest = day(good.clone(), random.canonicals(12 * k + 4));
+        let honest = day(good.clone(), random.canonicals(12 * k + 4), k);
         let file = bytes_of(k, &honest.claim, &honest.taps);
         let line = match k {
             32 => String::from("too long"),
@@ -133,7 +133,7 @@ pub fn clear_cases(seed: u64, n: usize) -> Vec<ClearCase> {
         let good = good(&mut random);
         let table = lent_raw(&mut random, &good, flags[0]);
         let taps = list(&mut random, k);
-        let (_, mut claim) = with_faults(&good, &taps, &[]);
+        let (_, mut claim) = with_faults(&good, &taps, k, &[]);
         let wrong = flags[1] || flags[2];
         let fails = wrong.then(|| wrong_claim(&mut random, k, &mut claim));
         let file = lent_file(&mut random, &words_of(k, &claim, &taps), damaged);

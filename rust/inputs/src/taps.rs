@@ -20,6 +20,11 @@ pub fn some_k(random: &mut Random) -> usize {
     random.pick(&[1, 1, 1, 1, 2, 2, 2, 4, 4, 8])
 }
 
+/// A c from 1 to k: 1, k or any.
+pub fn some_c(random: &mut Random, k: usize) -> usize {
+    1 + random.place(k)
+}
+
 /// A list of 3k + 1 taps.
 pub fn list(random: &mut Random, k: usize) -> Vec<u64> {
     let words = 12 * k + 4;

@@ -1,11 +1,12 @@
-//! Traces (document 01, "The trace" and "The 52 constraints"): honest ones,
-//! ones that fail just the tests one wishes, and altered cells.
+//! Traces (document 01, "The trace" and "The 52 constraints"; document 02, U6):
+//! honest ones, ones that fail just the tests one wishes, and altered cells. c is
+//! lent with the claim, which is about the first 3c + 1 taps.
 //!
 //! A trace is written here from its first row to its last, and each row is
 //! chosen so that the next tests come out as wished. That is possible for every
 //! accepted table, because M and the root can be undone: whatever twelve words
 //! back shall be, one row has that back. So for each of the 372k tests there is
-//! a trace that fails it and no other:
+//! a trace that fails it and no other, and but for 49 to 52 the same for every c:
 //!
 //! - 1 to 4: row 0 gets a word other than 0 in that column, and the rows after
 //!   it are computed from there.
@@ -14,15 +15,17 @@
 //! - 9 to 20: row 1 is computed from row 0 plus K_0 plus something.
 //! - 21 to 32: the next row is computed from forward plus something.
 //! - 33 to 44: row 31 is forward of row 30 plus something; what follows, the
-//!   next row 0 or the claim, is taken from that row 31.
+//!   next row 0 and the claim, is taken from that row 31.
 //! - 45 to 48: the next row 0 takes the output plus something.
-//! - 49 to 52: the claim is the last output plus something.
+//! - 49 to 52: the claim is the output of batch c - 1 plus something.
 
 use crate::random::Random;
 use crate::tables::{dense, good, Good};
-use crate::taps::list;
+use crate::taps::{list, some_c};
 use second::field::{add, cube, mul, root, P};
 use second::Refusal;
+use std::collections::BTreeSet;
+use std::ops::RangeInclusive;
 
 /// A row, or a state of a hash.
 pub type Cells = [u64; 12];
@@ -37,13 +40,42 @@ pub struct Fault {
     pub by: u64,
 }
 
+impl Fault {
+    /// Whether it is one under a claim with this c: 49 to 52 apply at one row.
+    fn applies(&self, c: usize) -> bool {
+        self.constraint < 49 || self.row + 1 == 32 * c
+    }
+}
+
+/// By how much a test shall fail; 0 where it shall hold.
+fn wished(faults: &[Fault], row: usize, constraint: usize) -> u64 {
+    let wanted = |fault: &&Fault| fault.row == row && fault.constraint == constraint;
+    faults.iter().find(wanted).map_or(0, |fault| fault.by)
+}
+
 /// The trace of a list with these tests failing and no others, and the claim
-/// that goes with it. Without faults it is the list's section 3.1 trace.
-pub fn with_faults(table: &Good, taps: &[u64], faults: &[Fault]) -> (Vec<u64>, [u64; 4]) {
-    let by = |row: usize, constraint: usize| {
-        let wanted = |fault: &&Fault| fault.row == row && fault.constraint == constraint;
-        faults.iter().find(wanted).map_or(0, |fault| fault.by)
-    };
+/// with this c that goes with it. Without faults it is the list's section 3.1
+/// trace, and the output of the first 3c + 1 taps.
+pub fn with_faults(table: &Good, taps: &[u64], c: usize, faults: &[Fault]) -> (Vec<u64>, [u64; 4]) {
+    let trace = trace_with(table, taps, faults);
+    let claim = claim_with(&trace, c, faults);
+    (trace, claim)
+}
+
+/// Cells 0 to 3 of row 31 of batch c - 1: in a list's trace, what the first 3c + 1
+/// taps chain to.
+pub fn output_after(trace: &[u64], c: usize) -> [u64; 4] {
+    let row_31 = 384 * c - 12;
+    std::array::from_fn(|j| trace[row_31 + j])
+}
+
+fn claim_with(trace: &[u64], c: usize, faults: &[Fault]) -> [u64; 4] {
+    let output = output_after(trace, c);
+    std::array::from_fn(|j| add(output[j], wished(faults, 32 * c - 1, 49 + j)))
+}
+
+fn trace_with(table: &Good, taps: &[u64], faults: &[Fault]) -> Vec<u64> {
+    let by = |row: usize, constraint: usize| wished(faults, row, constraint);
     let tap = |number: usize, column: usize| taps[4 * number + column];
     let k_0 = |column: usize| table.k(0, column);
     let k = (taps.len() - 4) / 12;
@@ -77,8 +109,7 @@ pub fn with_faults(table: &Good, taps: &[u64], faults: &[Fault]) -> (Vec<u64>, [
         trace.extend(start);
         last = start;
     }
-    let claim = std::array::from_fn(|j| add(last[j], by(32 * k - 1, 49 + j)));
-    (trace, claim)
+    trace
 }
 
 /// M times the cells, plus K_number.
@@ -89,8 +120,9 @@ pub fn times_m(table: &Good, cells: Cells, number: usize) -> Cells {
     })
 }
 
-/// The rows of a trace of k batches at which a constraint applies.
-pub fn rows_of(constraint: usize, k: usize) -> Vec<usize> {
+/// The rows of a trace of k batches at which a constraint applies, under a claim
+/// with this c.
+pub fn rows_of(k: usize, c: usize, constraint: usize) -> Vec<usize> {
     let within: Vec<usize> = match constraint {
         1..=4 | 9..=20 => vec![0],
         5..=8 => vec![10, 20],
@@ -101,7 +133,7 @@ pub fn rows_of(constraint: usize, k: usize) -> Vec<usize> {
     };
     let batches = match constraint {
         45..=48 => 0..k - 1,
-        49..=52 => k - 1..k,
+        49..=52 => c - 1..c,
         _ => 0..k,
     };
     batches
@@ -109,10 +141,27 @@ pub fn rows_of(constraint: usize, k: usize) -> Vec<usize> {
         .collect()
 }
 
+/// The rows at which it applies under some claim.
+pub fn rows_for_some_c(k: usize, constraint: usize) -> Vec<usize> {
+    let rows = (1..=k).flat_map(|c| rows_of(k, c, constraint));
+    BTreeSet::from_iter(rows).into_iter().collect()
+}
+
+/// The c of the claims under which one of those tests is in the order.
+pub fn cs_of(k: usize, (row, constraint): (usize, usize)) -> RangeInclusive<usize> {
+    match constraint {
+        49..=52 => row / 32 + 1..=row / 32 + 1,
+        _ => 1..=k,
+    }
+}
+
 /// The place of a test in the order, counted from 1: 372 tests a batch; 16 at
-/// row 0, 12 at rows 1 to 30 but 8 at 10 and 20, 4 at row 31.
-pub fn place(row: usize, constraint: usize) -> usize {
+/// row 0, 12 at rows 1 to 30 but 8 at 10 and 20, 4 at row 31. Where the claim's four
+/// do not stand in the last row, they come after the four that row 31 of batch c - 1
+/// has, and before all later batches.
+pub fn place(k: usize, c: usize, (row, constraint): (usize, usize)) -> usize {
     let (batch, row) = (row / 32, row % 32);
+    let claims = 4 * usize::from(batch >= c);
     let shorter = 4 * (usize::from(row > 10) + usize::from(row > 20));
     let before = if row == 0 {
         0
@@ -127,17 +176,19 @@ pub fn place(row: usize, constraint: usize) -> usize {
         21..=32 => constraint - 20,
         33..=44 => constraint - 32,
         45..=48 => constraint - 44,
+        _ if c < k => constraint - 44,
         _ => constraint - 48,
     };
-    372 * batch + before + within
+    372 * batch + claims + before + within
 }
 
 /// Refusal 11 of this test.
-pub fn failed((row, constraint): (usize, usize)) -> Refusal {
+pub fn failed(k: usize, c: usize, test: (usize, usize)) -> Refusal {
+    let (row, constraint) = test;
     Refusal::Constraint {
         row: row as u64,
         constraint: constraint as u64,
-        tests: place(row, constraint) as u64,
+        tests: place(k, c, test) as u64,
     }
 }
 
@@ -186,8 +237,8 @@ fn first_failure_of_constant(table: &Good, number: usize, column: usize) -> (usi
     }
 }
 
-/// A table, a trace and a claim, all of canonical words, and the first test
-/// that fails, if any.
+/// A table, a trace and a claim with its c, all of canonical words, and the first
+/// test that fails, if any.
 #[derive(Clone, Debug)]
 pub struct Day {
     pub name: String,
@@ -195,34 +246,40 @@ pub struct Day {
     pub taps: Vec<u64>,
     pub trace: Vec<u64>,
     pub claim: [u64; 4],
+    pub c: usize,
     pub fails: Option<(usize, usize)>,
 }
 
-/// The honest day of a list.
-pub fn day(table: Good, taps: Vec<u64>) -> Day {
-    let (trace, claim) = with_faults(&table, &taps, &[]);
-    Day {
-        name: format!("{}, k = {}", table.name, taps.len() / 12),
-        table,
-        taps,
-        trace,
-        claim,
-        fails: None,
+impl Day {
+    pub fn k(&self) -> usize {
+        self.taps.len() / 12
     }
+
+    /// 11, if a test fails.
+    pub fn refusal(&self) -> Option<Refusal> {
+        self.fails.map(|test| failed(self.k(), self.c, test))
+    }
+}
+
+/// The honest day of a list.
+pub fn day(table: Good, taps: Vec<u64>, c: usize) -> Day {
+    faulty_day(table, taps, c, &[])
 }
 
 /// An honest day under any table.
 pub fn honest(random: &mut Random, k: usize) -> Day {
     let table = good(random);
     let taps = list(random, k);
-    day(table, taps)
+    let c = some_c(random, k);
+    day(table, taps, c)
 }
 
 /// An honest day whose cells are all likely to differ from any other day's.
 fn busy(random: &mut Random, k: usize) -> Day {
     let table = dense(random);
     let taps = random.uniform(12 * k + 4);
-    day(table, taps)
+    let c = some_c(random, k);
+    day(table, taps, c)
 }
 
 /// A day that fails; `kind` is taken in turn.
@@ -255,9 +312,10 @@ pub fn broken(random: &mut Random, k: usize, kind: usize) -> Day {
 fn faulty(random: &mut Random, k: usize, constraints: &[usize]) -> Day {
     let joins = constraints.iter().any(|c| (45..=48).contains(c));
     let k = if joins { k.max(2) } else { k };
+    let c = some_c(random, k);
     let mut faults: Vec<Fault> = vec![];
     for &constraint in constraints {
-        let row = random.pick(&rows_of(constraint, k));
+        let row = random.pick(&rows_of(k, c, constraint));
         let by = random.unit();
         faults.retain(|fault| (fault.row, fault.constraint) != (row, constraint));
         faults.push(Fault {
@@ -268,19 +326,52 @@ fn faulty(random: &mut Random, k: usize, constraints: &[usize]) -> Day {
     }
     let table = good(random);
     let taps = list(random, k);
-    faulty_day(table, taps, &faults)
+    faulty_day(table, taps, c, &faults)
 }
 
 /// The day of a list with these faults.
-pub fn faulty_day(table: Good, taps: Vec<u64>, faults: &[Fault]) -> Day {
-    let (trace, claim) = with_faults(&table, &taps, faults);
-    let places: Vec<(usize, usize)> = faults.iter().map(|f| (f.row, f.constraint)).collect();
+pub fn faulty_day(table: Good, taps: Vec<u64>, c: usize, faults: &[Fault]) -> Day {
+    let trace = trace_with(&table, &taps, faults);
+    day_of(table, taps, trace, c, faults)
+}
+
+/// The same for each c. The trace is written once, since c decides about the claim
+/// alone; a fault of 49 to 52 is one for the c whose row it names.
+pub fn faulty_days<'a>(
+    table: &'a Good,
+    taps: &'a [u64],
+    cs: impl IntoIterator<Item = usize> + 'a,
+    faults: &'a [Fault],
+) -> impl Iterator<Item = Day> + 'a {
+    let trace = trace_with(table, taps, faults);
+    let day = move |c| day_of(table.clone(), taps.to_vec(), trace.clone(), c, faults);
+    cs.into_iter().map(day)
+}
+
+/// The same without a fault.
+pub fn honest_days<'a>(
+    table: &'a Good,
+    taps: &'a [u64],
+    cs: impl IntoIterator<Item = usize> + 'a,
+) -> impl Iterator<Item = Day> + 'a {
+    faulty_days(table, taps, cs, &[])
+}
+
+/// The day of a trace that was made with these faults.
+fn day_of(table: Good, taps: Vec<u64>, trace: Vec<u64>, c: usize, faults: &[Fault]) -> Day {
+    let under_c = faults.iter().filter(|fault| fault.applies(c));
+    let places: Vec<(usize, usize)> = under_c.map(|f| (f.row, f.constraint)).collect();
+    let fails = match places[..] {
+        [] => String::new(),
+        _ => format!(", fails {places:?}"),
+    };
     Day {
-        name: format!("{}, k = {}, fails {places:?}", table.name, taps.len() / 12),
+        name: format!("{}, k = {}, c = {c}{fails}", table.name, taps.len() / 12),
         table,
         taps,
+        claim: claim_with(&trace, c, faults),
         trace,
-        claim,
+        c,
         fails: places.iter().min().copied(),
     }
 }
@@ -313,7 +404,7 @@ fn wrong_claim(random: &mut Random, k: usize) -> Day {
             day.claim[j] = add(day.claim[j], random.unit());
         }
     }
-    day.fails = Some((32 * k - 1, 49 + column));
+    day.fails = Some((32 * day.c - 1, 49 + column));
     day.name += &format!(", claim wrong from column {column} on");
     day
 }
@@ -329,11 +420,12 @@ fn wrong_constant(random: &mut Random, k: usize) -> Day {
     day
 }
 
-/// The first rows of one honest trace and the other rows of another.
+/// The first rows of one honest trace and the other rows of another, under the
+/// claim of the latter: it fails where they meet, or before that at the claim's row.
 fn spliced(random: &mut Random, k: usize) -> Day {
     let head = busy(random, k);
     let taps = random.uniform(12 * k + 4);
-    let mut day = day(head.table, taps);
+    let mut day = day(head.table, taps, head.c);
     let row = 1 + random.below(32 * k - 1);
     day.trace[..12 * row].copy_from_slice(&head.trace[..12 * row]);
     let constraint = match row % 32 {
@@ -342,7 +434,7 @@ fn spliced(random: &mut Random, k: usize) -> Day {
         31 => 33,
         _ => 21,
     };
-    day.fails = Some((row - 1, constraint));
+    day.fails = Some((row - 1, constraint).min((32 * day.c - 1, 49)));
     day.name += &format!(", another trace before row {row}");
     day
 }

@@ -16,8 +16,8 @@ const OLD: u64 = 0x0123456789abcdef;
 
 /// Counts refusals by number, 0 for accepted, and checks that each has come.
 struct Seen([usize; NUMBERS]);
-/// 0 to 16.
-const NUMBERS: usize = 17;
+/// 0 to 17.
+const NUMBERS: usize = 18;
 
 impl Seen {
     fn new() -> Seen {
@@ -71,6 +71,7 @@ fn left_tap(table: &Good, trace: &[u64], row: usize) -> [u64; 4] {
         table: second::Table::test(&table.prepared).expect("accepted"),
         trace,
         claim: [0; 4],
+        c: 1,
     };
     std::array::from_fn(|column| sub(lent.back(row, column), table.k(0, column)))
 }
@@ -81,7 +82,7 @@ fn left_tap(table: &Good, trace: &[u64], row: usize) -> [u64; 4] {
 fn in_row_31(table: &Good, words: [u64; 8]) -> Vec<u64> {
     let mut taps = vec![0; 12];
     taps.extend(&words[4..]);
-    let (honest, _) = with_faults(table, &taps, &[]);
+    let (honest, _) = with_faults(table, &taps, 1, &[]);
     let handed_on = left_tap(table, &honest, 21);
     let faults: Vec<Fault> = (0..4)
         .map(|column| Fault {
@@ -91,7 +92,7 @@ fn in_row_31(table: &Good, words: [u64; 8]) -> Vec<u64> {
         })
         .filter(|fault| fault.by != 0)
         .collect();
-    let (trace, _) = with_faults(table, &taps, &faults);
+    let (trace, _) = with_faults(table, &taps, 1, &faults);
     assert_eq!(left_tap(table, &trace, 21), words[..4]);
     trace[12 * 31..].to_vec()
 }
@@ -111,7 +112,7 @@ fn hash() {
             let table = good(&case.table);
             let mut taps = case.words.to_vec();
             taps.resize(16, 0);
-            let (trace, _) = with_faults(&table, &taps, &[]);
+            let (trace, _) = with_faults(&table, &taps, 1, &[]);
             let next = left_tap(&table, &trace, 11);
             assert_eq!(next, state[..4], "seed {SEED}: {}", case.name);
             let row_31 = in_row_31(&table, case.words);
@@ -129,7 +130,8 @@ fn chain() {
         let answer = second::chain(&case.table, &case.taps);
         assert_eq!(answer.err(), case.refusal, "seed {SEED}: {}", case.name);
         if let Ok(output) = answer {
-            let (_, claim) = with_faults(&good(&case.table), &case.taps, &[]);
+            let k = case.taps.len() / 12;
+            let (_, claim) = with_faults(&good(&case.table), &case.taps, k, &[]);
             assert_eq!(output, claim, "seed {SEED}: {}", case.name);
         }
         seen.note(case.refusal);
@@ -152,7 +154,8 @@ fn build() {
         }
         match answer {
             Ok(output) => {
-                let expected = with_faults(&good(&case.table), &case.taps, &[]);
+                let k = case.taps.len() / 12;
+                let expected = with_faults(&good(&case.table), &case.taps, k, &[]);
                 assert_eq!((destination, output), expected, "{}", case.name);
             }
             Err(_) => assert_eq!(destination, vec![OLD; case.destination]),
@@ -166,10 +169,10 @@ fn build() {
 fn check() {
     let mut seen = Seen::new();
     for case in check_cases(SEED, 800) {
-        let answer = second::check(&case.table, &case.trace, case.claim);
+        let answer = second::check(&case.table, &case.trace, case.claim, case.c);
         assert_eq!(answer.err(), case.refusal, "seed {SEED}: {}", case.name);
         for yardstick in BOTH {
-            let other = (yardstick.check)(&case.table, &case.trace, case.claim);
+            let other = (yardstick.check)(&case.table, &case.trace, case.claim, case.c);
             assert_eq!(other, answer, "seed {SEED}: {}", case.name);
         }
         if let Ok(tests) = answer {
@@ -177,7 +180,7 @@ fn check() {
         }
         seen.note(case.refusal);
     }
-    seen.each(&[0, 1, 2, 4, 7, 9, 10, 11], 10);
+    seen.each(&[0, 1, 2, 4, 7, 9, 10, 11, 17], 10);
 }
 
 #[test]
@@ -185,11 +188,12 @@ fn read_off() {
     let mut seen = Seen::new();
     for case in read_off_cases(SEED, 800) {
         let mut destination = vec![OLD; case.destination];
-        let answer = second::read_off(&case.table, &case.trace, case.claim, &mut destination);
+        let (claim, c) = (case.claim, case.c);
+        let answer = second::read_off(&case.table, &case.trace, claim, c, &mut destination);
         assert_eq!(answer.err(), case.refusal, "seed {SEED}: {}", case.name);
         for yardstick in BOTH {
             let mut other = vec![OLD; case.destination];
-            let read = (yardstick.read_off)(&case.table, &case.trace, case.claim, &mut other);
+            let read = (yardstick.read_off)(&case.table, &case.trace, claim, c, &mut other);
             assert_eq!(read, answer, "seed {SEED}: {}", case.name);
             assert_eq!(other, destination, "seed {SEED}: {}", case.name);
         }
@@ -200,12 +204,12 @@ fn read_off() {
         assert_eq!(destination, expected, "seed {SEED}: {}", case.name);
         // Where the destination is exact, Check says the same.
         if case.refusal != Some(Refusal::DestinationLength) {
-            let checked = second::check(&case.table, &case.trace, case.claim);
+            let checked = second::check(&case.table, &case.trace, claim, c);
             assert_eq!(checked, answer, "seed {SEED}: {}", case.name);
         }
         seen.note(case.refusal);
     }
-    seen.each(&[0, 1, 2, 4, 7, 8, 9, 10, 11], 10);
+    seen.each(&[0, 1, 2, 4, 7, 8, 9, 10, 11, 17], 10);
 }
 
 #[test]
@@ -213,7 +217,8 @@ fn edit() {
     let mut seen = Seen::new();
     for case in edit_cases(SEED, 800) {
         let mut trace = case.trace.clone();
-        let answer = second::edit(&case.table, &mut trace, case.claim, case.tap, case.new);
+        let (claim, c) = (case.claim, case.c);
+        let answer = second::edit(&case.table, &mut trace, claim, c, case.tap, case.new);
         let expected = match case.refusal {
             None => (Ok(case.output), case.altered),
             Some(refusal) => (Err(refusal), case.trace),
@@ -221,7 +226,7 @@ fn edit() {
         assert_eq!((answer, trace), expected, "seed {SEED}: {}", case.name);
         seen.note(case.refusal);
     }
-    seen.each(&[0, 1, 2, 4, 6, 7, 9, 10, 11, 15], 10);
+    seen.each(&[0, 1, 2, 4, 6, 7, 9, 10, 11, 15, 17], 10);
 }
 
 /// A pair that is answered hashes to the lent state, by `second` and by both

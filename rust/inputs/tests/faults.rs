@@ -3,7 +3,8 @@
 
 use inputs::tables::{self, Good};
 use inputs::traces::{
-    day, failed, faulty_day, first_failure_of_cell, place, rows_of, with_faults, Fault,
+    failed, faulty_days, first_failure_of_cell, output_after, place, rows_of, with_faults, Day,
+    Fault,
 };
 use inputs::{fault_cases, Random};
 use second::constraints::{tests, Lent, Test};
@@ -13,15 +14,16 @@ use second::{Refusal, Table};
 const SEED: u64 = 52;
 
 /// All tests of the order that fail, not only the first.
-fn all_that_fail(table: &[u64], trace: &[u64], claim: [u64; 4]) -> Vec<(usize, usize)> {
+fn all_that_fail(table: &[u64], trace: &[u64], claim: [u64; 4], c: usize) -> Vec<(usize, usize)> {
     let table = Table::test(table).expect("an accepted table");
     let lent = Lent {
         table,
         trace,
         claim,
+        c,
     };
     let fails = |test: &&Test| !lent.holds(**test);
-    let order = tests(trace.len() / 384);
+    let order = tests(trace.len() / 384, c);
     let failing = order.iter().filter(fails);
     failing.map(|test| (test.row, test.constraint)).collect()
 }
@@ -36,50 +38,70 @@ fn each_constraint_fails_alone() {
         else {
             panic!("seed {SEED}: {} is not made to fail", case.name);
         };
-        let failing = all_that_fail(&case.table, &case.trace, case.claim);
+        let failing = all_that_fail(&case.table, &case.trace, case.claim, case.c);
         let expected = vec![(row as usize, constraint as usize)];
         assert_eq!(failing, expected, "seed {SEED}: {}", case.name);
-        let answer = second::check(&case.table, &case.trace, case.claim);
+        let answer = second::check(&case.table, &case.trace, case.claim, case.c);
         assert_eq!(answer.err(), case.refusal, "seed {SEED}: {}", case.name);
         for yardstick in yardstick::BOTH {
-            let other = (yardstick.check)(&case.table, &case.trace, case.claim);
+            let other = (yardstick.check)(&case.table, &case.trace, case.claim, case.c);
             assert_eq!(other, answer, "seed {SEED}: {}", case.name);
         }
-        seen.insert((case.trace.len() / 384, constraint));
+        seen.insert((case.trace.len() / 384, case.c, constraint));
     }
     for constraint in 1..=52 {
-        let joins = (45..=48).contains(&constraint);
-        assert_eq!(seen.contains(&(1, constraint)), !joins);
-        assert!(seen.contains(&(2, constraint)));
-        assert!(seen.contains(&(4, constraint)));
+        for k in [1, 2, 4, 8] {
+            for c in 1..=k {
+                let applies = k > 1 || !(45..=48).contains(&constraint);
+                assert_eq!(seen.contains(&(k, c, constraint)), applies);
+            }
+        }
     }
 }
 
-/// Every one of the 744 tests of two batches.
+/// Every test of two batches, under the claim of each c: 740 that are the same for
+/// both, and the claim's four at row 31 or at row 63.
 #[test]
 fn each_test_fails_alone() {
     let mut random = Random::new(SEED);
     let table = tables::dense(&mut random);
     let taps = random.canonicals(28);
-    for test in tests(2) {
-        let fault = Fault {
-            row: test.row,
-            constraint: test.constraint,
-            by: random.unit(),
-        };
-        let day = faulty_day(table.clone(), taps.clone(), &[fault]);
-        let failing = all_that_fail(&day.table.prepared, &day.trace, day.claim);
-        assert_eq!(failing, [(test.row, test.constraint)], "{}", day.name);
+    let orders = [1, 2].map(|c| tests(2, c));
+    let mut alone = [0; 2];
+    for row in 0..64 {
+        for constraint in 1..=52 {
+            let test = Test { row, constraint };
+            let by = random.unit();
+            let fault = Fault {
+                row,
+                constraint,
+                by,
+            };
+            if !orders.iter().any(|order| order.contains(&test)) {
+                continue;
+            }
+            for day in faulty_days(&table, &taps, 1..=2, &[fault]) {
+                let failing = all_that_fail(&day.table.prepared, &day.trace, day.claim, day.c);
+                let expected = match orders[day.c - 1].contains(&test) {
+                    true => vec![(row, constraint)],
+                    false => vec![],
+                };
+                assert_eq!(failing, expected, "{}", day.name);
+                alone[day.c - 1] += failing.len();
+            }
+        }
     }
+    assert_eq!(alone, [744, 744]);
 }
 
 #[test]
 fn several_faults_fail_together() {
     let mut random = Random::new(SEED);
-    for _ in 0..60 {
+    for turn in 0..60 {
         let table = tables::good(&mut random);
         let taps = random.canonicals(28);
-        let order = tests(2);
+        let c = 1 + turn % 2;
+        let order = tests(2, c);
         let mut faults = vec![];
         let mut places = vec![];
         for Test { row, constraint } in order {
@@ -93,8 +115,9 @@ fn several_faults_fail_together() {
                 places.push((row, constraint));
             }
         }
-        let (trace, claim) = with_faults(&table, &taps, &faults);
-        assert_eq!(all_that_fail(&table.prepared, &trace, claim), places);
+        let (trace, claim) = with_faults(&table, &taps, c, &faults);
+        let failing = all_that_fail(&table.prepared, &trace, claim, c);
+        assert_eq!(failing, places);
     }
 }
 
@@ -105,17 +128,31 @@ fn without_faults_the_trace_is_the_built_one() {
         let table = tables::good(&mut random);
         let taps = random.canonicals(12 * k + 4);
         let mut trace = vec![0; 384 * k];
-        let claim = second::build(&table.prepared, &taps, &mut trace).expect("builds");
-        assert_eq!(with_faults(&table, &taps, &[]), (trace, claim));
+        let output = second::build(&table.prepared, &taps, &mut trace).expect("builds");
+        assert_eq!(with_faults(&table, &taps, k, &[]), (trace.clone(), output));
+        // The claim of a lower c, from the hashes of the first 3c + 1 taps.
+        let mut left = taps[..4].to_vec();
+        for (number, right) in (1..).zip(taps[4..].chunks(4)) {
+            let words = [&left, right].concat().try_into().expect("two taps");
+            left = second::hash(&table.prepared, words).expect("hashes")[..4].to_vec();
+            if number % 3 == 0 {
+                let c = number / 3;
+                let (_, claim) = with_faults(&table, &taps, c, &[]);
+                assert_eq!(claim[..], left, "c = {c}, k = {k}");
+                assert_eq!(output_after(&trace, c), claim, "c = {c}, k = {k}");
+            }
+        }
     }
 }
 
 #[test]
 fn places_and_rows_are_those_of_the_order() {
-    for k in [1, 2, 4] {
-        let order = tests(k);
+    let permitted = [1, 2, 4, 8].into_iter();
+    for (k, c) in permitted.flat_map(|k| (1..=k).map(move |c| (k, c))) {
+        let order = tests(k, c);
         for (before, test) in order.iter().enumerate() {
-            assert_eq!(place(test.row, test.constraint), before + 1);
+            let test = (test.row, test.constraint);
+            assert_eq!(place(k, c, test), before + 1, "{test:?}, k = {k}, c = {c}");
         }
         for constraint in 1..=52 {
             let rows: Vec<usize> = order
@@ -123,26 +160,32 @@ fn places_and_rows_are_those_of_the_order() {
                 .filter(|test| test.constraint == constraint)
                 .map(|test| test.row)
                 .collect();
-            assert_eq!(rows_of(constraint, k), rows);
+            assert_eq!(rows_of(k, c, constraint), rows);
         }
     }
 }
 
-/// Every cell of one and of two batches, altered alone.
+/// Every cell of a trace, altered alone, under the claim of each c.
 fn alter_every_cell(table: Good, k: usize, random: &mut Random) {
     let taps = random.canonicals(12 * k + 4);
-    let mut day = day(table, taps);
-    for row in 0..32 * k {
-        for column in 0..12 {
-            let cell = 12 * row + column;
-            let honest = day.trace[cell];
-            day.trace[cell] = add(honest, random.unit());
-            let answer = second::check(&day.table.prepared, &day.trace, day.claim);
-            let expected = failed(first_failure_of_cell(&day.table, row, column));
-            assert_eq!(answer, Err(expected), "{}, {row}, {column}", day.name);
-            day.trace[cell] = honest;
+    for mut day in faulty_days(&table, &taps, 1..=k, &[]) {
+        for row in 0..32 * k {
+            for column in 0..12 {
+                alter_cell(&mut day, row, column, random.unit());
+            }
         }
     }
+}
+
+fn alter_cell(day: &mut Day, row: usize, column: usize, by: u64) {
+    let cell = 12 * row + column;
+    let honest = day.trace[cell];
+    day.trace[cell] = add(honest, by);
+    let answer = second::check(&day.table.prepared, &day.trace, day.claim, day.c);
+    let test = first_failure_of_cell(&day.table, row, column);
+    let expected = failed(day.k(), day.c, test);
+    assert_eq!(answer, Err(expected), "{}, {row}, {column}", day.name);
+    day.trace[cell] = honest;
 }
 
 #[test]

@@ -80,6 +80,7 @@ extern "C" {
         c1: u64,
         c2: u64,
         c3: u64,
+        c: usize,
     ) -> u64;
 
     pub fn lemoncolumn_read_off(
@@ -91,6 +92,7 @@ extern "C" {
         c1: u64,
         c2: u64,
         c3: u64,
+        c: usize,
         taps: *mut u64,
         tap_words: usize,
     ) -> u64;
@@ -104,6 +106,7 @@ extern "C" {
         c1: u64,
         c2: u64,
         c3: u64,
+        c: usize,
         tap: usize,
         w0: u64,
         w1: u64,

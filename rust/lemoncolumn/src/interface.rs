@@ -5,7 +5,7 @@ use crate::calls::lemoncolumn_interface;
 
 /// The interface that [`crate::calls`] declares: `LEMONCOLUMN_INTERFACE` of
 /// include/lemoncolumn.h, and raised with it.
-pub const INTERFACE: u64 = 2;
+pub const INTERFACE: u64 = 3;
 
 /// Makes a call, where the linked library has this crate's interface. Where it
 /// has another, it might take a pointer for a count, so this panics before the

@@ -153,7 +153,8 @@ pub fn chain(table: &[u64], taps: &[u64]) -> Result<[u64; 4], Refusal> {
     accepted(code).map(|()| output)
 }
 
-/// Writes the trace of a list of taps; answers the output of its chain.
+/// Writes the trace of a list of taps; answers the output of its chain, which is the
+/// claim with c = k.
 pub fn build(table: &[u64], taps: &[u64], trace: &mut [u64]) -> Result<[u64; 4], Refusal> {
     let mut output = [0; 4];
     let code = call(|| unsafe {
@@ -171,42 +172,78 @@ pub fn build(table: &[u64], taps: &[u64], trace: &mut [u64]) -> Result<[u64; 4],
     accepted(code).map(|()| output)
 }
 
-/// Tests a trace against a claim; answers the number of tests walked.
-pub fn check(table: &[u64], trace: &[u64], claim: [u64; 4]) -> Result<u64, Refusal> {
-    let [a, b, c, d] = claim;
+/// Tests a trace against a claim; answers the number of tests walked. The claim is
+/// the output of the first 3c + 1 taps, c from 1 to k ([`Refusal::ClaimBatches`]), and
+/// c = k is the whole trace.
+///
+/// A day that closes after 3 batches has a trace of 4 all the same, since k is a power
+/// of two. Its claim ends with its own taps, and the batch that follows is filler:
+///
+/// ```
+/// use lemoncolumn::*;
+///
+/// let mut raw = [0; RAW_WORDS];
+/// for i in 0..12 {
+///     raw[12 * i + (i + 11) % 12] = 1; // under this table the output is the last tap
+/// }
+/// let mut table = [0; TABLE_WORDS];
+/// prepare(&raw, &mut table)?;
+///
+/// let (k, c) = (4, 3);
+/// let mut taps = [0; tap_words(4)];
+/// for (tap, words) in taps.chunks_mut(4).enumerate().take(3 * c + 1) {
+///     words.fill(tap as u64); // taps 0 to 9 are the day's, those after it zeros
+/// }
+/// let mut trace = [0; trace_words(4)];
+/// build(&table, &taps, &mut trace)?; // returns the output of all taps, that is, with c = k
+///
+/// // The day's own output stands in the last row of its last batch.
+/// let last_row = &trace[trace_words(c) - STATE_WORDS..];
+/// let claim = [last_row[0], last_row[1], last_row[2], last_row[3]];
+/// assert_eq!(claim, [9; 4]);
+/// assert_eq!(check(&table, &trace, claim, c), Ok(372 * k));
+/// assert!(check(&table, &trace, claim, 4).is_err());
+/// assert_eq!(check(&table, &trace, claim, 5), Err(Refusal::ClaimBatches));
+/// # Ok::<(), Refusal>(())
+/// ```
+pub fn check(table: &[u64], trace: &[u64], claim: [u64; 4], c: usize) -> Result<u64, Refusal> {
+    let [c0, c1, c2, c3] = claim;
     let code = call(|| unsafe {
         lemoncolumn_check(
             table.as_ptr(),
             table.len(),
             trace.as_ptr(),
             trace.len(),
-            a,
-            b,
+            c0,
+            c1,
+            c2,
+            c3,
             c,
-            d,
         )
     });
     decode(code)
 }
 
-/// The same, and writes the taps of an accepted trace.
+/// The same, and writes the taps of an accepted trace, all 3k + 1 whatever c is.
 pub fn read_off(
     table: &[u64],
     trace: &[u64],
     claim: [u64; 4],
+    c: usize,
     taps: &mut [u64],
 ) -> Result<u64, Refusal> {
-    let [a, b, c, d] = claim;
+    let [c0, c1, c2, c3] = claim;
     let code = call(|| unsafe {
         lemoncolumn_read_off(
             table.as_ptr(),
             table.len(),
             trace.as_ptr(),
             trace.len(),
-            a,
-            b,
+            c0,
+            c1,
+            c2,
+            c3,
             c,
-            d,
             taps.as_mut_ptr(),
             taps.len(),
         )
@@ -214,18 +251,20 @@ pub fn read_off(
     decode(code)
 }
 
-/// Tests a trace against a claim, and replaces tap number `tap` of its list, 0 to
-/// 3k: the lent trace becomes that of the altered list. Answers the output of that
-/// list's chain.
+/// Tests a trace against a claim as [`check`] does, and replaces tap number `tap` of
+/// its list, 0 to 3k: the lent trace becomes that of the altered list. Answers the
+/// output of the first 3c + 1 taps of that list, which is the claim where `tap` is
+/// above 3c.
 pub fn edit(
     table: &[u64],
     trace: &mut [u64],
     claim: [u64; 4],
+    c: usize,
     tap: usize,
     new: [u64; 4],
 ) -> Result<[u64; 4], Refusal> {
-    let [a, b, c, d] = claim;
-    let [e, f, g, h] = new;
+    let [c0, c1, c2, c3] = claim;
+    let [w0, w1, w2, w3] = new;
     let mut output = [0; 4];
     let code = call(|| unsafe {
         lemoncolumn_edit(
@@ -233,15 +272,16 @@ pub fn edit(
             table.len(),
             trace.as_mut_ptr(),
             trace.len(),
-            a,
-            b,
+            c0,
+            c1,
+            c2,
+            c3,
             c,
-            d,
             tap,
-            e,
-            f,
-            g,
-            h,
+            w0,
+            w1,
+            w2,
+            w3,
             output.as_mut_ptr(),
             output.len(),
         )
@@ -249,17 +289,18 @@ pub fn edit(
     accepted(code).map(|()| output)
 }
 
-/// Writes the board file of a list of taps and a claim.
+/// Writes the board file of a list of taps and a claim. The file has no c: its claim
+/// is about all of its taps, c = k.
 pub fn pack(taps: &[u64], claim: [u64; 4], file: &mut [u8]) -> Result<(), Refusal> {
-    let [a, b, c, d] = claim;
+    let [c0, c1, c2, c3] = claim;
     let code = call(|| unsafe {
         lemoncolumn_pack(
             taps.as_ptr(),
             taps.len(),
-            a,
-            b,
-            c,
-            d,
+            c0,
+            c1,
+            c2,
+            c3,
             file.as_mut_ptr(),
             file.len(),
         )

@@ -1,5 +1,5 @@
 //! The refusals (document 01, "What is turned back"; document 02), read out of
-//! the number that a call returns (crates/export/specs/Code.antt).
+//! the number that a call returns (crates/handover/specs/Code.antt).
 
 use std::fmt;
 
@@ -47,6 +47,8 @@ pub enum Refusal {
     NoSuchTap,
     /// 16: no pair of taps ends in that state.
     NoPair,
+    /// 17: c is 0 or above k.
+    ClaimBatches,
 }
 
 /// Reads the number that a call returns: the tests walked, 0 for a call that
@@ -56,7 +58,7 @@ pub enum Refusal {
 ///
 /// # Panics
 ///
-/// Where bits 0 to 5 are above 16, as in no number that a call returns.
+/// Where bits 0 to 5 are above 17, as in no number that a call returns.
 pub fn decode(code: u64) -> Result<u64, Refusal> {
     let constraint = code >> 6 & 0x3f;
     let row = code >> 12 & 0xff_ffff;
@@ -83,6 +85,7 @@ pub fn decode(code: u64) -> Result<u64, Refusal> {
         14 => Refusal::WrongValue { word: value },
         15 => Refusal::NoSuchTap,
         16 => Refusal::NoPair,
+        17 => Refusal::ClaimBatches,
         _ => unreachable!("no refusal has this number"),
     })
 }
@@ -112,6 +115,7 @@ impl Refusal {
             Refusal::WrongValue { .. } => 14,
             Refusal::NoSuchTap => 15,
             Refusal::NoPair => 16,
+            Refusal::ClaimBatches => 17,
         }
     }
 
@@ -133,7 +137,8 @@ impl Refusal {
             | Refusal::Constraint { .. }
             | Refusal::FileLength
             | Refusal::NoSuchTap
-            | Refusal::NoPair => None,
+            | Refusal::NoPair
+            | Refusal::ClaimBatches => None,
         }
     }
 }

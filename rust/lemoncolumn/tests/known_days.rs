@@ -1,6 +1,6 @@
 //! Document 01's known days, with cells 4 to 11 of the hashes (document 02, U3), the
-//! counts of refusal 11 (U4), edits, and pairs found again (U5), worked out by hand,
-//! through the safe calls.
+//! counts of refusal 11 (U4), edits, pairs found again (U5), and claims that end before
+//! the rows do (U6), worked out by hand, through the safe calls.
 
 use lemoncolumn::*;
 
@@ -163,10 +163,10 @@ fn eleven(row: u64, constraint: u64, tests: u64) -> Refusal {
 fn traces() {
     let z = table(0, 0);
     let zero = [0; 384];
-    assert_eq!(check(&z, &zero, [0; 4]), Ok(372));
-    let refused = check(&z, &zero, [1, 0, 0, 0]);
+    assert_eq!(check(&z, &zero, [0; 4], 1), Ok(372));
+    let refused = check(&z, &zero, [1, 0, 0, 0], 1);
     assert_eq!(refused, Err(eleven(31, 49, 369)));
-    let refused = read_off(&z, &zero, [1, 0, 0, 0], &mut [7; 16]);
+    let refused = read_off(&z, &zero, [1, 0, 0, 0], 1, &mut [7; 16]);
     assert_eq!(refused, Err(eleven(31, 49, 369)));
     for (row, column, refusal) in [
         (0, 8, eleven(0, 1, 1)),
@@ -176,12 +176,12 @@ fn traces() {
         let mut trace = zero;
         trace[12 * row + column] = 1;
         let altered = trace;
-        assert_eq!(check(&z, &trace, [0; 4]), Err(refusal), "{row}");
+        assert_eq!(check(&z, &trace, [0; 4], 1), Err(refusal), "{row}");
         let mut taps = [7; 16];
-        let refused = read_off(&z, &trace, [0; 4], &mut taps);
+        let refused = read_off(&z, &trace, [0; 4], 1, &mut taps);
         assert_eq!(refused, Err(refusal), "{row}");
         assert_eq!(taps, [7; 16], "{row}");
-        let refused = edit(&z, &mut trace, [0; 4], 2, [0, 1, 0, 0]);
+        let refused = edit(&z, &mut trace, [0; 4], 1, 2, [0, 1, 0, 0]);
         assert_eq!(refused, Err(refusal), "{row}");
         assert_eq!(trace, altered, "{row}");
     }
@@ -190,7 +190,7 @@ fn traces() {
         trace[12 * row + 5] = 1;
     }
     let mut taps = [7; 16];
-    assert_eq!(read_off(&z, &trace, [0; 4], &mut taps), Ok(372));
+    assert_eq!(read_off(&z, &trace, [0; 4], 1, &mut taps), Ok(372));
     assert_eq!(taps, [0, 0, 0, 0, 0, 0, 0, 0, 0, 1, 0, 0, 0, 0, 0, 0]);
 }
 
@@ -218,11 +218,13 @@ fn edits() {
             rows.for_each(|row| expected[12 * row + column] = cell);
         }
         let mut trace = [0; 384];
-        assert_eq!(edit(&z, &mut trace, [0; 4], tap, new), Ok(output), "{tap}");
+        let edited = edit(&z, &mut trace, [0; 4], 1, tap, new);
+        assert_eq!(edited, Ok(output), "{tap}");
         assert_eq!(trace, expected, "{tap}");
-        assert_eq!(edit(&z, &mut trace, output, tap, new), Ok(output), "{tap}");
+        let edited = edit(&z, &mut trace, output, 1, tap, new);
+        assert_eq!(edited, Ok(output), "{tap}");
         assert_eq!(trace, expected, "{tap}: by the same tap");
-        assert_eq!(edit(&z, &mut trace, output, tap, [0; 4]), Ok([0; 4]));
+        assert_eq!(edit(&z, &mut trace, output, 1, tap, [0; 4]), Ok([0; 4]));
         assert_eq!(trace, [0; 384], "{tap}: and back");
     }
 }
@@ -245,7 +247,7 @@ fn outputs_of_edits() {
         let claim = build(&table, &taps, &mut built).expect("built");
         for (tap, output) in outputs.into_iter().enumerate() {
             let mut trace = built;
-            let edited = edit(&table, &mut trace, claim, tap, new);
+            let edited = edit(&table, &mut trace, claim, 1, tap, new);
             assert_eq!(edited, Ok(output), "{tap}");
         }
     }
@@ -256,14 +258,98 @@ fn refused_edits() {
     let z = table(0, 0);
     let mut trace = [0; 384];
     for tap in [4, 1 << 32, usize::MAX] {
-        let edited = edit(&z, &mut trace, [P; 4], tap, [P; 4]);
+        let edited = edit(&z, &mut trace, [P; 4], 1, tap, [P; 4]);
         assert_eq!(edited, Err(Refusal::NoSuchTap), "{tap}");
     }
-    let edited = edit(&z, &mut trace, [0; 4], 3, [0, 0, P, P]);
+    let edited = edit(&z, &mut trace, [0; 4], 1, 3, [0, 0, P, P]);
     assert_eq!(edited, Err(Refusal::TapWord { index: 2 }));
-    let edited = edit(&z, &mut trace, [1, 0, 0, 0], 3, [0; 4]);
+    let edited = edit(&z, &mut trace, [1, 0, 0, 0], 1, 3, [0; 4]);
     assert_eq!(edited, Err(eleven(31, 49, 369)));
     assert_eq!(trace, [0; 384]);
+}
+
+/// Under S the first 3c + 1 taps chain to w_3c, also for c = 3. Every tap is read off. A
+/// wrong claim fails at row 31 of batch c - 1. By 48 there 372c tests have been walked;
+/// where c is k, that row has no 45 to 48, and the claim's are the last four.
+#[test]
+fn claims_that_end_early() {
+    let s = table(11, 0);
+    let taps: Vec<u64> = (1..=52).collect();
+    let mut trace = [7; 1536];
+    assert_eq!(build(&s, &taps, &mut trace), Ok([49, 50, 51, 52]));
+    for (c, claim, refusal) in [
+        (1, [13, 14, 15, 16], eleven(31, 49, 373)),
+        (2, [25, 26, 27, 28], eleven(63, 49, 745)),
+        (3, [37, 38, 39, 40], eleven(95, 49, 1117)),
+        (4, [49, 50, 51, 52], eleven(127, 49, 1485)),
+    ] {
+        assert_eq!(check(&s, &trace, claim, c), Ok(1488), "{c}");
+        let mut read = [7; 52];
+        assert_eq!(read_off(&s, &trace, claim, c, &mut read), Ok(1488), "{c}");
+        assert_eq!(read[..], taps, "{c}");
+        let another = claim.map(|word| word + 1);
+        assert_eq!(check(&s, &trace, another, c), Err(refusal), "{c}");
+        let refused = read_off(&s, &trace, another, c, &mut [7; 52]);
+        assert_eq!(refused, Err(refusal), "{c}");
+        let refused = edit(&s, &mut trace, another, c, 0, [0; 4]);
+        assert_eq!(refused, Err(refusal), "{c}");
+    }
+}
+
+/// Two chains under Z, of zeros and of ones in this column: rows 31 and 32 differ, and
+/// 45 to 48 are named before a wrong claim at row 31.
+#[test]
+fn the_claims_row_is_a_join_too() {
+    let z = table(0, 0);
+    for column in 0..4 {
+        let mut trace = [0; 768];
+        (32..64).for_each(|row| trace[12 * row + column] = 1);
+        let refusal = eleven(31, 45 + column as u64, 369 + column as u64);
+        for claim in [[0; 4], [1; 4]] {
+            assert_eq!(check(&z, &trace, claim, 1), Err(refusal), "{column}");
+        }
+    }
+}
+
+/// Under S an edit answers w_3c of the altered list: of the taps of two batches the
+/// third decides for c = 1, and the sixth for c = 2.
+#[test]
+fn outputs_of_edits_up_to_the_claim() {
+    let s = table(11, 0);
+    let new = [5, 6, 7, 9];
+    for (c, decides) in [(1, 3), (2, 6)] {
+        for tap in 0..=6 {
+            let mut trace = [7; 768];
+            build(&s, &[1; 28], &mut trace).expect("built");
+            let edited = edit(&s, &mut trace, [1; 4], c, tap, new);
+            let output = if tap == decides { new } else { [1; 4] };
+            assert_eq!(edited, Ok(output), "tap {tap}, c = {c}");
+            let mut altered = [1; 28];
+            altered[4 * tap..4 * tap + 4].copy_from_slice(&new);
+            let mut fresh = [7; 768];
+            build(&s, &altered, &mut fresh).expect("built");
+            assert_eq!(trace, fresh, "tap {tap}, c = {c}");
+            assert_eq!(check(&s, &trace, output, c), Ok(744));
+        }
+    }
+}
+
+/// 17 right after 7, before 8 and 15.
+#[test]
+fn no_such_c() {
+    let z = table(0, 0);
+    let mut trace = [0; 768];
+    for c in [0, 3, 4, 1 << 32, 1 << 63, usize::MAX] {
+        let refused = check(&z, &trace, [P; 4], c);
+        assert_eq!(refused, Err(Refusal::ClaimBatches), "{c}");
+        let refused = read_off(&z, &trace, [P; 4], c, &mut [7; 27]);
+        assert_eq!(refused, Err(Refusal::ClaimBatches), "{c}");
+        let refused = edit(&z, &mut trace, [P; 4], c, 7, [P; 4]);
+        assert_eq!(refused, Err(Refusal::ClaimBatches), "{c}");
+        let refused = check(&z, &trace[1..], [P; 4], c);
+        assert_eq!(refused, Err(Refusal::TraceLength), "{c}");
+    }
+    assert_eq!(trace, [0; 768]);
 }
 
 #[test]

@@ -5,7 +5,7 @@ use lemoncolumn::*;
 use std::panic::catch_unwind;
 
 /// Each number, and whether an index or a cell is named with it there.
-const TABLE: [(u64, bool); 16] = [
+const TABLE: [(u64, bool); 17] = [
     (1, false),
     (2, true),
     (3, false),
@@ -22,6 +22,7 @@ const TABLE: [(u64, bool); 16] = [
     (14, true),
     (15, false),
     (16, false),
+    (17, false),
 ];
 
 /// The word that a call returns, with something in each of its parts.

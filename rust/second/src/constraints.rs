@@ -1,7 +1,9 @@
-//! The 52 constraints (document 01, "The 52 constraints"; 004, 3.3.2).
+//! The 52 constraints (document 01, "The 52 constraints"; document 02, U6; 004,
+//! 3.3.2).
 //!
 //! Read literally: the ordered list of tests, one function that evaluates one
-//! test from the lent words, and a walk.
+//! test from the lent words, and a walk. c is lent with the claim, which is about
+//! the first 3c + 1 taps; c = k is document 01's claim.
 
 use crate::field::{add, cube, first_not_canonical, mul, sub};
 use crate::hash::{list_words, ROUNDS, TAP};
@@ -21,8 +23,9 @@ pub struct Test {
     pub constraint: usize,
 }
 
-/// Does the constraint apply at this row of a trace of k batches?
-pub fn applies(k: usize, test: Test) -> bool {
+/// Does the constraint apply at this row of a trace of k batches, under a claim
+/// with this c?
+pub fn applies(k: usize, c: usize, test: Test) -> bool {
     let batch = test.row / ROWS;
     let row = test.row % ROWS;
     match test.constraint {
@@ -32,20 +35,20 @@ pub fn applies(k: usize, test: Test) -> bool {
         21..=24 => (1..=29).contains(&row),
         25..=32 => (1..=29).contains(&row) && row != 10 && row != 20,
         33..=44 => row == 30,
-        45..=48 => row == 31 && batch != k - 1,
-        49..=52 => row == 31 && batch == k - 1,
+        45..=48 => row == 31 && batch + 1 < k,
+        49..=52 => row == 31 && batch + 1 == c,
         _ => false,
     }
 }
 
-/// All tests of a trace of k batches in their order: rows of the whole trace
-/// rising, constraint numbers rising within a row.
-pub fn tests(k: usize) -> Vec<Test> {
+/// All tests of a trace of k batches under a claim with this c, in their order:
+/// rows of the whole trace rising, constraint numbers rising within a row.
+pub fn tests(k: usize, c: usize) -> Vec<Test> {
     let mut order = vec![];
     for row in 0..ROWS * k {
         for constraint in 1..=LAST_CONSTRAINT {
             let test = Test { row, constraint };
-            if applies(k, test) {
+            if applies(k, c, test) {
                 order.push(test);
             }
         }
@@ -53,12 +56,13 @@ pub fn tests(k: usize) -> Vec<Test> {
     order
 }
 
-/// A lent trace with its table and claim, all words tested.
+/// A lent trace with its table, claim and c, all tested.
 #[derive(Clone, Copy)]
 pub struct Lent<'a> {
     pub table: Table<'a>,
     pub trace: &'a [u64],
     pub claim: [u64; TAP],
+    pub c: usize,
 }
 
 impl Lent<'_> {
@@ -118,7 +122,7 @@ impl Lent<'_> {
 
     /// The walk: how many tests there are, or the first one that fails.
     pub fn walk(&self, k: usize) -> Result<u64, Refusal> {
-        let order = tests(k);
+        let order = tests(k, self.c);
         for (before, &test) in order.iter().enumerate() {
             if !self.holds(test) {
                 return Err(Refusal::Constraint {
@@ -155,29 +159,31 @@ fn round_of(row: usize) -> usize {
     (row % ROWS - 1) % ROUNDS
 }
 
-/// Check: 1, 2, 4, 7, 9, 10, 11. Returns the number of tests.
-pub fn check(table: &[u64], trace: &[u64], claim: [u64; TAP]) -> Result<u64, Refusal> {
+/// Check: 1, 2, 4, 7, 17, 9, 10, 11. Returns the number of tests.
+pub fn check(table: &[u64], trace: &[u64], claim: [u64; TAP], c: usize) -> Result<u64, Refusal> {
     let table = Table::test(table)?;
-    let k = k_of_trace(trace.len()).ok_or(Refusal::TraceLength)?;
+    let k = test_batches(trace, c)?;
     test_words(trace, claim)?;
     Lent {
         table,
         trace,
         claim,
+        c,
     }
     .walk(k)
 }
 
-/// Read-off: 1, 2, 4, 7, 8, 9, 10, 11. Does what Check does and writes the
-/// taps.
+/// Read-off: 1, 2, 4, 7, 17, 8, 9, 10, 11. Does what Check does and writes the
+/// taps, all 3k + 1 of them whatever c is.
 pub fn read_off(
     table: &[u64],
     trace: &[u64],
     claim: [u64; TAP],
+    c: usize,
     destination: &mut [u64],
 ) -> Result<u64, Refusal> {
     let table = Table::test(table)?;
-    let k = k_of_trace(trace.len()).ok_or(Refusal::TraceLength)?;
+    let k = test_batches(trace, c)?;
     if destination.len() != list_words(k) {
         return Err(Refusal::DestinationLength);
     }
@@ -186,10 +192,21 @@ pub fn read_off(
         table,
         trace,
         claim,
+        c,
     };
     let tests = lent.walk(k)?;
     destination.copy_from_slice(&lent.taps(k));
     Ok(tests)
+}
+
+/// 7, then 17: the k of the trace, where c is from 1 to k.
+pub fn test_batches(trace: &[u64], c: usize) -> Result<usize, Refusal> {
+    let k = k_of_trace(trace.len()).ok_or(Refusal::TraceLength)?;
+    if (1..=k).contains(&c) {
+        Ok(k)
+    } else {
+        Err(Refusal::ClaimBatches)
+    }
 }
 
 /// 9, then 10.

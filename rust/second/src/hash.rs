@@ -104,6 +104,16 @@ fn final_state(table: &Table, left: [u64; TAP], right: [u64; TAP]) -> State {
     rounds(table, start(table, left, right), |_| {})
 }
 
+/// What the taps chain to, under an accepted table. Here a list may have any number
+/// of them, since a claim is about 3c + 1 with any c up to k (document 02, U6).
+pub fn chain_of(table: &Table, taps: &[u64]) -> [u64; TAP] {
+    let mut last = tap(taps, 0);
+    for number in 1..taps.len() / TAP {
+        last = output(final_state(table, last, tap(taps, number)));
+    }
+    last
+}
+
 /// Hash: 1, 2, 4, 6. Answers the whole final state (document 02, U3); document
 /// 01's answer is its cells 0 to 3.
 pub fn hash(table: &[u64], words: [u64; 2 * TAP]) -> Result<State, Refusal> {
@@ -115,13 +125,9 @@ pub fn hash(table: &[u64], words: [u64; 2 * TAP]) -> Result<State, Refusal> {
 /// Chain: 1, 2, 4, 5, 6. Answers cells 0 to 3 of the last final state.
 pub fn chain(table: &[u64], taps: &[u64]) -> Result<[u64; TAP], Refusal> {
     let table = Table::test(table)?;
-    let k = k_of_list(taps.len()).ok_or(Refusal::TapLength)?;
+    k_of_list(taps.len()).ok_or(Refusal::TapLength)?;
     test_tap_words(taps)?;
-    let mut last = tap(taps, 0);
-    for number in 1..=HASHES * k {
-        last = output(final_state(&table, last, tap(taps, number)));
-    }
-    Ok(last)
+    Ok(chain_of(&table, taps))
 }
 
 /// 6: the lowest index of a tap word that is not canonical.

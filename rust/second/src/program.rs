@@ -43,7 +43,8 @@ fn run(input: &[u8]) -> Result<(usize, u64), Refusal> {
     let claim = unpack(file, &mut taps)?;
     let mut trace = vec![0; trace_words(k)];
     build(&table, &taps, &mut trace)?;
-    Ok((k, check(&table, &trace, claim)?))
+    // A board file's claim is about all of its taps: c = k.
+    Ok((k, check(&table, &trace, claim, k)?))
 }
 
 /// `refused`, the number, then the place if there is one.

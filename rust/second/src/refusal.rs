@@ -45,6 +45,8 @@ pub enum Refusal {
     NoSuchTap,
     /// 16: no pair of taps ends in that state.
     NoPair,
+    /// 17: c is 0 or above k.
+    ClaimBatches,
 }
 
 impl Refusal {
@@ -67,6 +69,7 @@ impl Refusal {
             Refusal::Value { .. } => 14,
             Refusal::NoSuchTap => 15,
             Refusal::NoPair => 16,
+            Refusal::ClaimBatches => 17,
         }
     }
 
@@ -81,7 +84,8 @@ impl Refusal {
             | Refusal::DestinationLength
             | Refusal::FileLength
             | Refusal::NoSuchTap
-            | Refusal::NoPair => vec![],
+            | Refusal::NoPair
+            | Refusal::ClaimBatches => vec![],
             Refusal::TableWord { index }
             | Refusal::TapWord { index }
             | Refusal::ClaimWord { index }

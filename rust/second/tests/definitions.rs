@@ -4,7 +4,7 @@
 
 mod common;
 use common::*;
-use second::constraints::tests;
+use second::constraints::{tests, Test};
 use second::field::{self, P};
 use second::{build, chain, check, edit, hash, pack, prepare, read_off, unhash, unpack, Refusal};
 
@@ -71,10 +71,12 @@ fn algorithm_1_from(raw: &[u64], cells: &[u64]) -> (Vec<Vec<u64>>, Vec<u64>) {
     (middles, state)
 }
 
-/// The trace of 004, section 3.1, and the output of equation (1).
-fn section_3_1(raw: &[u64], taps: &[u64]) -> (Vec<u64>, Vec<u64>) {
+/// The trace of 004, section 3.1, and the outputs of equation (1) after each batch:
+/// that of the first 3c + 1 taps has number c - 1, and the last is that of all.
+fn section_3_1(raw: &[u64], taps: &[u64]) -> (Vec<u64>, Vec<[u64; 4]>) {
     let taps: Vec<&[u64]> = taps.chunks(4).collect();
     let mut rows: Vec<Vec<u64>> = vec![];
+    let mut outputs = vec![];
     let mut left = taps[0].to_vec();
     for (number, right) in taps.iter().enumerate().skip(1) {
         let (middles, last) = algorithm_1(raw, &left, right);
@@ -84,10 +86,11 @@ fn section_3_1(raw: &[u64], taps: &[u64]) -> (Vec<u64>, Vec<u64>) {
         rows.extend(middles);
         left = last[..4].to_vec();
         if number.is_multiple_of(3) {
+            outputs.push(last[..4].try_into().expect("four words"));
             rows.push(last);
         }
     }
-    (rows.concat(), left)
+    (rows.concat(), outputs)
 }
 
 fn random_raw(random: &mut Random) -> Vec<u64> {
@@ -295,18 +298,41 @@ fn chain_trace_and_read_off() {
         let raw = random_raw(&mut random);
         let table = prepared(&raw);
         let taps = random.canonicals(12 * k + 4);
-        let (rows, last) = section_3_1(&raw, &taps);
+        let (rows, outputs) = section_3_1(&raw, &taps);
         assert_eq!(rows.len(), 384 * k);
-        assert_eq!(chain(&table, &taps).expect("chains")[..], last);
+        assert_eq!(chain(&table, &taps), Ok(outputs[k - 1]));
         let mut trace = vec![7; 384 * k];
-        let claim = build(&table, &taps, &mut trace).expect("builds");
-        assert_eq!(claim[..], last);
+        assert_eq!(build(&table, &taps, &mut trace), Ok(outputs[k - 1]));
         assert_eq!(trace, rows);
-        assert_eq!(check(&table, &trace, claim), Ok(372 * k as u64));
-        let mut read = vec![7; 12 * k + 4];
-        let answer = read_off(&table, &trace, claim, &mut read);
-        assert_eq!(answer, Ok(372 * k as u64));
-        assert_eq!(read, taps);
+        for (c, claim) in (1..).zip(outputs) {
+            let tests = Ok(372 * k as u64);
+            assert_eq!(check(&table, &trace, claim, c), tests, "c = {c}, k = {k}");
+            let mut read = vec![7; 12 * k + 4];
+            let answer = read_off(&table, &trace, claim, c, &mut read);
+            assert_eq!(answer, tests, "c = {c}, k = {k}");
+            assert_eq!(read, taps, "c = {c}, k = {k}");
+        }
+    }
+}
+
+/// Only the output of the first 3c + 1 taps is accepted with c, and the list that is
+/// read off has it.
+#[test]
+fn no_other_claim() {
+    let mut random = Random(18);
+    for k in [2, 4, 8] {
+        let table = prepared(&random_raw(&mut random));
+        let taps = random.canonicals(12 * k + 4);
+        let mut trace = vec![7; 384 * k];
+        build(&table, &taps, &mut trace).expect("builds");
+        let states = final_states(&table, &taps);
+        for c in 1..=k {
+            for (hash, state) in states.iter().enumerate() {
+                let claim = state[..4].try_into().expect("four words");
+                let accepted = check(&table, &trace, claim, c).is_ok();
+                assert_eq!(accepted, hash + 1 == 3 * c, "hash {hash}, c = {c}");
+            }
+        }
     }
 }
 
@@ -319,7 +345,9 @@ fn first_touched(tap: usize) -> usize {
     }
 }
 
-/// Every tap of k = 1, 2, 4, replaced by another.
+/// Every tap of k = 1, 2, 4, replaced by another, under the claim of each c. The trace
+/// is the built one each time, and the output that of the first 3c + 1 taps; where the
+/// tap is above 3c, the claim.
 #[test]
 fn an_edit_is_a_build_of_the_altered_list() {
     let mut random = Random(10);
@@ -327,22 +355,53 @@ fn an_edit_is_a_build_of_the_altered_list() {
         let raw = random_raw(&mut random);
         let table = prepared(&raw);
         let mut taps = random.canonicals(12 * k + 4);
-        let (mut trace, last) = section_3_1(&raw, &taps);
-        let mut claim: [u64; 4] = last.try_into().expect("four words");
+        let (mut before, mut claims) = section_3_1(&raw, &taps);
         for tap in 0..=3 * k {
             let new: [u64; 4] = std::array::from_fn(|_| random.canonical());
             taps[4 * tap..4 * tap + 4].copy_from_slice(&new);
-            let before = trace.clone();
-            claim = edit(&table, &mut trace, claim, tap, new).expect("edits");
-            let (rows, last) = section_3_1(&raw, &taps);
-            assert_eq!(trace, rows, "tap {tap}, k = {k}");
-            assert_eq!(claim[..], last, "tap {tap}, k = {k}");
+            let (rows, outputs) = section_3_1(&raw, &taps);
+            for c in 1..=k {
+                let about = format!("tap {tap}, c = {c}, k = {k}");
+                let mut trace = before.clone();
+                let output = edit(&table, &mut trace, claims[c - 1], c, tap, new);
+                assert_eq!(output, Ok(outputs[c - 1]), "{about}");
+                let kept = outputs[c - 1] == claims[c - 1];
+                assert_eq!(kept, tap > 3 * c, "{about}");
+                assert_eq!(trace, rows, "{about}");
+            }
             // Earlier rows keep their cells, and the first row touched does not.
             let touched = (0..32 * k).find(|row| {
                 let cells = 12 * row..12 * (row + 1);
-                trace[cells.clone()] != before[cells]
+                rows[cells.clone()] != before[cells]
             });
             assert_eq!(touched, Some(first_touched(tap)), "tap {tap}, k = {k}");
+            (before, claims) = (rows, outputs);
+        }
+    }
+}
+
+/// Under the returned output and the same c, the edited trace is accepted and reads
+/// off to the altered list.
+#[test]
+fn an_edited_trace_under_the_same_c() {
+    let mut random = Random(19);
+    let k = 4;
+    let table = prepared(&random_raw(&mut random));
+    let mut taps = random.canonicals(12 * k + 4);
+    let mut trace = vec![7; 384 * k];
+    build(&table, &taps, &mut trace).expect("builds");
+    for c in 1..=k {
+        for tap in 0..=3 * k {
+            let about = format!("tap {tap}, c = {c}");
+            let claim = trace[384 * c - 12..384 * c - 8].try_into().expect("four");
+            let new: [u64; 4] = std::array::from_fn(|_| random.canonical());
+            taps[4 * tap..4 * tap + 4].copy_from_slice(&new);
+            let output = edit(&table, &mut trace, claim, c, tap, new).expect("edits");
+            let mut read = vec![7; 12 * k + 4];
+            let answer = read_off(&table, &trace, output, c, &mut read);
+            assert_eq!(answer, Ok(372 * k as u64), "{about}");
+            assert_eq!(check(&table, &trace, output, c), answer, "{about}");
+            assert_eq!(read, taps, "{about}");
         }
     }
 }
@@ -359,11 +418,11 @@ fn edits_there_and_back() {
         for (tap, words) in taps.chunks(4).enumerate() {
             let old = words.try_into().expect("four words");
             let mut trace = built.clone();
-            assert_eq!(edit(&table, &mut trace, claim, tap, old), Ok(claim));
+            assert_eq!(edit(&table, &mut trace, claim, k, tap, old), Ok(claim));
             assert_eq!(trace, built, "tap {tap}, k = {k}");
-            let output = edit(&table, &mut trace, claim, tap, [P - 1; 4]).expect("edits");
+            let output = edit(&table, &mut trace, claim, k, tap, [P - 1; 4]).expect("edits");
             assert_ne!(trace, built, "tap {tap}, k = {k}");
-            assert_eq!(edit(&table, &mut trace, output, tap, old), Ok(claim));
+            assert_eq!(edit(&table, &mut trace, output, k, tap, old), Ok(claim));
             assert_eq!(trace, built, "tap {tap}, k = {k}");
         }
     }
@@ -377,40 +436,57 @@ fn the_largest_permitted_k() {
     let mut trace = vec![7; 384 * 1024];
     let claim = build(&table, &taps, &mut trace).expect("builds");
     let mut read = vec![7; 12292];
-    let answer = read_off(&table, &trace, claim, &mut read);
+    let answer = read_off(&table, &trace, claim, 1024, &mut read);
     assert_eq!(answer, Ok(372 * 1024));
     assert_eq!(read, taps);
     let row = 384 * 1024 - 12;
     trace[row] = (trace[row] + 1) % P;
     assert_eq!(
-        check(&table, &trace, claim),
+        check(&table, &trace, claim, 1024),
         Err(Refusal::Constraint {
             row: 32 * 1024 - 2,
             constraint: 33,
             tests: 372 * 1024 - 4 - 11,
         })
     );
+    // Under a claim that ends earlier the last row has no test of its own.
+    let row_31 = 384 * 513 - 12;
+    let claim = trace[row_31..row_31 + 4].try_into().expect("four words");
+    assert_eq!(
+        check(&table, &trace, claim, 513),
+        Err(Refusal::Constraint {
+            row: 32 * 1024 - 2,
+            constraint: 33,
+            tests: 372 * 1024 - 11,
+        })
+    );
 }
 
+/// Every k up to 8 with every c from 1 to k. Row 31 of batch c - 1 has four tests more
+/// than row 31 of the others, and the last row four fewer.
 #[test]
 fn the_order_of_tests() {
-    for k in [1, 2, 4, 8] {
-        let order = tests(k);
+    let permitted = [1, 2, 4, 8].into_iter();
+    for (k, c) in permitted.flat_map(|k| (1..=k).map(move |c| (k, c))) {
+        let order = tests(k, c);
         assert_eq!(order.len(), 372 * k);
-        let risen = |pair: &[second::constraints::Test]| {
-            (pair[0].row, pair[0].constraint) < (pair[1].row, pair[1].constraint)
-        };
+        let risen =
+            |pair: &[Test]| (pair[0].row, pair[0].constraint) < (pair[1].row, pair[1].constraint);
         assert!(order.windows(2).all(risen));
         for row in 0..32 * k {
             let count = order.iter().filter(|test| test.row == row).count();
             let expected = match row % 32 {
                 0 => 4 + 12,
                 10 | 20 => 4 + 4,
-                31 => 4,
+                31 => 4 + 4 * usize::from(row + 1 == 32 * c) - 4 * usize::from(row + 1 == 32 * k),
                 _ => 12,
             };
-            assert_eq!(count, expected, "row {row}");
+            assert_eq!(count, expected, "row {row}, c = {c}, k = {k}");
         }
+        assert!((49..=52).all(|constraint| {
+            let row = 32 * c - 1;
+            order.contains(&Test { row, constraint })
+        }));
         for constraint in 1..=52 {
             let count = order.iter().filter(|t| t.constraint == constraint).count();
             let expected = match constraint {

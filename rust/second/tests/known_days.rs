@@ -1,8 +1,8 @@
 //! Every line of document 01's "Known days", and the program's lines. The
 //! expected values stand in document 01, and the count 362 in document 02, U4; the
 //! other counts, what edits answer and leave, cells 4 to 11 of the hashes (document
-//! 02, U3), and the pairs that end in a state (U5), are worked out by hand from its
-//! definitions.
+//! 02, U3), the pairs that end in a state (U5), and claims that end before the rows
+//! do (U6), are worked out by hand from its definitions.
 
 mod common;
 use common::*;
@@ -152,12 +152,12 @@ fn four_zero_taps_under_a() {
 #[test]
 fn zero_trace_under_z() {
     let mut trace = zero_trace_with(&[]);
-    assert_eq!(check(&z(), &trace, NO_CLAIM), Ok(372));
+    assert_eq!(check(&z(), &trace, NO_CLAIM, 1), Ok(372));
     let (claim, fails) = ([1, 0, 0, 0], (31, 49, 369));
-    assert_eq!(failed_at(check(&z(), &trace, claim)), fails);
-    let refused = read_off(&z(), &trace, claim, &mut [7; 16]);
+    assert_eq!(failed_at(check(&z(), &trace, claim, 1)), fails);
+    let refused = read_off(&z(), &trace, claim, 1, &mut [7; 16]);
     assert_eq!(failed_at(refused), fails);
-    let refused = edit(&z(), &mut trace, claim, 2, [0, 1, 0, 0]);
+    let refused = edit(&z(), &mut trace, claim, 1, 2, [0, 1, 0, 0]);
     assert_eq!(failed_at(refused.map(|_| 0)), fails);
 }
 
@@ -170,12 +170,12 @@ fn one_cell_of_the_zero_trace() {
         ((11, 5), (11, 26, 138)),
     ] {
         let mut trace = zero_trace_with(&[(row, column)]);
-        assert_eq!(failed_at(check(&z(), &trace, NO_CLAIM)), fails);
+        assert_eq!(failed_at(check(&z(), &trace, NO_CLAIM, 1)), fails);
         let mut taps = vec![7; 16];
-        let refused = read_off(&z(), &trace, NO_CLAIM, &mut taps);
+        let refused = read_off(&z(), &trace, NO_CLAIM, 1, &mut taps);
         assert_eq!(failed_at(refused), fails);
         assert_eq!(taps, [7; 16]);
-        let refused = edit(&z(), &mut trace, NO_CLAIM, 2, [0, 1, 0, 0]);
+        let refused = edit(&z(), &mut trace, NO_CLAIM, 1, 2, [0, 1, 0, 0]);
         assert_eq!(failed_at(refused.map(|_| 0)), fails);
         assert_eq!(trace, zero_trace_with(&[(row, column)]));
     }
@@ -185,9 +185,9 @@ fn one_cell_of_the_zero_trace() {
 fn column_5_of_rows_11_to_20() {
     let cells: Vec<(usize, usize)> = (11..=20).map(|row| (row, 5)).collect();
     let trace = zero_trace_with(&cells);
-    assert_eq!(check(&z(), &trace, NO_CLAIM), Ok(372));
+    assert_eq!(check(&z(), &trace, NO_CLAIM, 1), Ok(372));
     let mut taps = vec![7; 16];
-    assert_eq!(read_off(&z(), &trace, NO_CLAIM, &mut taps), Ok(372));
+    assert_eq!(read_off(&z(), &trace, NO_CLAIM, 1, &mut taps), Ok(372));
     assert_eq!(taps, [0, 0, 0, 0, 0, 0, 0, 0, 0, 1, 0, 0, 0, 0, 0, 0]);
 }
 
@@ -196,10 +196,10 @@ fn column_5_of_rows_11_to_20() {
 fn column_5_of_rows_11_to_20_by_an_edit() {
     let cells: Vec<(usize, usize)> = (11..=20).map(|row| (row, 5)).collect();
     let mut trace = zero_trace_with(&[]);
-    let edited = edit(&z(), &mut trace, NO_CLAIM, 2, [0, 1, 0, 0]);
+    let edited = edit(&z(), &mut trace, NO_CLAIM, 1, 2, [0, 1, 0, 0]);
     assert_eq!(edited, Ok(NO_CLAIM));
     assert_eq!(trace, zero_trace_with(&cells));
-    let edited = edit(&z(), &mut trace, NO_CLAIM, 2, [0; 4]);
+    let edited = edit(&z(), &mut trace, NO_CLAIM, 1, 2, [0; 4]);
     assert_eq!(edited, Ok(NO_CLAIM));
     assert_eq!(trace, zero_trace_with(&[]));
 }
@@ -224,7 +224,7 @@ fn edits_under_z() {
         }
         let output = if tap == 0 { [1; 4] } else { NO_CLAIM };
         let mut trace = vec![0; 768];
-        let edited = edit(&z(), &mut trace, NO_CLAIM, tap, [1; 4]);
+        let edited = edit(&z(), &mut trace, NO_CLAIM, 2, tap, [1; 4]);
         assert_eq!(edited, Ok(output), "{tap}");
         assert_eq!(trace, expected, "{tap}");
     }
@@ -238,10 +238,120 @@ fn outputs_of_edits_under_a_and_s() {
         let mut trace = vec![7; 384];
         let claim = build(&a(), &[0; 16], &mut trace).expect("builds");
         let output = if tap == 0 { [8, 6, 7, 9] } else { [3, 0, 0, 0] };
-        assert_eq!(edit(&a(), &mut trace, claim, tap, new), Ok(output));
+        assert_eq!(edit(&a(), &mut trace, claim, 1, tap, new), Ok(output));
         let claim = build(&s(), &[1; 16], &mut trace).expect("builds");
         let output = if tap == 3 { new } else { [1; 4] };
-        assert_eq!(edit(&s(), &mut trace, claim, tap, new), Ok(output));
+        assert_eq!(edit(&s(), &mut trace, claim, 1, tap, new), Ok(output));
+    }
+}
+
+/// A built trace of k batches.
+fn built(table: &[u64], taps: &[u64], k: usize) -> Vec<u64> {
+    let mut trace = vec![7; 384 * k];
+    build(table, taps, &mut trace).expect("builds");
+    trace
+}
+
+/// Under A each hash of a zero tap adds 1 to cell 0, so that 3c + 1 zero taps chain
+/// to (3c, 0, 0, 0). Here c may be 3, which no list of its own may have.
+#[test]
+fn claims_after_each_of_four_batches() {
+    let mut trace = built(&a(), &[0; 52], 4);
+    for (c, cell) in [(1, 3), (2, 6), (3, 9), (4, 12)] {
+        let claim = [cell, 0, 0, 0];
+        assert_eq!(check(&a(), &trace, claim, c), Ok(1488), "{c}");
+        let mut taps = vec![7; 52];
+        assert_eq!(read_off(&a(), &trace, claim, c, &mut taps), Ok(1488));
+        assert_eq!(taps, [0; 52], "{c}");
+        assert_eq!(edit(&a(), &mut trace, claim, c, 0, [0; 4]), Ok(claim));
+    }
+    assert_eq!(trace, built(&a(), &[0; 52], 4));
+}
+
+/// With 48 at row 31 of batch c - 1 there are 372c tests, 368 and four a batch, and the
+/// claim's four come next. Where c is k, that row has no 45 to 48, and the claim's are
+/// the last four of all.
+#[test]
+fn a_wrong_claim_for_each_c() {
+    let places = [
+        (1, 1, 31, 369),
+        (2, 1, 31, 373),
+        (2, 2, 63, 741),
+        (4, 1, 31, 373),
+        (4, 2, 63, 745),
+        (4, 3, 95, 1117),
+        (4, 4, 127, 1485),
+    ];
+    for (k, c, row, first) in places {
+        let mut trace = vec![0; 384 * k];
+        for column in 0..4 {
+            let fails = (row, 49 + column as u64, first + column as u64);
+            let mut claim = NO_CLAIM;
+            claim[column] = P - 1;
+            let refused = check(&z(), &trace, claim, c);
+            assert_eq!(failed_at(refused), fails, "k = {k}, c = {c}");
+            let refused = read_off(&z(), &trace, claim, c, &mut vec![7; 12 * k + 4]);
+            assert_eq!(failed_at(refused), fails, "k = {k}, c = {c}");
+            let refused = edit(&z(), &mut trace, claim, c, 3 * k, NO_CLAIM);
+            assert_eq!(failed_at(refused.map(|_| 0)), fails, "k = {k}, c = {c}");
+        }
+        assert_eq!(trace, vec![0; 384 * k]);
+    }
+}
+
+/// Under S the output is the last tap: w_3c for the first 3c + 1. Every tap is read
+/// off, and those after w_3c may be any.
+#[test]
+fn the_claim_under_s_is_tap_3c() {
+    let taps: Vec<u64> = (1..=52).collect();
+    let trace = built(&s(), &taps, 4);
+    for (c, claim) in [
+        (1, [13, 14, 15, 16]),
+        (2, [25, 26, 27, 28]),
+        (3, [37, 38, 39, 40]),
+        (4, [49, 50, 51, 52]),
+    ] {
+        assert_eq!(check(&s(), &trace, claim, c), Ok(1488), "{c}");
+        let mut read = vec![7; 52];
+        assert_eq!(read_off(&s(), &trace, claim, c, &mut read), Ok(1488), "{c}");
+        assert_eq!(read, taps, "{c}");
+        for other in (1..=4).filter(|&other| other != c) {
+            let place = match other {
+                4 => 1485,
+                _ => 372 * other as u64 + 1,
+            };
+            let fails = (32 * other as u64 - 1, 49, place);
+            assert_eq!(failed_at(check(&s(), &trace, claim, other)), fails);
+        }
+    }
+}
+
+/// Under S an edit answers w_3c of the altered list, whichever tap it alters, and
+/// under A cell 0 of w_0 plus 3c. The trace is the built one in each case.
+#[test]
+fn outputs_of_edits_for_each_c() {
+    let new = [5, 6, 7, 9];
+    for c in 1..=4 {
+        for tap in 0..=12 {
+            let mut altered = vec![1; 52];
+            altered[4 * tap..4 * tap + 4].copy_from_slice(&new);
+            let mut trace = built(&s(), &[1; 52], 4);
+            let output = if tap == 3 * c { new } else { [1; 4] };
+            let edited = edit(&s(), &mut trace, [1; 4], c, tap, new);
+            assert_eq!(edited, Ok(output), "tap {tap}, c = {c}");
+            assert_eq!(trace, built(&s(), &altered, 4), "tap {tap}, c = {c}");
+
+            let mut trace = built(&a(), &[1; 52], 4);
+            let added = 3 * c as u64;
+            let output = match tap {
+                0 => [5 + added, 6, 7, 9],
+                _ => [1 + added, 1, 1, 1],
+            };
+            let claim = [1 + added, 1, 1, 1];
+            let edited = edit(&a(), &mut trace, claim, c, tap, new);
+            assert_eq!(edited, Ok(output), "tap {tap}, c = {c}");
+            assert_eq!(trace, built(&a(), &altered, 4), "tap {tap}, c = {c}");
+        }
     }
 }
 
@@ -302,12 +412,12 @@ fn p_minus_1_passes_and_p_does_not_elsewhere() {
     for row in 0..32 {
         trace[12 * row] = P - 1;
     }
-    assert_eq!(check(&z(), &trace, [P - 1, 0, 0, 0]), Ok(372));
+    assert_eq!(check(&z(), &trace, [P - 1, 0, 0, 0], 1), Ok(372));
     let refused = Refusal::ClaimWord { index: 0 };
-    assert_eq!(check(&z(), &trace, [P, 0, 0, 0]), Err(refused));
+    assert_eq!(check(&z(), &trace, [P, 0, 0, 0], 1), Err(refused));
     trace[372] = P;
     let refused = Refusal::TraceWord { index: 372 };
-    assert_eq!(check(&z(), &trace, [P - 1, 0, 0, 0]), Err(refused));
+    assert_eq!(check(&z(), &trace, [P - 1, 0, 0, 0], 1), Err(refused));
 }
 
 #[test]

@@ -154,12 +154,14 @@ impl<const LATE: bool> Walk<LATE> {
     }
 }
 
-/// All tests in their order; `tap` is shown w_0, w_1, .. as they come by.
+/// All tests in their order, the claim's at row 31 of batch c - 1; `tap` is shown
+/// w_0, w_1, .. as they come by.
 #[inline]
 fn walk<const LATE: bool>(
     table: &[u64],
     trace: &[u64],
     claim: &[u64],
+    c: usize,
     mut tap: impl FnMut(&[u64]),
 ) -> Result<u64, Refusal> {
     let table = Walked::convert(table);
@@ -175,11 +177,21 @@ fn walk<const LATE: bool>(
         if last + 1 < rows {
             let next = &trace[12 * last + 12..12 * last + 16];
             walk.equal(last, 45, output, next)?;
-        } else {
+        }
+        if last + 1 == 32 * c {
             walk.equal(last, 49, output, claim)?;
         }
     }
     Ok(walk.passed)
+}
+
+/// 7, then 17.
+fn test_batches(trace: &[u64], c: usize) -> Result<usize, Refusal> {
+    let k = permitted(trace.len(), 384).ok_or(Refusal::TraceLength)?;
+    if c == 0 || c > k {
+        return Err(Refusal::ClaimBatches);
+    }
+    Ok(k)
 }
 
 /// 9, then 10.
@@ -193,34 +205,36 @@ fn test_words(trace: &[u64], claim: &[u64]) -> Result<(), Refusal> {
     }
 }
 
-/// Check: 1, 2, 4, 7, 9, 10, 11.
+/// Check: 1, 2, 4, 7, 17, 9, 10, 11.
 pub fn check<const LATE: bool>(
     table: &[u64],
     trace: &[u64],
     claim: [u64; 4],
+    c: usize,
 ) -> Result<u64, Refusal> {
     test::<LATE>(table)?;
-    permitted(trace.len(), 384).ok_or(Refusal::TraceLength)?;
+    test_batches(trace, c)?;
     test_words(trace, &claim)?;
-    walk::<LATE>(table, trace, &claim, |_| {})
+    walk::<LATE>(table, trace, &claim, c, |_| {})
 }
 
-/// Read-off: 1, 2, 4, 7, 8, 9, 10, 11. The taps are kept aside until the last
+/// Read-off: 1, 2, 4, 7, 17, 8, 9, 10, 11. The taps are kept aside until the last
 /// test has passed.
 pub fn read_off<const LATE: bool>(
     table: &[u64],
     trace: &[u64],
     claim: [u64; 4],
+    c: usize,
     destination: &mut [u64],
 ) -> Result<u64, Refusal> {
     test::<LATE>(table)?;
-    let k = permitted(trace.len(), 384).ok_or(Refusal::TraceLength)?;
+    let k = test_batches(trace, c)?;
     if destination.len() != 12 * k + 4 {
         return Err(Refusal::DestinationLength);
     }
     test_words(trace, &claim)?;
     let mut taps = Vec::with_capacity(12 * k + 4);
-    let tests = walk::<LATE>(table, trace, &claim, |tap| taps.extend_from_slice(tap))?;
+    let tests = walk::<LATE>(table, trace, &claim, c, |tap| taps.extend_from_slice(tap))?;
     destination.copy_from_slice(&taps);
     Ok(tests)
 }

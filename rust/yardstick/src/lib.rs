@@ -15,13 +15,14 @@ use second::Refusal;
 type Hashed = Result<[u64; 12], Refusal>;
 type Digested = Result<[u64; 4], Refusal>;
 type Checked = Result<u64, Refusal>;
-type ReadOff = fn(&[u64], &[u64], [u64; 4], &mut [u64]) -> Checked;
+type Check = fn(&[u64], &[u64], [u64; 4], usize) -> Checked;
+type ReadOff = fn(&[u64], &[u64], [u64; 4], usize, &mut [u64]) -> Checked;
 
 /// The operations, as one of the two yardsticks does them.
 pub struct Yardstick {
     pub hash: fn(&[u64], [u64; 8]) -> Hashed,
     pub build: fn(&[u64], &[u64], &mut [u64]) -> Digested,
-    pub check: fn(&[u64], &[u64], [u64; 4]) -> Checked,
+    pub check: Check,
     pub read_off: ReadOff,
 }
 

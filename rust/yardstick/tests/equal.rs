@@ -116,6 +116,13 @@ fn large_sums() {
     }
 }
 
+/// What the first 3c + 1 taps of a built trace chain to, from row 31 of batch c - 1.
+fn output_after(trace: &[u64], c: usize) -> [u64; 4] {
+    let row_31 = 384 * c - 12;
+    trace[row_31..row_31 + 4].try_into().expect("four words")
+}
+
+/// Under the claim of each c.
 #[test]
 fn build_check_and_read_off() {
     let mut random = Random(13);
@@ -124,50 +131,65 @@ fn build_check_and_read_off() {
         let taps = random.canonicals(12 * k + 4);
         let mut trace = vec![7; 384 * k];
         let answer = second::build(&table, &taps, &mut trace);
-        let claim = answer.expect("builds");
+        assert!(answer.is_ok());
         let tests = Ok(372 * k as u64);
         for yardstick in BOTH {
             let mut other = vec![8; 384 * k];
             assert_eq!((yardstick.build)(&table, &taps, &mut other), answer);
             assert_eq!(other, trace);
-            assert_eq!((yardstick.check)(&table, &trace, claim), tests);
-            let mut read = vec![7; 12 * k + 4];
-            let answer = (yardstick.read_off)(&table, &trace, claim, &mut read);
-            assert_eq!(answer, tests);
-            assert_eq!(read, taps);
+            for c in 1..=k {
+                let claim = output_after(&trace, c);
+                assert_eq!((yardstick.check)(&table, &trace, claim, c), tests);
+                let mut read = vec![7; 12 * k + 4];
+                let answer = (yardstick.read_off)(&table, &trace, claim, c, &mut read);
+                assert_eq!(answer, tests);
+                assert_eq!(read, taps);
+            }
         }
     }
 }
 
-/// Every cell of a trace of two batches, altered alone, and the claim.
+/// Check of both against `second`, which refuses, and Read-off, which writes nothing.
+fn refused_alike(table: &[u64], trace: &[u64], claim: [u64; 4], c: usize, about: &str) {
+    let answer = second::check(table, trace, claim, c);
+    assert!(answer.is_err(), "{about}");
+    for yardstick in BOTH {
+        assert_eq!((yardstick.check)(table, trace, claim, c), answer, "{about}");
+        let mut read = vec![7; 28];
+        let other = (yardstick.read_off)(table, trace, claim, c, &mut read);
+        assert_eq!(other, answer, "{about}");
+        assert_eq!(read, [7; 28], "{about}");
+    }
+}
+
+/// Every cell of a trace of two batches, altered alone, the claim, and c, where the
+/// claim ends after the first batch and after the second.
 #[test]
 fn altered_traces() {
     let mut random = Random(14);
     let table = random.table();
     let mut trace = vec![0; 768];
     let taps = random.canonicals(28);
-    let claim = second::build(&table, &taps, &mut trace).expect("builds");
+    second::build(&table, &taps, &mut trace).expect("builds");
+    let claims = [1, 2].map(|c| (c, output_after(&trace, c)));
     for cell in 0..768 {
         let honest = trace[cell];
         trace[cell] = random.word() % P;
-        let answer = second::check(&table, &trace, claim);
-        assert!(answer.is_err(), "{cell}");
-        for yardstick in BOTH {
-            assert_eq!((yardstick.check)(&table, &trace, claim), answer);
-            let mut read = vec![7; 28];
-            let other = (yardstick.read_off)(&table, &trace, claim, &mut read);
-            assert_eq!(other, answer);
-            assert_eq!(read, [7; 28]);
+        for (c, claim) in claims {
+            let about = format!("cell {cell}, c = {c}");
+            refused_alike(&table, &trace, claim, c, &about);
         }
         trace[cell] = honest;
     }
-    for cell in 0..4 {
-        let mut claim = claim;
-        claim[cell] = random.word() % P;
-        let answer = second::check(&table, &trace, claim);
-        assert!(answer.is_err(), "{cell}");
-        for yardstick in BOTH {
-            assert_eq!((yardstick.check)(&table, &trace, claim), answer);
+    for (c, claim) in claims {
+        for cell in 0..4 {
+            let mut other = claim;
+            other[cell] = random.word() % P;
+            let about = format!("claim cell {cell}, c = {c}");
+            refused_alike(&table, &trace, other, c, &about);
+        }
+        for c in [3 - c, 0, 3, (1 << 59) + c, usize::MAX] {
+            refused_alike(&table, &trace, claim, c, &format!("c = {c}"));
         }
     }
 }

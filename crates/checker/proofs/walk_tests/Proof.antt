@@ -20,19 +20,20 @@ use Rattle.checker.proofs.walk_tests.Statement.{statement}
 use Rattle.checker.proofs.walk_tests.Tie as tie
 
 abbrev Inv-loop : tie.InvT-loop
-Inv-loop m inverse table trace claim k rows tests₀ i row forward back end constraint₀ tests constraint =
+Inv-loop m inverse table trace claim c k rows tests₀ i row forward back end constraint₀ tests constraint =
     (1 ≤ constraint) × (constraint ≤ end) × (end ≤ 53) × (tests < 52 * i + constraint)
-    × (constraints table trace claim k i constraint (rows - (i + 1)) tests ≡ answer table trace claim k)
+    × (constraints table trace claim c k i constraint (rows - (i + 1)) tests ≡ answer table trace claim c k)
 
 abbrev μ-loop : tie.MeasureT-loop
-μ-loop m inverse table trace claim k rows tests₀ i row forward back end constraint₀ tests constraint = end - constraint
+μ-loop m inverse table trace claim c k rows tests₀ i row forward back end constraint₀ tests constraint =
+    end - constraint
 
 abbrev Inv-walk : tie.InvT-walk
-Inv-walk m inverse table trace claim k rows tests₀ i₀ tests i =
-    (i ≤ rows) × (tests ≤ 52 * i) × (from-row table trace claim k i (rows - i) tests ≡ answer table trace claim k)
+Inv-walk m inverse table trace claim c k rows tests₀ i₀ tests i =
+    (i ≤ rows) × (tests ≤ 52 * i) × (from-row table trace claim c k i (rows - i) tests ≡ answer table trace claim c k)
 
 abbrev μ-walk : tie.MeasureT-walk
-μ-walk m inverse table trace claim k rows tests₀ i₀ tests i = rows - i
+μ-walk m inverse table trace claim c k rows tests₀ i₀ tests i = rows - i
 
 -- a row that is walked lies in the trace
 abbrev in-trace : {t : List ℕ} {i : ℕ} (k : ℕ) → AllCanonical t → length t ≡ 384 * k → k < 2 ^ 32 → i < 32 * k →
@@ -51,20 +52,20 @@ mul-rows : tie.Need-mul-rows Inv-loop μ-loop Inv-walk μ-walk
 mul-rows c = omega arith
 
 walk-holds : tie.Need-walk-holds Inv-loop μ-loop Inv-walk μ-walk
-walk-holds c = (omega arith, omega arith, rw sub-zero (start _ _ _ _))
+walk-holds c = (omega arith, omega arith, rw sub-zero (start _ _ _ _ _))
 
 forward-of-requires : tie.Need-forward-of-requires Inv-loop μ-loop Inv-walk μ-walk
 forward-of-requires c κs =
     let start = entry (c .before) in
     let p = start .pre in
-    (p .2, p .0, in-trace (start .args .k) (p .3) (p .4) (p .5) (c .if1 .left))
+    (p .2, p .0, in-trace (start .args .k) (p .3) (p .4) (p .6) (c .if1 .left))
 
 back-after-requires : tie.Need-back-after-requires Inv-loop μ-loop Inv-walk μ-walk
 back-after-requires c κs =
     let row = c .before in
     let start = entry (row .before) in
     let p = start .pre in
-    (p .2, p .1, in-trace (start .args .k) (p .3) (p .4) (p .5) (row .if1 .left))
+    (p .2, p .1, in-trace (start .args .k) (p .3) (p .4) (p .6) (row .if1 .left))
 
 span-of-requires : tie.Need-span-of-requires Inv-loop μ-loop Inv-walk μ-walk
 span-of-requires c κs = search needs
@@ -81,7 +82,7 @@ loop-holds c =
       s .to-last,
       omega (arith, s .from-one),
       sym
-          (enter (a .table .now) (a .trace .now) (a .claim .now) (a .k) (w .i) _ _ s (32 * a .k) (w .tests)
+          (enter (a .table .now) (a .trace .now) (a .claim .now) (a .c) (a .k) (w .i) _ _ s (32 * a .k) (w .tests)
           (row .if1 .left))
           ∙ w .inv .2,
     )
@@ -101,7 +102,8 @@ holds-requires c κs =
     let p = start .pre in (
       p .2,
       record {
-        place = in-trace (start .args .k) (p .3) (p .4) (p .5) (row .if1 .left);
+        place = in-trace (start .args .k) (p .3) (p .4) (p .6) (row .if1 .left);
+        c = start .args .c;
         applied = sym (test .applies .ensures) ∙ c .before .before .if2 .taken;
       },
       made .before .forward-of .ensures,
@@ -130,7 +132,8 @@ loop-again c =
       omega arith,
       rw (w .5)
           (sym
-          (pass (a .table .now) (a .trace .now) (a .claim .now) (a .k) i (l .constraint) n (l .tests) (omega arith)
+          (pass (a .table .now) (a .trace .now) (a .claim .now) (a .c) (a .k) i (l .constraint) n (l .tests)
+          (omega arith)
           (applied ∙ w .0 .taken) (sym (w .3 .ensures) ∙ not-false _ (w .4 .left)))
           ∙ l .inv .4),
     ))
@@ -141,7 +144,8 @@ loop-again c =
       omega arith,
       rw (w .1)
           (sym
-          (skip (a .table .now) (a .trace .now) (a .claim .now) (a .k) i (l .constraint) n (l .tests) (omega arith)
+          (skip (a .table .now) (a .trace .now) (a .claim .now) (a .c) (a .k) i (l .constraint) n (l .tests)
+          (omega arith)
           (applied ∙ w .0 .left))
           ∙ l .inv .4),
     ))
@@ -163,7 +167,8 @@ walk-again c =
       omega arith,
       omega arith,
       sym
-          (leave (a .table .now) (a .trace .now) (a .claim .now) (a .k) i _ _ (row .span-of .ensures) (l .constraint)
+          (leave (a .table .now) (a .trace .now) (a .claim .now) (a .c) (a .k) i _ _ (row .span-of .ensures)
+          (l .constraint)
           (32 * a .k - (i + 1)) (l .tests) (c .loop-test .left) (omega arith))
           ∙ l .inv .4,
     )
@@ -174,7 +179,8 @@ returns c =
     let w = turn .walk in
     let a = entry turn .args in
     sym
-    (done (a .table .now) (a .trace .now) (a .claim .now) (a .k) (w .i) (32 * a .k - w .i) (w .tests) (omega arith))
+    (done (a .table .now) (a .trace .now) (a .claim .now) (a .c) (a .k) (w .i) (32 * a .k - w .i) (w .tests)
+    (omega arith))
     ∙ w .inv .2
 
 returns-2 : tie.Need-returns-2 Inv-loop μ-loop Inv-walk μ-walk
@@ -185,7 +191,8 @@ returns-2 c =
     let i = turn-of test .walk .i in
     let a = entry (turn-of test) .args in
     sym
-    (fail (a .table .now) (a .trace .now) (a .claim .now) (a .k) i (l .constraint) (32 * a .k - (i + 1)) (l .tests)
+    (fail (a .table .now) (a .trace .now) (a .claim .now) (a .c) (a .k) i (l .constraint) (32 * a .k - (i + 1))
+    (l .tests)
     (omega arith)
     (sym (test .applies .ensures) ∙ applied .if2 .taken)
     (sym (c .before .holds .ensures) ∙ not-true _ (c .if3 .taken)))

@@ -6,6 +6,7 @@ use Prim.Native.Nat.{ℕ, _*_, _/_, _≤_}
 use native.Mathlib.Omega.{arith}
 use lib.ListN.{length, take}
 use borrow.Author.Needs.{needs}
+use Rattle.numbers.specs.Numbers.{tapWordBatches}
 use Rattle.refusals.specs.Refusals.{digestWords}
 use Rattle.checker.specs.Answers.{checkAnswer}
 use Rattle.clearing.proofs.Stages.{length-part, part-again, part-within, length-again}
@@ -98,7 +99,8 @@ returns c =
     let b = built (checked .before .before) in
     let claim = digestWords (start b .args .claim) in
     let part = part-again (room b) (last b) (size b) (fits b) (kept b) in
-    let answered = checked .check .ensures ∙ ap (λ t. checkAnswer (table b) t claim) part in
+    let k = tapWordBatches (length (taps b)) in
+    let answered = checked .check .ensures ∙ ap (λ t. checkAnswer (table b) t claim k) part in
     taps-cleared (table b) (taps b) (start b .pre .0) (start b .pre .1) claim (take (size b) (room b)) (last b) _ _
     (start b .pre .2) (part-size b) (b .build .ensures .1) answered (c .reported .ensures)
 

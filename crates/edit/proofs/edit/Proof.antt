@@ -1,7 +1,8 @@
--- `edit::edit`: nothing is written before every test has passed; then the trace is rewritten, and its last row begins
--- with the altered list's output.
+-- `edit::edit`: nothing is written before every test has passed; then the trace is rewritten, and the claim's row
+-- begins with the output of the altered list's first 3c + 1 taps.
 -- Assumes nothing.
 use mathlib.Core.Path.{_≡_, refl, sym, _∙_}
+use Prim.Native.Nat.{_≤_}
 use native.Mathlib.Omega.{arith}
 use lib.ListN.{length}
 use Rattle.numbers.specs.Numbers.{traceWordBatches}
@@ -9,8 +10,9 @@ use Rattle.refusals.specs.declared.Answer.the-variants.{Accepted, Refused}
 use Rattle.refusals.proofs.Laws.{tests-accepted, tests-refused, digest-turned-back, digest-returned}
 use Rattle.refusals.proofs.Laws.{leaves-old, leaves-new}
 use Rattle.edit.specs.Answers.{editTest, alteredTaps, editAnswer, editLeaves}
-use Rattle.edit.specs.EditHelpers.{Rewritable}
-use Rattle.edit.proofs.Rewriting.{rewritable, has-last-row, output-shown}
+use Rattle.rewriting.specs.EditHelpers.{Rewritable}
+use Rattle.rewriting.proofs.Rewriting.{has-claim-row, output-shown}
+use Rattle.edit.proofs.Answers.{edit-inputs, rewritable}
 use borrow.Author.Needs.{needs}
 use Rattle.edit.proofs.edit.Statement.{statement}
 use Rattle.edit.proofs.edit.Tie as tie
@@ -28,17 +30,24 @@ test-edit-requires c κs = search needs
 enum-told : tie.Need-enum-told
 enum-told c = search needs
 
-four : (start : tie.Start) → (length (start .args .t3) ≡ 4) × (length (start .args .t5) ≡ 4)
+four : (start : tie.Start) → (length (start .args .t3) ≡ 4) × (length (start .args .t6) ≡ 4)
 four start = (search needs, search needs)
 
 -- every test is passed, and the trace can be rewritten
 passes : (c : tie.After-enum-told) → let a = entry (c .before .before) .args in
-    editTest (a .table .now) (a .trace .now) (a .t3) (a .tap .0) (a .t5) ≡ Accepted
+    editTest (a .table .now) (a .trace .now) (a .t3) (a .c) (a .tap .0) (a .t6) ≡ Accepted
 passes c = tests-accepted _ _ _ (sym (c .before .before .test-edit .ensures) ∙ c .enum-told .given .1) .0
 
 can-rewrite : (c : tie.After-enum-told) → let a = entry (c .before .before) .args in
-    Rewritable (a .table .now) (a .trace .now) (traceWordBatches (length (a .trace .now))) (a .tap .0) (a .t5)
-can-rewrite c = rewritable _ _ _ _ _ (four (entry (c .before .before)) .0) (passes c)
+    Rewritable (a .table .now) (a .trace .now) (traceWordBatches (length (a .trace .now))) (a .tap .0) (a .t6)
+can-rewrite c = rewritable _ _ _ _ _ _ (four (entry (c .before .before)) .0) (passes c)
+
+-- c is from 1 to k
+counted : (c : tie.After-enum-told) → let a = entry (c .before .before) .args in
+    (1 ≤ a .c) × (a .c ≤ traceWordBatches (length (a .trace .now)))
+counted c =
+    let o = edit-inputs _ _ _ _ _ _ (passes c) .0 .opening in
+    (o .low, o .high)
 
 back-ready-requires : tie.Need-back-ready-requires
 back-ready-requires c κs = can-rewrite c .table
@@ -51,32 +60,34 @@ rewrite-requires c κs =
     let ready = c .before .before in
     (ready .back-ready .ensures, can-rewrite (ready .before))
 
-sub-t19 : tie.Need-sub-t19
-sub-t19 c = can-rewrite (c .before .before .before .before .before .before .before) .some
+sub-t20 : tie.Need-sub-t20
+sub-t20 c = counted (c .before .before .before .before .before .before .before) .0
 
 row-requires : tie.Need-row-requires
 row-requires c κs =
-    let r = can-rewrite (c .before .before .before .before .before .before .before) in
-    (omega (arith, r .few), omega arith)
+    let told = c .before .before .before .before .before .before .before in
+    (omega (arith, can-rewrite told .few, counted told .1), omega arith)
 
 cells-requires : tie.Need-cells-requires
 cells-requires c κs =
     let written = c .before .before .before .before in
     let told = written .before .before .before .before in
     let start = entry (told .before .before) in
-    has-last-row _ _ _ _ _ (can-rewrite told) (four start .1) _ (c .row .ensures) _ (written .rewrite .ensures)
+    let m = counted told in
+    has-claim-row _ _ _ _ _ (can-rewrite told) (four start .1) _ (m .0) (m .1) _ (c .row .ensures) _
+    (written .rewrite .ensures)
 
-array-read-t34 : tie.Need-array-read-t34
-array-read-t34 c = search needs
+array-read-t35 : tie.Need-array-read-t35
+array-read-t35 c = search needs
 
-array-read-t37 : tie.Need-array-read-t37
-array-read-t37 c = search needs
+array-read-t38 : tie.Need-array-read-t38
+array-read-t38 c = search needs
 
-array-read-t40 : tie.Need-array-read-t40
-array-read-t40 c = search needs
+array-read-t41 : tie.Need-array-read-t41
+array-read-t41 c = search needs
 
-array-read-t43 : tie.Need-array-read-t43
-array-read-t43 c = search needs
+array-read-t44 : tie.Need-array-read-t44
+array-read-t44 c = search needs
 
 enum-known-answer : tie.Need-enum-known-answer
 enum-known-answer c = search needs
@@ -91,9 +102,10 @@ returns c =
     let written = row .before .before .before .before in
     let told = written .before .before .before .before in
     let start = entry (told .before .before) in
+    let m = counted told in
     let e = written .rewrite .ensures in (
       digest-returned refl (passes told)
-          (output-shown _ _ _ _ _ (can-rewrite told) (four start .1) _ (row .row .ensures) _ e _
+          (output-shown _ _ _ _ _ (can-rewrite told) (four start .1) _ (m .0) (m .1) _ (row .row .ensures) _ e _
           (c .cells .ensures .0)),
       leaves-new refl _ (passes told) e,
     )
@@ -103,7 +115,8 @@ same-length-2 c = search needs
 
 -- a test refuses
 refuses : (c : tie.After-known-told) → let a = entry (c .before .before .before) .args in
-    editTest (a .table .now) (a .trace .now) (a .t3) (a .tap .0) (a .t5) ≡ Refused (c .before .answer .given .0 .0)
+    editTest (a .table .now) (a .trace .now) (a .t3) (a .c) (a .tap .0) (a .t6)
+    ≡ Refused (c .before .answer .given .0 .0)
 refuses c = tests-refused _ _ _ (sym (c .before .before .before .test-edit .ensures) ∙ c .before .answer .given .1)
 
 returns-2 : tie.Need-returns-2
@@ -120,13 +133,13 @@ edit-spec =
     back-ready-requires
     slice-aggregate-rewrite
     rewrite-requires
-    sub-t19
+    sub-t20
     row-requires
     cells-requires
-    array-read-t34
-    array-read-t37
-    array-read-t40
-    array-read-t43
+    array-read-t35
+    array-read-t38
+    array-read-t41
+    array-read-t44
     enum-known-answer
     same-length
     returns

@@ -1,9 +1,10 @@
 -- `export::lemoncolumn_build`: Build, or what is left of it where the output finds no room.
 -- Assumes nothing.
 use mathlib.Core.Path.{ap, _∙_}
-use Rattle.export.specs.Code.{answerCode}
+use Rattle.handover.specs.Code.{answerCode}
 use Rattle.export.specs.Calls.{buildCall}
-use Rattle.export.proofs.Answers.{stopped, kept, handed-as, build-short, chain-no-room-refuses}
+use Rattle.handover.proofs.Handed.{handed-as}
+use Rattle.export.proofs.Answers.{stopped, kept, build-short, chain-no-room-refuses}
 use Rattle.export.proofs.Answers.{build-answer, build-left}
 use borrow.Author.Needs.{needs}
 use Rattle.export.proofs.lemoncolumn_build.Statement.{statement}

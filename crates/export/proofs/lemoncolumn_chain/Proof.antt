@@ -1,9 +1,10 @@
 -- `export::lemoncolumn_chain`: Chain, or what is left of it where the output finds no room.
 -- Assumes nothing.
 use mathlib.Core.Path.{ap, _∙_}
-use Rattle.export.specs.Code.{answerCode}
+use Rattle.handover.specs.Code.{answerCode}
 use Rattle.export.specs.Calls.{chainCall}
-use Rattle.export.proofs.Answers.{stopped, handed-as, chain-short, chain-no-room-refuses, chain-answer}
+use Rattle.handover.proofs.Handed.{handed-as}
+use Rattle.export.proofs.Answers.{stopped, chain-short, chain-no-room-refuses, chain-answer}
 use borrow.Author.Needs.{needs}
 use Rattle.export.proofs.lemoncolumn_chain.Statement.{statement}
 use Rattle.export.proofs.lemoncolumn_chain.Tie as tie

@@ -1,7 +1,7 @@
 -- `export::lemoncolumn_check`: the code of what Check answers.
 -- Assumes nothing.
 use mathlib.Core.Path.{ap, _∙_}
-use Rattle.export.specs.Code.{testsCode}
+use Rattle.handover.specs.Code.{testsCode}
 use borrow.Author.Needs.{needs}
 use Rattle.export.proofs.lemoncolumn_check.Statement.{statement}
 use Rattle.export.proofs.lemoncolumn_check.Tie as tie

@@ -1,9 +1,10 @@
 -- `export::lemoncolumn_edit`: Edit, or what is left of it where the output finds no room.
 -- Assumes nothing.
 use mathlib.Core.Path.{ap, _∙_}
-use Rattle.export.specs.Code.{answerCode}
+use Rattle.handover.specs.Code.{answerCode}
 use Rattle.export.specs.Calls.{editCall}
-use Rattle.export.proofs.Answers.{stopped, kept, handed-as, edit-short, edit-no-room-refuses}
+use Rattle.handover.proofs.Handed.{handed-as}
+use Rattle.export.proofs.Answers.{stopped, kept, edit-short, edit-no-room-refuses}
 use Rattle.export.proofs.Answers.{edit-answer, edit-left}
 use borrow.Author.Needs.{needs}
 use Rattle.export.proofs.lemoncolumn_edit.Statement.{statement}
@@ -22,8 +23,8 @@ returns : tie.Need-returns
 unfolding editCall
 returns c =
     let n = c .before in
-    let short = edit-short _ _ _ _ _ _ (n .before .before .if1 .taken) in
-    let refuses = edit-no-room-refuses _ _ _ in
+    let short = edit-short _ _ _ _ _ _ _ (n .before .before .if1 .taken) in
+    let refuses = edit-no-room-refuses _ _ _ _ in
     record {
       four = stopped _ _ short refuses _ _ _ (c .answer-code .ensures ∙ ap answerCode (n .edit-no-room .ensures));
       rows = kept _ _ short refuses _ _;
@@ -46,10 +47,10 @@ returns-2 c =
     let handed = c .before .before in
     let called = handed .before .before .before .before in
     let room = called .before .before .if1 .left in
-    let same = called .edit .ensures .0 ∙ edit-answer _ room _ _ _ _ _ in
+    let same = called .edit .ensures .0 ∙ edit-answer _ room _ _ _ _ _ _ in
     record {
       four = handed-as _ _ _ _ _ same (handed .hand-over .ensures);
-      rows = called .edit .ensures .1 ∙ edit-left _ room _ _ _ _ _;
+      rows = called .edit .ensures .1 ∙ edit-left _ room _ _ _ _ _ _;
     }
 
 pub lemoncolumn-edit-spec : {M : Type 1} → statement M

@@ -1,9 +1,10 @@
 -- `export::lemoncolumn_hash`: Hash, or what is left of it where the output finds no room.
 -- Assumes nothing.
 use mathlib.Core.Path.{ap, _∙_}
-use Rattle.export.specs.Code.{answerCode}
+use Rattle.handover.specs.Code.{answerCode}
 use Rattle.export.specs.Calls.{hashCall}
-use Rattle.export.proofs.Answers.{state-stopped, state-handed-as, hash-short, hash-no-room-refuses, hash-answer}
+use Rattle.handover.proofs.Handed.{state-handed-as}
+use Rattle.export.proofs.Answers.{state-stopped, hash-short, hash-no-room-refuses, hash-answer}
 use borrow.Author.Needs.{needs}
 use Rattle.export.proofs.lemoncolumn_hash.Statement.{statement}
 use Rattle.export.proofs.lemoncolumn_hash.Tie as tie

@@ -1,7 +1,7 @@
 -- `export::lemoncolumn_pack`: the code of what Pack answers, and what it leaves.
 -- Assumes nothing.
 use mathlib.Core.Path.{ap, _∙_}
-use Rattle.export.specs.Code.{answerCode}
+use Rattle.handover.specs.Code.{answerCode}
 use borrow.Author.Needs.{needs}
 use Rattle.export.proofs.lemoncolumn_pack.Statement.{statement}
 use Rattle.export.proofs.lemoncolumn_pack.Tie as tie

@@ -1,7 +1,7 @@
 -- `export::lemoncolumn_read_off`: the code of what Read-off answers, and what it leaves.
 -- Assumes nothing.
 use mathlib.Core.Path.{ap, _∙_}
-use Rattle.export.specs.Code.{testsCode}
+use Rattle.handover.specs.Code.{testsCode}
 use borrow.Author.Needs.{needs}
 use Rattle.export.proofs.lemoncolumn_read_off.Statement.{statement}
 use Rattle.export.proofs.lemoncolumn_read_off.Tie as tie

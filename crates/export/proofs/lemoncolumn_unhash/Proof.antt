@@ -1,7 +1,7 @@
 -- `export::lemoncolumn_unhash`: Unhash, or what is left of it where the pair finds no room.
 -- Assumes nothing.
 use mathlib.Core.Path.{sym, ap, _∙_}
-use Rattle.export.specs.Code.{answerCode}
+use Rattle.handover.specs.Code.{answerCode}
 use Rattle.export.proofs.Answers.{unhash-handed, unhash-refused, unhash-stopped}
 use borrow.Author.Needs.{needs}
 use Rattle.export.proofs.lemoncolumn_unhash.Statement.{statement}

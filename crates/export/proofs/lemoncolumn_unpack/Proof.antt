@@ -2,8 +2,9 @@
 -- words.
 -- Assumes nothing.
 use mathlib.Core.Path.{ap, _∙_}
-use Rattle.export.specs.Code.{digestCode}
-use Rattle.export.proofs.Answers.{kept, handed-as, list-kept, unpack-short, unpack-stopped, no-list-refuses}
+use Rattle.handover.specs.Code.{digestCode}
+use Rattle.handover.proofs.Handed.{handed-as}
+use Rattle.export.proofs.Answers.{kept, list-kept, unpack-short, unpack-stopped, no-list-refuses}
 use Rattle.export.proofs.Answers.{unpack-answer, unpack-left}
 use borrow.Author.Needs.{needs}
 use Rattle.export.proofs.lemoncolumn_unpack.Statement.{statement}

@@ -27,20 +27,22 @@ returns : tie.Need-returns
 returns c =
     let t = c .before .before in
     let a = entry t .args in
-    let answered = t .test-read-off .ensures in
-    (answered, kept (a .table .now) (a .trace .now) (a .t3) (a .destination .now) answered (c .enum-told2 .given .1))
+    let answered = t .test-read-off .ensures in (
+      answered,
+      kept (a .table .now) (a .trace .now) (a .t3) (a .destination .now) (a .c) answered (c .enum-told2 .given .1),
+    )
 
 -- every test is passed
 passes : (c : tie.After-enum-told) → let a = entry (c .before .before) .args in
-    readOffTest (a .table .now) (a .trace .now) (a .t3) (length (a .destination .now)) ≡ Accepted
+    readOffTest (a .table .now) (a .trace .now) (a .t3) (a .c) (length (a .destination .now)) ≡ Accepted
 passes c =
     let t = c .before .before in
     let a = entry t .args in
-    accepted (a .table .now) (a .trace .now) (a .t3) (a .destination .now)
+    accepted (a .table .now) (a .trace .now) (a .t3) (a .destination .now) (a .c)
     (t .test-read-off .ensures) (c .enum-told .given .1)
 
 back-ready-requires : tie.Need-back-ready-requires
-back-ready-requires c κs = read-off-inputs _ _ _ _ (passes c) .1 .table
+back-ready-requires c κs = read-off-inputs _ _ _ _ _ (passes c) .1 .opening .table
 
 slice-aggregate-write-taps : tie.Need-slice-aggregate-write-taps
 slice-aggregate-write-taps c = omega arith
@@ -48,14 +50,14 @@ slice-aggregate-write-taps c = omega arith
 write-taps-requires : tie.Need-write-taps-requires
 write-taps-requires c κs =
     let r = c .before .before in
-    let i = read-off-inputs _ _ _ _ (passes (r .before)) in
-    let h = i .1 in (
+    let i = read-off-inputs _ _ _ _ _ (passes (r .before)) in
+    let o = i .1 .opening in (
       r .back-ready .ensures,
-      h .table,
-      h .canonical,
-      h .size,
-      h .permitted .low,
-      omega (arith, h .permitted .high),
+      o .table,
+      i .1 .canonical,
+      o .size,
+      o .permitted .low,
+      omega (arith, o .permitted .high),
       i .0,
     )
 
@@ -70,7 +72,7 @@ returns-2 c =
     let a = entry t .args in
     let answered = t .test-read-off .ensures in (
       answered,
-      read (a .table .now) (a .trace .now) (a .t3) (a .destination .now)
+      read (a .table .now) (a .trace .now) (a .t3) (a .destination .now) (a .c)
           answered (told .enum-told .given .1) (w .write-taps .ensures),
     )
 

@@ -99,6 +99,12 @@ enum-told-8 c = search needs
 alone-requires-8 : tie.Need-alone-requires-8
 alone-requires-8 c κs = search needs
 
+enum-told-9 : tie.Need-enum-told-9
+enum-told-9 c = search needs
+
+alone-requires-9 : tie.Need-alone-requires-9
+alone-requires-9 c κs = search needs
+
 returns : tie.Need-returns
 returns c = c .alone .ensures ∙ sym (ap told (c .before .enum-told .given .1))
 
@@ -147,6 +153,9 @@ returns-15 c = c .alone7 .ensures ∙ sym (ap told (c .before .enum-told7 .given
 returns-16 : tie.Need-returns-16
 returns-16 c = c .alone8 .ensures ∙ sym (ap told (c .before .enum-told8 .given .1))
 
+returns-17 : tie.Need-returns-17
+returns-17 c = c .alone9 .ensures ∙ sym (ap told (c .before .enum-told9 .given .1))
+
 pub told-spec : {M : Type 1} → statement M
 told-spec =
     tie.close
@@ -182,6 +191,8 @@ told-spec =
     alone-requires-7
     enum-told-8
     alone-requires-8
+    enum-told-9
+    alone-requires-9
     returns
     returns-2
     returns-3
@@ -197,4 +208,5 @@ told-spec =
     returns-13
     returns-14
     returns-15
-    returns-16)
+    returns-16
+    returns-17)

@@ -17,7 +17,7 @@ within-requires : tie.Need-within-requires
 within-requires c κs = search needs
 
 returns : tie.Need-returns
-returns c = rw (c .within .ensures) (sym (applies-zeros _ _ _ (c .before .before .pre .2) (c .before .if1 .taken)))
+returns c = rw (c .within .ensures) (sym (applies-zeros _ _ _ _ (c .before .before .pre .3) (c .before .if1 .taken)))
 
 is-entering-requires : tie.Need-is-entering-requires
 is-entering-requires c κs = search needs
@@ -25,7 +25,7 @@ is-entering-requires c κs = search needs
 returns-2 : tie.Need-returns-2
 returns-2 c =
     c .is-entering .ensures
-    ∙ sym (applies-new-zeros _ _ _ (c .before .before .if1 .left) (c .before .if2 .taken))
+    ∙ sym (applies-new-zeros _ _ _ _ (c .before .before .if1 .left) (c .before .if2 .taken))
 
 within-requires-2 : tie.Need-within-requires-2
 within-requires-2 c κs = search needs
@@ -33,7 +33,7 @@ within-requires-2 c κs = search needs
 returns-3 : tie.Need-returns-3
 returns-3 c =
     let test = c .before in
-    rw (c .within2 .ensures) (sym (applies-starts _ _ _ (test .before .if2 .left) (test .if3 .taken)))
+    rw (c .within2 .ensures) (sym (applies-starts _ _ _ _ (test .before .if2 .left) (test .if3 .taken)))
 
 is-middle-requires : tie.Need-is-middle-requires
 is-middle-requires c κs = search needs
@@ -41,7 +41,7 @@ is-middle-requires c κs = search needs
 returns-4 : tie.Need-returns-4
 returns-4 c =
     let test = c .before in
-    c .is-middle .ensures ∙ sym (applies-middle _ _ _ (test .before .if3 .left) (test .if4 .taken))
+    c .is-middle .ensures ∙ sym (applies-middle _ _ _ _ (test .before .if3 .left) (test .if4 .taken))
 
 within-requires-3 : tie.Need-within-requires-3
 within-requires-3 c κs = search needs
@@ -49,7 +49,7 @@ within-requires-3 c κs = search needs
 returns-5 : tie.Need-returns-5
 returns-5 c =
     let test = c .before in
-    rw (c .within3 .ensures) (sym (applies-ends _ _ _ (test .before .if4 .left) (test .if5 .taken)))
+    rw (c .within3 .ensures) (sym (applies-ends _ _ _ _ (test .before .if4 .left) (test .if5 .taken)))
 
 within-requires-4 : tie.Need-within-requires-4
 within-requires-4 c κs = search needs
@@ -63,7 +63,7 @@ returns-6 c =
     let test = row .before .before in
     let a = entry (test .before) .args in
     rw (
-      applies-joins (a .k) (a .row .0) (a .constraint) (test .before .if5 .left) (test .if6 .taken),
+      applies-joins (a .k) (a .c) (a .row .0) (a .constraint) (test .before .if5 .left) (test .if6 .taken),
       ← row .before .within4 .ensures,
       eq-eqb _ _ (row .if7 .taken),
       c .is-last-row .ensures,
@@ -74,7 +74,7 @@ returns-7 c =
     let test = c .before .before in
     let a = entry (test .before) .args in
     rw (
-      applies-joins (a .k) (a .row .0) (a .constraint) (test .before .if5 .left) (test .if6 .taken),
+      applies-joins (a .k) (a .c) (a .row .0) (a .constraint) (test .before .if5 .left) (test .if6 .taken),
       ← c .before .within4 .ensures,
       ne-eqb _ _ (c .if7 .left),
     )
@@ -85,7 +85,12 @@ is-claim-row-requires c κs = search needs
 returns-8 : tie.Need-returns-8
 returns-8 c =
     let other = c .before in
-    c .is-claim-row .ensures ∙ sym (applies-claims _ _ _ (other .if6 .left) (entry (other .before) .pre .3))
+    let start = entry (other .before) in
+    let a = start .args in
+    rw (
+      applies-claims (a .k) (a .c) (a .row .0) (a .constraint) (other .if6 .left) (start .pre .4),
+      c .is-claim-row .ensures,
+    )
 
 pub applies-spec : {M : Type 1} → statement M
 applies-spec =
