@@ -2,7 +2,7 @@
 -- acceptance and refusal mean. It holds for every invertible M: no maximum-distance property is asked for. Of the claim
 -- only the length is asked, since no output holds a word of p or above.
 -- Assumes nothing.
-use mathlib.Core.Path.{_≡_, refl, sym, ap, _∙_}
+use mathlib.Core.Path.{_≡_, sym, ap, _∙_}
 use mathlib.Core.Logic.{_↔_}
 use mathlib.Core.List.{List}
 use Prim.Native.Nat.{ℕ, _+_, _*_, _≤_}
@@ -13,7 +13,7 @@ use Rattle.refusals.specs.declared.Refusal.the-variants.{Constraint}
 use Rattle.refusals.specs.declared.Answer.the-variants.{Accepted, Refused}
 use Rattle.refusals.specs.declared.TestsAnswer.the-variants as counted
 use Rattle.refusals.specs.Answers.{testsAfter}
-use Rattle.refusals.proofs.Laws.{tests-accepted, tests-returned}
+use Rattle.refusals.proofs.Laws.{tests-accepted}
 use Rattle.table.specs.Table.{IsTable}
 use Rattle.hash.specs.Hash.{chain, firstTaps}
 use Rattle.hash.proofs.FirstTaps.{chain-first}
@@ -35,14 +35,6 @@ tests-say T t claim c k = (
   λ a. hold-equations T t claim k c
       (λ i q l e. a (record { at = i; number = q }) (test-list k c (record { at = i; number = q }) .1 (l, e))),
   λ q x m. (let s = test-list k c x .0 m in equations-hold T t claim k c q (x .at) (x .number) (s .0) (s .1)),
-)
-
--- an acceptance is reported with 372 × k tests
-pub reported : (T t claim : List ℕ) (c k : ℕ) → 1 ≤ c → c ≤ k → (constraintTest T t claim c k ≡ Accepted)
-    ↔ (testsAfter (constraintTest T t claim c k) (length (tests k c)) ≡ counted.Accepted (372 * k))
-reported T t claim c k low high = (
-  λ e. sym (tests-returned refl e (sym (length-tests k c low high))),
-  λ e. tests-accepted (constraintTest T t claim c k) (length (tests k c)) (372 * k) e .0,
 )
 
 -- ---- lists of taps and the traces built from them

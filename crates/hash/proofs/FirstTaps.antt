@@ -5,7 +5,7 @@ use mathlib.Core.List.{List}
 use Prim.Native.Nat.{ℕ, zero, suc, _+_, _*_, _≤_, _<_}
 use native.Mathlib.Omega.{arith}
 use lib.ListN.{length, take, drop, length-take, length-drop}
-use lib.Seq.{take-all, getD-take, ext-getD}
+use lib.Seq.{getD-take, ext-getD}
 use Rattle.lists.specs.Lists.{cell}
 use Rattle.hash.specs.Hash.{hash, tap, outputAt, chain, firstTaps}
 use Rattle.hash.proofs.Inputs.{cell-tap}
@@ -38,8 +38,3 @@ output-first T w c (suc h) l =
 pub chain-first : (T w : List ℕ) (c : ℕ) → chain T (firstTaps c w) c ≡ chain T w c
 unfolding chain
 chain-first T w c = output-first T w c (3 * c) (omega arith)
-
--- all taps of a list of 3k + 1
-pub all-taps : (w : List ℕ) (k : ℕ) → length w ≡ 12 * k + 4 → firstTaps k w ≡ w
-unfolding firstTaps
-all-taps w k size = take-all (12 * k + 4) w (omega arith)

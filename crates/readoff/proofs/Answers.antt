@@ -1,10 +1,9 @@
--- What the tests of Read-off say where they accept, that they accept what passes each of them, and what is left in the
--- destination.
+-- What the tests of Read-off say where they accept, that they are Check's where the destination has room, and what is
+-- left in it.
 -- Assumes nothing.
 use mathlib.Core.Path.{_≡_, refl, sym, _∙_}
 use mathlib.Core.List.{List}
 use Prim.Native.Nat.{ℕ, _+_, _*_}
-use native.Mathlib.Omega.{arith}
 use borrow.Author.Tests.{eq-eqb, eqb-true}
 use lib.Dec.{eqb}
 use lib.ListN.{length}
@@ -18,7 +17,7 @@ use Rattle.refusals.proofs.Laws.{passed, both-accepted, tests-accepted, tests-r
 use Rattle.constraints.specs.Constraints.{constraintTest}
 use Rattle.constraints.specs.ReadOff.{readTaps}
 use Rattle.checker.specs.Answers.{openingTest, checkTest}
-use Rattle.checker.proofs.Answers.{CheckInputs, check-inputs, check-passes}
+use Rattle.checker.proofs.Answers.{CheckInputs, check-inputs}
 use Rattle.readoff.specs.Answers.{readOffTest, readOffAnswer, readOffLeaves}
 
 module _ (T t claim : List ℕ) (c size : ℕ) where
@@ -36,12 +35,6 @@ module _ (T t claim : List ℕ) (c size : ℕ) where
       let s = eqb-true size (12 * traceWordBatches (length t) + 4) (b .0) in
       let i = check-inputs T t claim c (sym (same-test s) ∙ e) in
       (s, i .0, i .1)
-
-  pub read-off-passes : (k : ℕ) → size ≡ 12 * k + 4 → CheckInputs T t claim c k
-      → constraintTest T t claim c k ≡ answer.Accepted → readOffTest T t claim c size ≡ answer.Accepted
-  read-off-passes k e h q =
-      let s : size ≡ 12 * traceWordBatches (length t) + 4 = omega (arith, h .opening .size) in
-      same-test s ∙ check-passes T t claim c k h q
 
 -- ---- what is left in the destination, by the answer
 module _ (T t claim old : List ℕ) (c : ℕ) {a : TestsAnswer}
