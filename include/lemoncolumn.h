@@ -44,6 +44,7 @@ uint64_t lemoncolumn_interface(void);
 #define LEMONCOLUMN_TAP_WORDS(k) ((size_t)12 * (k) + 4)        /* 3k + 1 taps */
 #define LEMONCOLUMN_TRACE_WORDS(k) ((size_t)384 * (k))         /* 32 rows of 12 cells a batch */
 #define LEMONCOLUMN_FILE_BYTES(k) ((size_t)144 * (k) + 100)
+#define LEMONCOLUMN_MOST_BATCHES 1024                          /* the largest k */
 
 /* What a call returns: one word, read by the functions at the end of this file. */
 typedef uint64_t lemoncolumn_code;
@@ -92,8 +93,49 @@ lemoncolumn_code lemoncolumn_edit(const uint64_t *table, size_t table_words, uin
 lemoncolumn_code lemoncolumn_pack(const uint64_t *taps, size_t tap_words, uint64_t c0, uint64_t c1, uint64_t c2, uint64_t c3, uint8_t *file,
                                   size_t file_bytes);
 
-/* Writes the taps and the claim of a board file: 12 (below 4 bytes), 13 and 14 of word 0, 12, 8, then 13 and 14 of each element. */
+/* Writes the taps and the claim of a board file: 12 (below 4 bytes), 13 and 14 of word 0, 12, 8, then 13 and 14 of each element. A short
+ * file gets 14 with index 0. */
 lemoncolumn_code lemoncolumn_unpack(const uint8_t *file, size_t file_bytes, uint64_t *taps, size_t tap_words, uint64_t *claim, size_t claim_words);
+
+/* The short edition of the board file (document 02, U7): an element below 2^30 is one 32-bit word, any other has three as in the full
+ * edition, and word 0 has a mark beside k. The length is what the elements need: this where all are below 2^30, and up to that of the full
+ * file, LEMONCOLUMN_FILE_BYTES(k), where none is. */
+#define LEMONCOLUMN_SHORTEST_FILE_BYTES(k) ((size_t)48 * (k) + 36)
+#define LEMONCOLUMN_ONE_WORD_BITS 30
+#define LEMONCOLUMN_SHORT_MARK (UINT32_C(1) << 29)
+
+/* Bytes of the short file of taps and claim, the length that its writer asks for. It answers for any words and any length; a word that is
+ * not canonical counts as three. */
+static inline size_t lemoncolumn_short_file_bytes(const uint64_t *taps, size_t tap_words, uint64_t c0, uint64_t c1, uint64_t c2, uint64_t c3)
+{
+    const uint64_t claim[LEMONCOLUMN_DIGEST_WORDS] = {c0, c1, c2, c3};
+    size_t elements_of_three = 0;
+    for (size_t i = 0; i < LEMONCOLUMN_DIGEST_WORDS; i++)
+        elements_of_three += claim[i] >> LEMONCOLUMN_ONE_WORD_BITS != 0;
+    for (size_t i = 0; i < tap_words; i++)
+        elements_of_three += taps[i] >> LEMONCOLUMN_ONE_WORD_BITS != 0;
+    return 4 * (1 + LEMONCOLUMN_DIGEST_WORDS + tap_words + 2 * elements_of_three);
+}
+
+/* The k in word 0 of a short file, for whose taps its reader asks room. 0 where these bytes do not begin as a short file does: the reader
+ * refuses them whatever the room. */
+static inline size_t lemoncolumn_short_batches(const uint8_t *file, size_t file_bytes)
+{
+    if (file_bytes < 4)
+        return 0;
+    uint32_t word = (uint32_t)file[3] << 24 | (uint32_t)file[2] << 16 | (uint32_t)file[1] << 8 | file[0];
+    uint32_t k = word ^ LEMONCOLUMN_SHORT_MARK; /* too large where the mark is not set, or any bit above k */
+    return (k & (k - 1)) == 0 && k <= LEMONCOLUMN_MOST_BATCHES ? k : 0;
+}
+
+/* Writes the short file of taps and claim: 5, 8, 9, 6. */
+lemoncolumn_code lemoncolumn_pack_short(const uint64_t *taps, size_t tap_words, uint64_t c0, uint64_t c1, uint64_t c2, uint64_t c3, uint8_t *file,
+                                        size_t file_bytes);
+
+/* Writes the taps and the claim of a short file: 12 (below 4 bytes), 13 and 14 of word 0, 8, then word by word 12 where the file ends, and
+ * 13; 14 and 18 after an element's words; 12 for bytes after the last element. A file of the full edition gets 14 with index 0. */
+lemoncolumn_code lemoncolumn_unpack_short(const uint8_t *file, size_t file_bytes, uint64_t *taps, size_t tap_words, uint64_t *claim,
+                                          size_t claim_words);
 
 /* What is turned back (document 01, and document 02 from 15 on). */
 enum lemoncolumn_refusal {
@@ -109,12 +151,14 @@ enum lemoncolumn_refusal {
     LEMONCOLUMN_CLAIM_WORD = 9,         /* claim word not canonical: its lowest index */
     LEMONCOLUMN_TRACE_WORD = 10,        /* trace word not canonical: its lowest index */
     LEMONCOLUMN_CONSTRAINT = 11,        /* a constraint fails: the row in the whole trace, the constraint, the test's place in the order */
-    LEMONCOLUMN_FILE_LENGTH = 12,       /* file below 4 bytes, or not 144k + 100 */
+    LEMONCOLUMN_FILE_LENGTH = 12,       /* file below 4 bytes, or not 144k + 100; a short one cut off, or with bytes after its last element */
     LEMONCOLUMN_WRONG_KIND = 13,        /* wrong kind: index of the 32-bit word */
-    LEMONCOLUMN_WRONG_VALUE = 14,       /* spare bits or k not permitted: index 0; element not canonical: index of its first 32-bit word */
+    LEMONCOLUMN_WRONG_VALUE = 14,       /* spare bits, the other edition's file, or k not permitted: index 0; element not canonical: index of
+                                           its first 32-bit word */
     LEMONCOLUMN_NO_SUCH_TAP = 15,       /* tap number above 3k */
     LEMONCOLUMN_NO_PAIR = 16,           /* no pair of taps ends in that state */
-    LEMONCOLUMN_CLAIM_BATCHES = 17      /* c is 0 or above k */
+    LEMONCOLUMN_CLAIM_BATCHES = 17,     /* c is 0 or above k */
+    LEMONCOLUMN_LONG_ELEMENT = 18       /* element below 2^30 in three words of a short file: index of the first */
 };
 
 /* Bits 0 to 5: the refusal, 0 for acceptance. */
@@ -146,6 +190,7 @@ static inline int lemoncolumn_has_index(lemoncolumn_code code)
     case LEMONCOLUMN_TRACE_WORD:
     case LEMONCOLUMN_WRONG_KIND:
     case LEMONCOLUMN_WRONG_VALUE:
+    case LEMONCOLUMN_LONG_ELEMENT:
         return 1;
     default:
         return 0;

@@ -1,6 +1,6 @@
 /* The known days of document 01, their hashes with all twelve cells, edits of them, the two taps found again from the last row of a
- * day, and a day that closes before its rows end, through the library for C. Prints one line for each; known_days.expected has what
- * they must be. */
+ * day, a day that closes before its rows end, and a day in the short edition of the board file, through the library for C. Prints one
+ * line for each; known_days.expected has what they must be. */
 #include "lemoncolumn.h"
 
 #include <inttypes.h>
@@ -215,26 +215,97 @@ static void closed_early(const uint64_t *s)
     show_words("its w_6", taps + 24);
 }
 
+static void show_first_bytes(const uint8_t *file, int count)
+{
+    printf("its first bytes:");
+    for (int i = 0; i < count; i++)
+        printf(" %02x", file[i]);
+    printf("\n");
+}
+
 static void files(void)
 {
     uint64_t taps[LEMONCOLUMN_TAP_WORDS(1)] = {0};
     uint64_t claim[LEMONCOLUMN_DIGEST_WORDS];
     uint8_t file[LEMONCOLUMN_FILE_BYTES(1)];
     show("packed", lemoncolumn_pack(taps, LEMONCOLUMN_TAP_WORDS(1), 0, 0, 0, 0, file, sizeof file));
-    printf("its first bytes:");
-    for (int i = 0; i < 16; i++)
-        printf(" %02x", file[i]);
-    printf("\n");
+    show_first_bytes(file, 16);
     show("unpacked", lemoncolumn_unpack(file, sizeof file, taps, LEMONCOLUMN_TAP_WORDS(1), claim, LEMONCOLUMN_DIGEST_WORDS));
     file[4 * 7 + 3] = 0;
     show("word 7 of kind 0", lemoncolumn_unpack(file, sizeof file, taps, LEMONCOLUMN_TAP_WORDS(1), claim, LEMONCOLUMN_DIGEST_WORDS));
+}
+
+/* Unpack of a short file into the taps of `k` batches. */
+static lemoncolumn_code unpack_short(const uint8_t *file, size_t bytes, size_t k)
+{
+    uint64_t taps[LEMONCOLUMN_TAP_WORDS(2)];
+    uint64_t claim[LEMONCOLUMN_DIGEST_WORDS];
+    return lemoncolumn_unpack_short(file, bytes, taps, LEMONCOLUMN_TAP_WORDS(k), claim, LEMONCOLUMN_DIGEST_WORDS);
+}
+
+/* What is refused of the short file of `radio`, whose claim has its card in words 4 to 6, and of the full one. */
+static void refused_on_the_radio_link(uint8_t *file, size_t bytes, const uint8_t *full)
+{
+    show("the full file read as a short one", unpack_short(full, LEMONCOLUMN_FILE_BYTES(1), 1));
+    show("into the taps of two batches", unpack_short(file, bytes, 2));
+    show("without its last byte", unpack_short(file, bytes - 1, 1));
+    file[4 * 5] = 0; /* the card is 3, and 3 needs one word */
+    show("a small card in three words", unpack_short(file, bytes, 1));
+    file[4 * 6 + 3] = 0;
+    show("word 6 of kind 0", unpack_short(file, bytes, 1));
+}
+
+/* What k is read in files that begin with these words, as short ones or not. */
+static void show_batches(void)
+{
+    static const uint32_t words[] = {0x20000001, 0x20000400, 0x00000001, 0x20000000, 0x20000003, 0x20000800, 0x20010001, 0x60000001, 0xe0000001};
+    printf("k of short files:");
+    for (size_t i = 0; i < sizeof words / sizeof *words; i++) {
+        const uint8_t file[] = {words[i] & 0xff, words[i] >> 8 & 0xff, words[i] >> 16 & 0xff, words[i] >> 24};
+        printf(" %zu", lemoncolumn_short_batches(file, sizeof file));
+        if (lemoncolumn_short_batches(file, sizeof file - 1) != 0)
+            printf(" in three bytes");
+    }
+    printf("\n");
+}
+
+/* A day for the radio link: each tap has stop, fare, minute and card, and only the card, from 2^32 on, needs three words. Its claim is the
+ * last tap, as under S. */
+static void radio(void)
+{
+    uint64_t taps[LEMONCOLUMN_TAP_WORDS(1)];
+    uint64_t read[LEMONCOLUMN_TAP_WORDS(1)] = {0};
+    uint64_t claim[LEMONCOLUMN_DIGEST_WORDS] = {0};
+    uint8_t full[LEMONCOLUMN_FILE_BYTES(1)];
+    uint8_t file[LEMONCOLUMN_FILE_BYTES(1)]; /* the longest that a short file can be */
+    for (uint64_t tap = 0; tap < 4; tap++) {
+        uint64_t words[] = {101 + tap, 290, 480 + 5 * tap, (UINT64_C(1) << 32) + tap};
+        for (int i = 0; i < 4; i++)
+            taps[4 * tap + i] = words[i];
+    }
+    const uint64_t *last = taps + 12;
+    size_t bytes = lemoncolumn_short_file_bytes(taps, LEMONCOLUMN_TAP_WORDS(1), last[0], last[1], last[2], last[3]);
+    show("packed in the full edition",
+         lemoncolumn_pack(taps, LEMONCOLUMN_TAP_WORDS(1), last[0], last[1], last[2], last[3], full, sizeof full));
+    show("packed in the short edition",
+         lemoncolumn_pack_short(taps, LEMONCOLUMN_TAP_WORDS(1), last[0], last[1], last[2], last[3], file, bytes));
+    printf("bytes, full and short, and where all is small: %zu %zu %zu\n", sizeof full, bytes, LEMONCOLUMN_SHORTEST_FILE_BYTES(1));
+    show_first_bytes(file, 28);
+    size_t k = lemoncolumn_short_batches(file, bytes);
+    printf("its k: %zu\n", k);
+    show("unpacked", lemoncolumn_unpack_short(file, bytes, read, LEMONCOLUMN_TAP_WORDS(k), claim, LEMONCOLUMN_DIGEST_WORDS));
+    show_words("its claim", claim);
+    show_words("its w_0", read);
+    show("read as a full file", lemoncolumn_unpack(file, bytes, read, LEMONCOLUMN_TAP_WORDS(1), claim, LEMONCOLUMN_DIGEST_WORDS));
+    refused_on_the_radio_link(file, bytes, full);
+    show_batches();
 }
 
 /* The refusals of documents 01 and 02, as the header decodes them. */
 static void indices(void)
 {
     printf("refusals with an index:");
-    for (lemoncolumn_code number = LEMONCOLUMN_ACCEPTED; number <= LEMONCOLUMN_CLAIM_BATCHES; number++)
+    for (lemoncolumn_code number = LEMONCOLUMN_ACCEPTED; number <= LEMONCOLUMN_LONG_ELEMENT; number++)
         if (lemoncolumn_has_index(number))
             printf(" %" PRIu64, number);
     printf("\n");
@@ -259,6 +330,7 @@ int main(void)
     archive(a);
     closed_early(s);
     files();
+    radio();
     indices();
     return 0;
 }

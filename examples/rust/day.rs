@@ -80,13 +80,20 @@ fn main() -> Result<(), Refusal> {
         println!("corrected {output:?}");
     }
 
-    // The board file.
+    // The board file, and its short edition for the radio link.
     let mut file = vec![0; file_bytes(k)];
     pack(&taps, output, &mut file)?;
+    let mut short = vec![0; short_file_bytes(&taps, output)];
+    pack_short(&taps, output, &mut short)?;
+    println!("{} bytes, over radio {}", file.len(), short.len());
 
-    // The office: the file again, and the trace under its claim.
-    let mut list = vec![0; tap_words(k)];
-    let claim = unpack(&file, &mut list)?;
+    // The office: what came over the radio link, which is what the file has, and the
+    // trace under its claim. The length of a short file does not say its k.
+    let mut list = vec![0; short_batches(&short).map_or(0, tap_words)];
+    let claim = unpack_short(&short, &mut list)?;
+    let mut filed = vec![0; tap_words(k)];
+    let same = unpack(&file, &mut filed)? == claim && filed == list;
+    println!("the same board: {same}");
     println!("{} tests", check(&table, &trace, claim, k)?);
     let mut read = vec![0; tap_words(k)];
     read_off(&table, &trace, claim, k, &mut read)?;
@@ -106,8 +113,9 @@ fn main() -> Result<(), Refusal> {
 
     closed_early(&table)?;
 
-    // A trace that was altered, a word that is no element, a tap past the last, and
-    // a row in which no hash ends.
+    // A trace that was altered, a word that is no element, a tap past the last, a row
+    // in which no hash ends, a short file that was cut, and a full one with the mark of
+    // the short edition, in which small numbers have three words.
     trace[12 * 11 + 5] = 1;
     if let Err(refusal) = check(&table, &trace, claim, k) {
         println!("{refusal}: {refusal:?}");
@@ -120,6 +128,12 @@ fn main() -> Result<(), Refusal> {
     }
     if let Err(refusal) = unhash(&table, [1; STATE_WORDS]) {
         println!("{refusal}: {refusal:?}");
+    }
+    file[..4].copy_from_slice(&short[..4]);
+    for file in [&short[..short.len() - 1], &file] {
+        if let Err(refusal) = unpack_short(file, &mut list) {
+            println!("{refusal}: {refusal:?}");
+        }
     }
     Ok(())
 }

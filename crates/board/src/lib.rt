@@ -19,7 +19,7 @@ use refusals::Refusal;
 pub const MOST_BATCHES: usize = 1024;
 
 // The elements beside those of the batches: the claim, and the one tap more.
-const EXTRA_ELEMENTS: usize = 2 * TAP_WORDS;
+pub const EXTRA_ELEMENTS: usize = 2 * TAP_WORDS;
 
 // An element is three words of four bytes. The bytes of a batch, and those beside them, with the first word.
 pub const BATCH_BYTES: usize = 12 * BATCH_TAP_WORDS;
@@ -71,7 +71,7 @@ pub fn pack(taps: &[u64], claim: [u64; 4], destination: &mut [u8]) -> Answer
 }
 
 // k, in bits 0 to 15 of word 0.
-fn count_in(word: Word) -> usize
+pub fn count_in(word: Word) -> usize
     ensures { λ r. ⌜ r ≡ countIn (word .0) ⌝ }
 {
     (word.0 & 0xffff) as usize

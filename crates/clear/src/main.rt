@@ -63,7 +63,7 @@ fn main() {
     };
     let outcome = clearing::clear(&bytes[..read]);
     let mut line = [0u8; 80];
-    let length = clearing::line::text(outcome, &mut line);
+    let length = lines::text(outcome, &mut line);
     if !io::write_all(STDOUT_FILENO, &line[..length]) {
         io::write_all(STDERR_FILENO, b"clear: standard output cannot be written\n");
     }

@@ -1,6 +1,3 @@
-pub mod Decimal
-pub mod Fields
-pub mod Lines
 pub mod RawWords
 pub mod Stages
 pub mod BuiltTraces

@@ -1,5 +1,4 @@
-// What the program does, from the bytes on its standard input to its answer and the line that tells it (document 01,
-// "The board file").
+// What the program does, from the bytes on its standard input to its answer (document 01, "The board file").
 ghost use mathlib.Core.Path.{_≡_};
 ghost use Prim.Native.Nat.{_+_, _*_, _/_, _-_, _≤_};
 ghost use lib.ListN.{length};
@@ -18,8 +17,6 @@ use refusals::Digest;
 use refusals::DigestAnswer;
 use refusals::Refusal;
 use refusals::TestsAnswer;
-
-pub mod line;
 
 // The program's answer.
 pub enum Outcome {

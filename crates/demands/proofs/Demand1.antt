@@ -46,24 +46,30 @@ use Rattle.unhash.specs.Unhash.{tapsBefore}
 use Rattle.unhash.specs.Answers.{unhashTest, unhashAnswer}
 use Rattle.board.specs.Board.{packTest, packed, packLeaves, unpackAnswer, unpackTest, tapsIn, claimIn, unpackLeaves}
 use Rattle.board.proofs.Round.{claim-is}
+use Rattle.shortboard.specs.ShortBoard.{packShortTest, packedShort, packShortLeaves, unpackShortAnswer, unpackShortTest}
+use Rattle.shortboard.specs.ShortBoard.{shortTapsIn, shortClaimIn, unpackShortLeaves}
+use Rattle.shortboard.proofs.Round as short
 use Rattle.handover.specs.Code.{code as code-of, answerCode, digestCode, stateCode, testsCode}
 use Rattle.handover.specs.HandsOver.{written, HandsOver, writtenState, HandsOverState}
 use Rattle.export.specs.Calls.{PrepareCall, hashCallTest, hashCall}
 use Rattle.export.specs.Calls.{chainCallTest, chainCall, buildCallTest, buildCall, BuildCall, ReadOffCall}
 use Rattle.export.specs.Calls.{editCallTest, editCall, EditCall, unhashCallTest, UnhashCall, PackCall}
-use Rattle.export.specs.Calls.{unpackCallTest, unpackCall, UnpackCall}
+use Rattle.export.specs.Calls.{unpackCallTest, unpackCall, UnpackCall, PackShortCall, unpackShortCallTest}
+use Rattle.export.specs.Calls.{unpackShortCall, UnpackShortCall}
 use Rattle.export.proofs.Answers.{chain-room, build-room}
 use Rattle.handover.proofs.Bits.{RefusalInBits, says, says-accepted}
 use Rattle.export.proofs.Endings as ends
 use Rattle.export.proofs.Endings.{TableCauses}
 use Rattle.export.proofs.Theorems as bits
 use Rattle.demands.specs.Demand1.{Operation, prepare, hash, chain, build, check, read-off, edit, unhash}
-use Rattle.demands.specs.Demand1.{pack, unpack}
+use Rattle.demands.specs.Demand1.{pack, unpack, pack-short, unpack-short}
 use Rattle.demands.specs.Demand1.{numbers, callNumbers, OneOf, Refuses, prepare-refuses, hash-refuses}
 use Rattle.demands.specs.Demand1.{chain-refuses, build-refuses, check-refuses, read-off-refuses, edit-refuses}
-use Rattle.demands.specs.Demand1.{unhash-refuses, pack-refuses, unpack-refuses, Answered, accepted, refused}
+use Rattle.demands.specs.Demand1.{unhash-refuses, pack-refuses, unpack-refuses, pack-short-refuses}
+use Rattle.demands.specs.Demand1.{unpack-short-refuses, Answered, accepted, refused}
 use Rattle.demands.specs.Demand1.{PrepareResult, HashResult, ChainResult, BuildResult, CheckResult, ReadOffResult}
-use Rattle.demands.specs.Demand1.{EditResult, UnhashResult, PackResult, UnpackResult, Demand1}
+use Rattle.demands.specs.Demand1.{EditResult, UnhashResult, PackResult, UnpackResult, PackShortResult}
+use Rattle.demands.specs.Demand1.{UnpackShortResult, Demand1}
 use Rattle.refusals.proofs.Returned.{four-words, twelve-words}
 
 -- ---- numbers of a list, by computing
@@ -123,9 +129,17 @@ pack-numbers w claim size =
     ends.pack-ends (OneOf ns) w claim size (one-of 5 ns refl) (one-of 8 ns refl) (λ i h. one-of 9 ns refl)
     (λ k s p i h. one-of 6 ns refl)
 
+pack-short-numbers : (w claim : List ℕ) (size : ℕ)
+    → AnswerEnds (OneOf (numbers pack-short)) (packShortTest w claim size)
+pack-short-numbers w claim size =
+    let ns = numbers pack-short in
+    ends.pack-short-ends (OneOf ns) w claim size (one-of 5 ns refl) (one-of 8 ns refl) (λ i h. one-of 9 ns refl)
+    (λ k s p i h. one-of 6 ns refl)
+
 -- ---- the operations
 numbered : (o : Operation) (r : Refusal) → Refuses o r → OneOf (numbers o) r
 unfolding hashAnswer chainAnswer buildAnswer checkAnswer readOffAnswer editAnswer unhashAnswer unpackAnswer
+    unpackShortAnswer
 numbered o r (prepare-refuses raw old new q h) = prepare-numbers raw old new (answer.Refused q) h
 numbered o r (hash-refuses T words q e) =
     let ns = numbers hash in
@@ -156,6 +170,13 @@ numbered o r (unhash-refuses T s q e) =
     subst (AnswerEnds (OneOf ns)) (pair-refused (unhashTest T s) _ q e)
     (ends.unhash-ends (OneOf ns) (table-causes ns refl refl refl) T s (λ i h. one-of 6 ns refl)
     (λ t c. one-of 16 ns refl))
+numbered o r (pack-short-refuses w claim size q e) =
+    subst (AnswerEnds (OneOf (numbers pack-short))) e (pack-short-numbers w claim size)
+numbered o r (unpack-short-refuses file size q e) =
+    let ns = numbers unpack-short in
+    subst (AnswerEnds (OneOf ns)) (digest-refused (unpackShortTest file size) _ q e)
+    (ends.unpack-short-ends (OneOf ns) file (one-of 12 ns refl) (one-of 8 ns refl) (λ j h. one-of 13 ns refl)
+    (λ j h. one-of 14 ns refl) (λ j h. one-of 18 ns refl) size)
 numbered o r (pack-refuses w claim size q e) =
     subst (AnswerEnds (OneOf (numbers pack))) e (pack-numbers w claim size)
 numbered o r (unpack-refuses file size q e) =
@@ -183,6 +204,8 @@ only-3 edit h = absurd (never edit NoInverse refl h)
 only-3 unhash h = absurd (never unhash NoInverse refl h)
 only-3 pack h = absurd (never pack NoInverse refl h)
 only-3 unpack h = absurd (never unpack NoInverse refl h)
+only-3 pack-short h = absurd (never pack-short NoInverse refl h)
+only-3 unpack-short h = absurd (never unpack-short NoInverse refl h)
 
 -- ---- the calls
 
@@ -459,6 +482,41 @@ unpack-call file taps taps′ claim claim′ code h =
     })
     (λ r. (h .list ∙ ap (λ x. leaves x (tapsIn file) taps) (r .1), output-old t d code claim claim′ (h .four) r))
 
+pack-short-call : (w file file′ : List ℕ) (c0 c1 c2 c3 code : ℕ)
+    → PackShortCall w (c0 ∷ c1 ∷ c2 ∷ c3 ∷ []) file code file′
+    → Answered code (callNumbers pack-short) (PackShortResult w (c0 ∷ c1 ∷ c2 ∷ c3 ∷ []) file′) (file′ ≡ file)
+unfolding packShortLeaves
+pack-short-call w file file′ c0 c1 c2 c3 code h =
+    let claim : List ℕ = c0 ∷ c1 ∷ c2 ∷ c3 ∷ [] in
+    let left : Answer → List ℕ = λ x. leaves x (packedShort w claim) file in
+    answer-says code (callNumbers pack-short) (PackShortResult w claim file′) (file′ ≡ file)
+    (packShortTest w claim (length file)) (h .coded)
+    (bits.pack-short-bits w claim (length file) refl)
+    (pack-short-numbers w claim (length file))
+    (λ e. record { none = refl; file-is = h .file ∙ ap left e })
+    (λ r. h .file ∙ ap left (r .1))
+
+unpack-short-call : (file taps taps′ claim claim′ : List ℕ) (code : ℕ)
+    → UnpackShortCall file code taps taps′ claim claim′
+    → Answered code (callNumbers unpack-short) (UnpackShortResult file taps′ claim′)
+    ((taps′ ≡ taps) × (claim′ ≡ claim))
+unfolding unpackShortCall
+unpack-short-call file taps taps′ claim claim′ code h =
+    let ns = callNumbers unpack-short in
+    let t = unpackShortCallTest file (length taps) (length claim) in
+    let d = digest (shortClaimIn file) in
+    let left : Answer → List ℕ = λ x. leaves x (shortTapsIn file) taps in
+    digest-says code ns (UnpackShortResult file taps′ claim′) ((taps′ ≡ taps) × (claim′ ≡ claim)) t d (h .four .coded)
+    (bits.unpack-short-bits file (length taps) (length claim))
+    (ends.unpack-short-call-ends (OneOf ns) file (one-of 12 ns refl) (one-of 8 ns refl) (λ j l. one-of 13 ns refl)
+    (λ j l. one-of 14 ns refl) (λ j l. one-of 18 ns refl) (length taps) (length claim))
+    (λ e. record {
+      none = refl;
+      taps-are = h .list ∙ ap left e;
+      claim-is = output-new t d code claim claim′ (h .four) e ∙ sym (short.claim-is file d refl);
+    })
+    (λ r. (h .list ∙ ap left (r .1), output-old t d code claim claim′ (h .four) r))
+
 -- ---- the demand
 
 -- what a destination holds after a refusal
@@ -467,6 +525,7 @@ kept-old a r e new old = ap (λ x. leaves x new old) e
 
 pub demand-1 : Demand1
 unfolding buildAnswer buildLeaves readOffAnswer readOffLeaves editAnswer editLeaves packLeaves unpackAnswer unpackLeaves
+    packShortLeaves unpackShortAnswer unpackShortLeaves
 demand-1 = record {
   numbered = numbered;
   prepare-never-4 = never-4;
@@ -480,6 +539,9 @@ demand-1 = record {
   edit-keeps = λ T t claim c n new r e. kept-old _ r (digest-refused (editTest T t claim c n new) _ r e) _ t;
   pack-keeps = λ w claim old r e. kept-old _ r e _ old;
   unpack-keeps = λ file old r e. kept-old _ r (digest-refused (unpackTest file (length old)) _ r e) _ old;
+  pack-short-keeps = λ w claim old r e. kept-old _ r e _ old;
+  unpack-short-keeps = λ file old r e.
+      kept-old _ r (digest-refused (unpackShortTest file (length old)) _ r e) _ old;
   prepare-call = prepare-call;
   hash-call = hash-call;
   chain-call = chain-call;
@@ -490,4 +552,6 @@ demand-1 = record {
   unhash-call = unhash-call;
   pack-call = pack-call;
   unpack-call = unpack-call;
+  pack-short-call = pack-short-call;
+  unpack-short-call = unpack-short-call;
 }

@@ -37,7 +37,7 @@ use Rattle.exact.proofs.Built.{end-row}
 use Rattle.rewriting.specs.Edit.{altered}
 use Rattle.edit.specs.Answers.{editAnswer, editLeaves}
 use Rattle.export.specs.Calls.{hashNoRoom, hashCall}
-use Rattle.export.proofs.Answers.{hash-short, hash-answer}
+use Rattle.export.proofs.Answers.{hash-without, hash-answer}
 use Rattle.demands.specs.Request3.{Hashed, HasState, HasOutput, Ends, Request3}
 use Rattle.refusals.proofs.Returned.{four-words, twelve-words}
 use Rattle.demands.proofs.Demand2.{demand-2}
@@ -80,8 +80,8 @@ hashes T a b s la lb e =
 call-without : (T words : List ℕ) (size : ℕ) (s : State) → (size ≡ 12 → ⊥)
     → hashCall T words size ≡ stateAfter (after (tableTest T) (answer.Refused DestinationLength)) s
 unfolding hashCall hashNoRoom
-call-without T words size s short =
-    ap (λ t. stateAfter t (returned T words)) (hash-short T words size short) ∙ same (tableTest T)
+call-without T words size s without =
+    ap (λ t. stateAfter t (returned T words)) (hash-without T words size without) ∙ same (tableTest T)
   where
     -- a refusal has no state
     same : (t : Answer) → let a = after t (answer.Refused DestinationLength) in

@@ -47,10 +47,10 @@ use Rattle.exact.proofs.Exactness.{reads-that-list}
 use Rattle.unhash.specs.Unhash.{inputBefore, tapsBefore, endsInZeros}
 use Rattle.unhash.specs.Answers.{unhashTest, unhashAnswer}
 use Rattle.unhash.proofs.Theorems.{taps-size, answered-hash, hash-answered, answered-or-16, other-input}
-use Rattle.handover.specs.Code.{refusalCode, answerCode, numberIn}
+use Rattle.handover.specs.Code.{refusalCode, answerCode}
 use Rattle.export.specs.Calls.{hashNoRoom, unhashCallTest, UnhashCall}
-use Rattle.export.proofs.Answers.{hash-no-room-refuses, unhash-room, unhash-short}
-use Rattle.handover.proofs.Bits.{RefusalInBits, says}
+use Rattle.export.proofs.Answers.{hash-no-room-refuses, unhash-room, unhash-without}
+use Rattle.handover.proofs.Bits.{zero-accepts}
 use Rattle.export.proofs.Endings as ends
 use Rattle.export.proofs.Theorems.{unhash-bits}
 use Rattle.demands.specs.Request3.{Ends}
@@ -178,18 +178,7 @@ module _ (T s old new : List ℕ) (code : ℕ) (called : UnhashCall T s code old
 
   -- a word that says no refusal is that of an acceptance
   accepted : length s ≡ 12 → code ≡ 0 → asked ≡ answer.Accepted
-  unfolding answerCode
-  accepted twelve e =
-      go asked (unhash-bits T s (length old) twelve)
-      (ends.unhash-call-ends (λ r. told r .number ≡ 0 → ⊥)
-      (record { by-length = λ h. omega arith; by-word = λ i l h. omega arith; by-cell = λ i l h. omega arith })
-      T s (λ i l h. omega arith) (λ t c h. omega arith) (length old) (λ h. omega arith))
-      (sym (called .coded) ∙ e)
-    where
-      go : (t : Answer) → AnswerEnds RefusalInBits t → AnswerEnds (λ r. told r .number ≡ 0 → ⊥) t → answerCode t ≡ 0
-          → t ≡ answer.Accepted
-      go answer.Accepted b n e = refl
-      go (answer.Refused r) b n e = absurd (n (sym (says (told r) b .number) ∙ ap numberIn e))
+  accepted twelve e = zero-accepts asked (unhash-bits T s (length old) twelve) (sym (called .coded) ∙ e)
 
   -- an acceptance has room, and then writes the two taps
   has-room : asked ≡ answer.Accepted → length old ≡ 8
@@ -234,8 +223,8 @@ module _ (T s old new : List ℕ) (code : ℕ) (called : UnhashCall T s code old
   call-without : (length old ≡ 8 → ⊥)
       → (code ≡ answerCode (after (tableTest T) (answer.Refused DestinationLength))) × (new ≡ old)
   unfolding hashNoRoom
-  call-without short =
-      let refuses = unhash-short T s (length old) short in
+  call-without without =
+      let refuses = unhash-without T s (length old) without in
       let r = hash-no-room-refuses T in (
         called .coded ∙ ap answerCode refuses,
         called .taps ∙ ap (λ t. leaves t (tapsBefore T s) old) (refuses ∙ r .1),

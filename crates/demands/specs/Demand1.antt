@@ -28,13 +28,15 @@ use Rattle.edit.specs.Answers.{alteredTaps, editAnswer, editLeaves}
 use Rattle.unhash.specs.Unhash.{tapsBefore}
 use Rattle.unhash.specs.Answers.{unhashAnswer}
 use Rattle.board.specs.Board.{packTest, packed, packLeaves, unpackAnswer, tapsIn, claimIn, unpackLeaves}
+use Rattle.shortboard.specs.ShortBoard.{packShortTest, packedShort, packShortLeaves, unpackShortAnswer, shortTapsIn}
+use Rattle.shortboard.specs.ShortBoard.{shortClaimIn, unpackShortLeaves}
 use Rattle.handover.specs.Code.{Says, testsCode}
 use Rattle.handover.specs.HandsOver.{HandsOver, HandsOverState}
 use Rattle.export.specs.Calls.{PrepareCall, hashCall, chainCall, BuildCall, ReadOffCall}
-use Rattle.export.specs.Calls.{EditCall, UnhashCall, PackCall, UnpackCall}
+use Rattle.export.specs.Calls.{EditCall, UnhashCall, PackCall, UnpackCall, PackShortCall, UnpackShortCall}
 
 -- ---- the operations, and the numbers that each can return, in the order of their tests (document 01, "What is
--- turned back"; document 02 for Edit, Unhash and 17)
+-- turned back"; document 02 for Edit, Unhash, 17 and the short edition)
 
 pub data Operation : Type 0 where
   prepare : Operation
@@ -47,6 +49,8 @@ pub data Operation : Type 0 where
   unhash : Operation
   pack : Operation
   unpack : Operation
+  pack-short : Operation
+  unpack-short : Operation
 
 abbrev pub numbers : Operation → List ℕ
 numbers prepare = 1 ∷ 8 ∷ 2 ∷ 3 ∷ []
@@ -59,6 +63,8 @@ numbers edit = 1 ∷ 2 ∷ 4 ∷ 7 ∷ 17 ∷ 15 ∷ 9 ∷ 10 ∷ 6 ∷ 11 ∷ [
 numbers unhash = 1 ∷ 2 ∷ 4 ∷ 6 ∷ 16 ∷ []
 numbers pack = 5 ∷ 8 ∷ 9 ∷ 6 ∷ []
 numbers unpack = 12 ∷ 13 ∷ 14 ∷ 8 ∷ []
+numbers pack-short = 5 ∷ 8 ∷ 9 ∷ 6 ∷ []
+numbers unpack-short = 12 ∷ 13 ∷ 14 ∷ 8 ∷ 18 ∷ []
 
 -- from another language four words, Unhash's eight and Hash's twelve go to a destination too, whose length is tested
 -- where 8 stands
@@ -73,6 +79,8 @@ callNumbers edit = 1 ∷ 2 ∷ 4 ∷ 7 ∷ 17 ∷ 15 ∷ 8 ∷ 9 ∷ 10 ∷ 6 �
 callNumbers unhash = 1 ∷ 2 ∷ 4 ∷ 8 ∷ 6 ∷ 16 ∷ []
 callNumbers pack = numbers pack
 callNumbers unpack = numbers unpack
+callNumbers pack-short = numbers pack-short
+callNumbers unpack-short = numbers unpack-short
 
 -- the refusal's number is one of these
 abbrev pub OneOf : List ℕ → Refusal → Type 0
@@ -94,6 +102,10 @@ pub data Refuses : Operation → Refusal → Type 0 where
   pack-refuses : (w claim : List ℕ) (size : ℕ) (r : Refusal) → packTest w claim size ≡ answer.Refused r → Refuses pack r
   unpack-refuses : (file : List ℕ) (size : ℕ) (r : Refusal) → unpackAnswer file size ≡ digest.Refused r
       → Refuses unpack r
+  pack-short-refuses : (w claim : List ℕ) (size : ℕ) (r : Refusal) → packShortTest w claim size ≡ answer.Refused r
+      → Refuses pack-short r
+  unpack-short-refuses : (file : List ℕ) (size : ℕ) (r : Refusal) → unpackShortAnswer file size ≡ digest.Refused r
+      → Refuses unpack-short r
 
 -- ---- a call from another language: what the word says that it returns
 
@@ -164,6 +176,15 @@ pub record UnpackResult (file taps claim : List ℕ) (tests : ℕ) : Type 0 wher
   pub taps-are : taps ≡ tapsIn file
   pub claim-is : claim ≡ claimIn file
 
+pub record PackShortResult (w claim file : List ℕ) (tests : ℕ) : Type 0 where
+  pub none : tests ≡ 0
+  pub file-is : file ≡ packedShort w claim
+
+pub record UnpackShortResult (file taps claim : List ℕ) (tests : ℕ) : Type 0 where
+  pub none : tests ≡ 0
+  pub taps-are : taps ≡ shortTapsIn file
+  pub claim-is : claim ≡ shortClaimIn file
+
 -- ---- the demand
 
 pub record Demand1 : Type 0 where
@@ -188,6 +209,10 @@ pub record Demand1 : Type 0 where
       → packLeaves w claim old ≡ old
   pub unpack-keeps : (file old : List ℕ) (r : Refusal) → unpackAnswer file (length old) ≡ digest.Refused r
       → unpackLeaves file old ≡ old
+  pub pack-short-keeps : (w claim old : List ℕ) (r : Refusal) → packShortTest w claim (length old) ≡ answer.Refused r
+      → packShortLeaves w claim old ≡ old
+  pub unpack-short-keeps : (file old : List ℕ) (r : Refusal) → unpackShortAnswer file (length old) ≡ digest.Refused r
+      → unpackShortLeaves file old ≡ old
   -- the calls: whatever words and lengths are lent, with `′` on what a buffer holds afterwards
   pub prepare-call : (raw table table′ : List ℕ) (code : ℕ) → PrepareCall raw table code table′
       → Answered code (callNumbers prepare) (PrepareResult raw table table′) (table′ ≡ table)
@@ -217,3 +242,10 @@ pub record Demand1 : Type 0 where
       → Answered code (callNumbers pack) (PackResult w (c0 ∷ c1 ∷ c2 ∷ c3 ∷ []) file′) (file′ ≡ file)
   pub unpack-call : (file taps taps′ claim claim′ : List ℕ) (code : ℕ) → UnpackCall file code taps taps′ claim claim′
       → Answered code (callNumbers unpack) (UnpackResult file taps′ claim′) ((taps′ ≡ taps) × (claim′ ≡ claim))
+  pub pack-short-call : (w file file′ : List ℕ) (c0 c1 c2 c3 code : ℕ)
+      → PackShortCall w (c0 ∷ c1 ∷ c2 ∷ c3 ∷ []) file code file′
+      → Answered code (callNumbers pack-short) (PackShortResult w (c0 ∷ c1 ∷ c2 ∷ c3 ∷ []) file′) (file′ ≡ file)
+  pub unpack-short-call : (file taps taps′ claim claim′ : List ℕ) (code : ℕ)
+      → UnpackShortCall file code taps taps′ claim claim′
+      → Answered code (callNumbers unpack-short) (UnpackShortResult file taps′ claim′)
+      ((taps′ ≡ taps) × (claim′ ≡ claim))

@@ -3,16 +3,15 @@
 -- Assumes nothing.
 use mathlib.Core.Path.{_≡_, refl, sym, ap, ap₂, _∙_}
 use mathlib.Core.List.{List, [], _∷_, _++_}
-use Prim.Native.Nat.{ℕ, suc, _+_, _*_, _/_, _%_, _^_, _<_, _≤_}
+use Prim.Native.Nat.{ℕ, _+_, _*_, _/_, _%_, _^_, _<_, _≤_}
 use native.Mathlib.Nat.{mod-eq-of-lt}
-use native.Mathlib.Numerals.{add-one}
 use native.Mathlib.Omega.{arith}
 use lib.Bits.{bitOr, or-shifted}
 use lib.ListN.{length, take}
 use lib.Pow.{shr-shr}
-use lib.Seq.{sets, take-suc, length-take-le}
+use lib.Seq.{sets, length-take-le}
 use Rattle.lists.specs.Lists.{cell, each}
-use Rattle.lists.proofs.Each.{each-append, length-each, cell-each}
+use Rattle.lists.proofs.Each.{each-append, each-next, length-each, cell-each}
 use Rattle.lists.proofs.Stores.{sets-append}
 use Rattle.elements.specs.Words.{joined, kindOf, payloadOf, wordBytes, wordAt, bytesOf}
 use Rattle.elements.specs.Elements.{elementWords, wordsOf, elementOf, elementAt}
@@ -50,15 +49,20 @@ pub no-word : (file : List ℕ) (j : ℕ) → 16 ≤ payloadOf (wordAt file j) �
 unfolding elementAt
 no-word file j h = omega arith
 
--- ---- writing: three words, one after the other
-pub write-three : (l l₁ l₂ l₃ : List ℕ) (j a b c : ℕ) → l₁ ≡ sets l (4 * j) (wordBytes a)
-    → l₂ ≡ sets l₁ (4 * (j + 1)) (wordBytes b) → l₃ ≡ sets l₂ (4 * (j + 2)) (wordBytes c)
-    → l₃ ≡ sets l (4 * j) (bytesOf (a ∷ b ∷ c ∷ []))
+-- ---- writing: words, and more of them where those end
+pub write-on : (l l₁ l₂ a b : List ℕ) (j m : ℕ) → length a ≡ m → l₁ ≡ sets l (4 * j) (bytesOf a)
+    → l₂ ≡ sets l₁ (4 * (j + m)) (bytesOf b) → l₂ ≡ sets l (4 * j) (bytesOf (a ++ b))
+write-on l l₁ l₂ a b j m size p q =
+    let at : 4 * (j + m) ≡ 4 * j + length (bytesOf a) = omega (arith, size, length-bytes a) in
+    q
+    ∙ rw (p, at)
+    (sets-append l (4 * j) (bytesOf a) (bytesOf b) ∙ ap (sets l (4 * j)) (sym (each-append wordBytes a b)))
+
+-- one word
+pub write-one : (l l₁ : List ℕ) (j a b : ℕ) → a ≡ b → l₁ ≡ sets l (4 * j) (wordBytes a)
+    → l₁ ≡ sets l (4 * j) (bytesOf (b ∷ []))
 unfolding each
-write-three l l₁ l₂ l₃ j a b c p q r =
-    let four : 4 * (j + 1) ≡ suc (suc (suc (suc (4 * j)))) = omega arith in
-    let eight : 4 * (j + 2) ≡ suc (suc (suc (suc (suc (suc (suc (suc (4 * j)))))))) = omega arith in
-    r ∙ rw (q, p, four, eight)
+write-one l l₁ j a b e p = p ∙ rw e
 
 -- ---- lists of elements
 three-words : (x : ℕ) → length (elementWords x) ≡ 3
@@ -76,17 +80,8 @@ pub write-next : (l l₁ l₂ xs : List ℕ) (i j : ℕ) → i < length xs
     → l₁ ≡ sets l (4 * j) (bytesOf (wordsOf (take i xs)))
     → l₂ ≡ sets l₁ (4 * (j + 3 * i)) (bytesOf (elementWords (cell xs i)))
     → l₂ ≡ sets l (4 * j) (bytesOf (wordsOf (take (i + 1) xs)))
-unfolding each
 write-next l l₁ l₂ xs i j h p q =
-    let done : List ℕ = bytesOf (wordsOf (take i xs)) in
-    let next : List ℕ = bytesOf (elementWords (cell xs i)) in
-    let size : length done ≡ 4 * (3 * i) =
-    length-bytes (wordsOf (take i xs))
-    ∙ ap (λ n. 4 * n) (length-words (take i xs) ∙ ap (λ n. 3 * n) (length-take-le i xs (omega arith))) in
-    let at : 4 * (j + 3 * i) ≡ 4 * j + length done = omega (arith, size) in
-    let more : bytesOf (wordsOf (take (i + 1) xs)) ≡ done ++ next =
-    ap (λ n. bytesOf (wordsOf (take n xs))) (add-one i)
-    ∙ ap (λ s. bytesOf (wordsOf s)) (take-suc xs i 0 h)
-    ∙ ap bytesOf (each-append elementWords (take i xs) (cell xs i ∷ []))
-    ∙ each-append wordBytes (wordsOf (take i xs)) (elementWords (cell xs i)) in
-    q ∙ rw (p, at) (sets-append l (4 * j) done next ∙ ap (sets l (4 * j)) (sym more))
+    let size : length (wordsOf (take i xs)) ≡ 3 * i =
+    length-words (take i xs) ∙ ap (λ n. 3 * n) (length-take-le i xs (omega arith)) in
+    write-on l l₁ l₂ (wordsOf (take i xs)) (elementWords (cell xs i)) j (3 * i) size p q
+    ∙ ap (λ ws. sets l (4 * j) (bytesOf ws)) (sym (each-next elementWords xs i h))

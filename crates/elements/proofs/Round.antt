@@ -17,14 +17,14 @@ use Rattle.elements.proofs.Laws.{words-spell, spell-words, cell-words}
 -- ---- one element
 
 -- the three words of a 64-bit number are 32-bit words
-three-below : (x t : ℕ) → x < 2 ^ 64 → t < 3 → cell (elementWords x) t < 2 ^ 32
+pub three-below : (x t : ℕ) → x < 2 ^ 64 → t < 3 → cell (elementWords x) t < 2 ^ 32
 three-below x zero h m = omega arith
 three-below x (suc zero) h m = omega arith
 three-below x (suc (suc zero)) h m = omega arith
 three-below x (suc (suc (suc t))) h m = absurd (omega arith)
 
 -- where the three words of a canonical element stand, it is read
-three-read : (file : List ℕ) (j x : ℕ) → x < P → ((t : ℕ) → t < 3 → wordAt file (j + t) ≡ cell (elementWords x) t)
+pub three-read : (file : List ℕ) (j x : ℕ) → x < P → ((t : ℕ) → t < 3 → wordAt file (j + t) ≡ cell (elementWords x) t)
     → IsElement file j × (elementAt file j ≡ x)
 unfolding elementAt
 three-read file j x h w =
@@ -36,7 +36,7 @@ three-read file j x h w =
     (record { high = omega (arith, a); middle = omega (arith, b); low = omega (arith, c); value = rw v h }, v)
 
 -- an accepted element has the words that stand there
-three-words : (file : List ℕ) (j : ℕ) → IsElement file j → (t : ℕ) → t < 3
+pub three-words : (file : List ℕ) (j : ℕ) → IsElement file j → (t : ℕ) → t < 3
     → cell (elementWords (elementAt file j)) t ≡ wordAt file (j + t)
 unfolding elementAt
 three-words file j h t m = ap (λ s. cell s t) (spell-words _ _ _ (h .high) (h .middle) (h .low)) ∙ at t m

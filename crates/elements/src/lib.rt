@@ -1,13 +1,15 @@
 // The board file's words and elements (document 01, "The board file"): 32-bit words, low byte first, the top two bits
 // of each its kind; an element is three of them. An index counts words of the file, from word 0.
 ghost use mathlib.Core.Path.{_≡_};
-ghost use Prim.Native.Nat.{ℕ, _+_, _*_, _^_, _≤_, _<_};
+ghost use mathlib.Core.List.{[], _∷_};
+ghost use Prim.Native.Nat.{ℕ, _+_, _*_, _%_, _^_, _≤_, _<_};
 ghost use lib.ListN.{length};
 ghost use lib.Seq.{sets};
 ghost use Rattle.field.specs.Field.{P};
 ghost use Rattle.elements.specs.Words.{joined, kindOf, payloadOf, wordBytes, wordAt, bytesOf};
 ghost use Rattle.elements.specs.Elements.{elementWords, wordsOf, elementOf, elementAt, elementsAt};
 ghost use Rattle.elements.specs.Elements.{elementTest, elementsTest};
+ghost use Rattle.elements.specs.ElementHelpers.{upperWords};
 use field::Fp;
 use refusals::Answer;
 use refusals::Refusal;
@@ -16,7 +18,9 @@ use refusals::Refusal;
 pub struct Word(pub u32);
 
 impl Word {
-    // Bits 0 to 29, 2^30 - 1.
+    // The bits below the kind's, and the most that they can be, 2^30 - 1.
+    pub const PAYLOAD_BITS: u32 = 30;
+
     pub const PAYLOAD: u32 = 0x3fff_ffff;
 
     pub fn join(kind: u32, payload: u32) -> Word
@@ -68,18 +72,36 @@ impl Word {
 // A payload's bits in an element.
 const PAYLOAD: u64 = Word::PAYLOAD as u64;
 
+// The first two of an element's words, its bits from 30 on, become the words from `index` on.
+pub fn write_upper(element: u64, index: usize, destination: &mut [u8])
+    requires { ⌜ 4 * index + 8 ≤ length (now destination) ⌝ }
+    ensures { λ _. ⌜ now (destination .exit)
+        ≡ sets (now (destination .entry)) (4 * index) (bytesOf (upperWords element)) ⌝ }
+{
+    let high = (element >> 60) as u32;
+    let middle = ((element >> 30) & PAYLOAD) as u32;
+    Word::join(1, high).write(index, destination);
+    Word::join(2, middle).write(index + 1, destination);
+}
+
+// The last of them becomes word `index`.
+pub fn write_low(element: u64, index: usize, destination: &mut [u8])
+    requires { ⌜ 4 * index + 4 ≤ length (now destination) ⌝ }
+    ensures { λ _. ⌜ now (destination .exit)
+        ≡ sets (now (destination .entry)) (4 * index) (bytesOf (joined 3 (element % 2 ^ 30) ∷ [])) ⌝ }
+{
+    let low = (element & PAYLOAD) as u32;
+    Word::join(3, low).write(index, destination);
+}
+
 // The element becomes the three words from `index` on.
 pub fn write(element: u64, index: usize, destination: &mut [u8])
     requires { ⌜ 4 * index + 12 ≤ length (now destination) ⌝ }
     ensures { λ _. ⌜ now (destination .exit)
         ≡ sets (now (destination .entry)) (4 * index) (bytesOf (elementWords element)) ⌝ }
 {
-    let high = (element >> 60) as u32;
-    let middle = ((element >> 30) & PAYLOAD) as u32;
-    let low = (element & PAYLOAD) as u32;
-    Word::join(1, high).write(index, destination);
-    Word::join(2, middle).write(index + 1, destination);
-    Word::join(3, low).write(index + 2, destination);
+    write_upper(element, index, destination);
+    write_low(element, index + 2, destination);
 }
 
 // The elements become the words from `index` on.

@@ -33,6 +33,9 @@ use Rattle.unhash.specs.Answers.{unhashTest, unhashAnswer}
 use Rattle.unhash.proofs.Theorems.{taps-size}
 use Rattle.board.specs.Board.{batchesIn, claimIn, tapsIn, unpackTest, unpackAnswer, unpackLeaves}
 use Rattle.board.proofs.Answers.{unpack-accepted}
+use Rattle.shortboard.specs.ShortBoard.{shortClaimIn, shortTapsIn, unpackShortTest, unpackShortAnswer}
+use Rattle.shortboard.specs.ShortBoard.{unpackShortLeaves}
+use Rattle.shortboard.proofs.Answers as short
 use Rattle.handover.specs.Code.{refusalCode, answerCode, digestCode}
 use Rattle.handover.specs.HandsOver.{HandsOver, HandsOverState}
 use Rattle.handover.proofs.Handed.{answer-accepted, answer-refused, digest-refused, handed-refused}
@@ -40,6 +43,7 @@ use Rattle.handover.proofs.Handed.{state-handed-refused}
 use Rattle.export.specs.Calls.{hashCallTest, hashNoRoom, hashCall, chainCallTest}
 use Rattle.export.specs.Calls.{chainNoRoom, chainCall, buildCallTest, buildCall, editCallTest, editNoRoom}
 use Rattle.export.specs.Calls.{editCall, unhashCallTest, UnhashCall, unpackCallTest, unpackCall}
+use Rattle.export.specs.Calls.{unpackShortCallTest, unpackShortCall}
 
 -- ---- tests t that can only refuse, as those of a call have become where its words find no room
 module _ (t called : Answer) (same : called ≡ t) (refuses : Refuses t) where
@@ -57,6 +61,13 @@ module _ (t called : Answer) (same : called ≡ t) (refuses : Refuses t) where
       (ap (λ a. stateAfter a s) (same ∙ refuses .1))
       (e ∙ sym (answer-refused t (refuses .0) (refuses .1)))
 
+  digest-stopped : (d : Digest) (code : ℕ) (old : List ℕ) → code ≡ digestCode (digestAfter t d)
+      → HandsOver (digestAfter called d) code old old
+  digest-stopped d code old e =
+      handed-refused (digestAfter called d) (refuses .0) code old
+      (ap (λ a. digestAfter a d) (same ∙ refuses .1))
+      (e ∙ sym (digest-refused (digestAfter t d) (refuses .0) (ap (λ a. digestAfter a d) (refuses .1))))
+
   pub kept : {A : Type 0} (new old : A) → old ≡ leaves called new old
   kept new old = sym (ap (λ a. leaves a new old) (same ∙ refuses .1))
 
@@ -66,44 +77,44 @@ module _ (T words : List ℕ) (size : ℕ) where
   unfolding hashTest hashCallTest
   hash-room e = rw (eq-eqb size 12 e)
 
-  pub hash-short : (size ≡ 12 → ⊥) → hashCallTest T words size ≡ hashNoRoom T
+  pub hash-without : (size ≡ 12 → ⊥) → hashCallTest T words size ≡ hashNoRoom T
   unfolding hashCallTest hashNoRoom
-  hash-short e = rw (ne-eqb size 12 e)
+  hash-without e = rw (ne-eqb size 12 e)
 
 module _ (T s : List ℕ) (size : ℕ) where
   pub unhash-room : size ≡ 8 → unhashTest T s ≡ unhashCallTest T s size
   unfolding unhashTest unhashCallTest
   unhash-room e = rw (eq-eqb size 8 e)
 
-  pub unhash-short : (size ≡ 8 → ⊥) → unhashCallTest T s size ≡ hashNoRoom T
+  pub unhash-without : (size ≡ 8 → ⊥) → unhashCallTest T s size ≡ hashNoRoom T
   unfolding unhashCallTest hashNoRoom
-  unhash-short e = rw (ne-eqb size 8 e)
+  unhash-without e = rw (ne-eqb size 8 e)
 
 module _ (T w : List ℕ) (size : ℕ) where
   pub chain-room : size ≡ 4 → chainTest T w ≡ chainCallTest T w size
   unfolding chainTest chainCallTest
   chain-room e = rw (eq-eqb size 4 e)
 
-  pub chain-short : (size ≡ 4 → ⊥) → chainCallTest T w size ≡ chainNoRoom T w
+  pub chain-without : (size ≡ 4 → ⊥) → chainCallTest T w size ≡ chainNoRoom T w
   unfolding chainCallTest chainNoRoom
-  chain-short e = rw (ne-eqb size 4 e)
+  chain-without e = rw (ne-eqb size 4 e)
 
   pub build-room : (rows : ℕ) → size ≡ 4 → buildTest T w rows ≡ buildCallTest T w rows size
   unfolding buildTest buildCallTest
   build-room rows e = rw (eq-eqb size 4 e)
 
-  pub build-short : (rows : ℕ) → (size ≡ 4 → ⊥) → buildCallTest T w rows size ≡ chainNoRoom T w
+  pub build-without : (rows : ℕ) → (size ≡ 4 → ⊥) → buildCallTest T w rows size ≡ chainNoRoom T w
   unfolding buildCallTest chainNoRoom
-  build-short rows e = rw (ne-eqb size 4 e)
+  build-without rows e = rw (ne-eqb size 4 e)
 
 module _ (T t claim : List ℕ) (c n : ℕ) (new : List ℕ) (size : ℕ) where
   pub edit-room : size ≡ 4 → editTest T t claim c n new ≡ editCallTest T t claim c n new size
   unfolding editTest editCallTest
   edit-room e = rw (eq-eqb size 4 e)
 
-  pub edit-short : (size ≡ 4 → ⊥) → editCallTest T t claim c n new size ≡ editNoRoom T t c n
+  pub edit-without : (size ≡ 4 → ⊥) → editCallTest T t claim c n new size ≡ editNoRoom T t c n
   unfolding editCallTest editNoRoom
-  edit-short e = rw (ne-eqb size 4 e)
+  edit-without e = rw (ne-eqb size 4 e)
 
 pub hash-no-room-refuses : (T : List ℕ) → Refuses (hashNoRoom T)
 unfolding hashNoRoom
@@ -136,29 +147,47 @@ module _ (file : List ℕ) (taps size : ℕ) where
   unfolding unpackTest unpackCallTest
   unpack-room e = rw (eq-eqb size 4 e)
 
-  pub unpack-short : (size ≡ 4 → ⊥) → unpackCallTest file taps size ≡ unpackTest file 0
+  pub unpack-without : (size ≡ 4 → ⊥) → unpackCallTest file taps size ≡ unpackTest file 0
   unfolding unpackTest unpackCallTest
-  unpack-short e = rw (ne-eqb size 4 e, ne-eqb 0 (12 * batchesIn file + 4) (λ q. omega arith))
+  unpack-without e = rw (ne-eqb size 4 e, ne-eqb 0 (12 * batchesIn file + 4) (λ q. omega arith))
+
+-- the same of the short edition
+module _ (file : List ℕ) (taps size : ℕ) where
+  pub unpack-short-room : size ≡ 4 → unpackShortTest file taps ≡ unpackShortCallTest file taps size
+  unfolding unpackShortTest unpackShortCallTest
+  unpack-short-room e = rw (eq-eqb size 4 e)
+
+  pub unpack-short-without : (size ≡ 4 → ⊥) → unpackShortCallTest file taps size ≡ unpackShortTest file 0
+  unfolding unpackShortTest unpackShortCallTest
+  unpack-short-without e = rw (ne-eqb size 4 e, ne-eqb 0 (12 * batchesIn file + 4) (λ q. omega arith))
 
 -- no list of taps has 0 words
+no-list : (t : Answer) (k : ℕ) → (t ≡ answer.Accepted → 0 ≡ 12 * k + 4) → Refuses t
+no-list (answer.Refused r) k e = (r, refl)
+no-list answer.Accepted k e = absurd (omega (arith, e refl))
+
 pub no-list-refuses : (file : List ℕ) → Refuses (unpackTest file 0)
-no-list-refuses file = go (unpackTest file 0) refl
-  where
-    go : (a : Answer) → unpackTest file 0 ≡ a → Refuses a
-    go (answer.Refused r) e = (r, refl)
-    go answer.Accepted e = absurd (omega (arith, unpack-accepted file 0 e .1))
+no-list-refuses file = no-list (unpackTest file 0) (batchesIn file) (λ e. unpack-accepted file 0 e .1)
+
+pub no-short-list-refuses : (file : List ℕ) → Refuses (unpackShortTest file 0)
+no-short-list-refuses file =
+    no-list (unpackShortTest file 0) (batchesIn file) (λ e. short.unpack-accepted file 0 e .1)
 
 -- so that the answer for such a destination is the one that stops at 8
-module _ (file : List ℕ) (taps size : ℕ) (short : size ≡ 4 → ⊥) where
+module _ (file : List ℕ) (taps size : ℕ) (without : size ≡ 4 → ⊥) where
   pub unpack-stopped : (code : ℕ) (old : List ℕ) → code ≡ digestCode (unpackAnswer file 0)
       → HandsOver (unpackCall file taps size) code old old
   unfolding unpackAnswer unpackCall
   unpack-stopped code old e =
-      let d = digest (claimIn file) in
-      let r = no-list-refuses file in
-      handed-refused (digestAfter (unpackCallTest file taps size) d) (r .0) code old
-      (ap (λ t. digestAfter t d) (unpack-short file taps size short ∙ r .1))
-      (e ∙ sym (digest-refused (unpackAnswer file 0) (r .0) (ap (λ t. digestAfter t d) (r .1))))
+      digest-stopped (unpackTest file 0) (unpackCallTest file taps size) (unpack-without file taps size without)
+      (no-list-refuses file) (digest (claimIn file)) code old e
+
+  pub unpack-short-stopped : (code : ℕ) (old : List ℕ) → code ≡ digestCode (unpackShortAnswer file 0)
+      → HandsOver (unpackShortCall file taps size) code old old
+  unfolding unpackShortAnswer unpackShortCall
+  unpack-short-stopped code old e =
+      digest-stopped (unpackShortTest file 0) (unpackShortCallTest file taps size)
+      (unpack-short-without file taps size without) (no-short-list-refuses file) (digest (shortClaimIn file)) code old e
 
 -- where there is room, answer and content are the operation's
 pub hash-answer : (size : ℕ) → size ≡ 12 → (T words : List ℕ) → hashAnswer T words ≡ hashCall T words size
@@ -206,6 +235,17 @@ module _ (size : ℕ) (four : size ≡ 4) where
   unfolding unpackLeaves
   unpack-left file old = ap (λ t. leaves t (tapsIn file) old) (unpack-room file (length old) size four)
 
+  pub unpack-short-answer : (file : List ℕ) (taps : ℕ) → unpackShortAnswer file taps ≡ unpackShortCall file taps size
+  unfolding unpackShortAnswer unpackShortCall
+  unpack-short-answer file taps =
+      ap (λ t. digestAfter t (digest (shortClaimIn file))) (unpack-short-room file taps size four)
+
+  pub unpack-short-left : (file old : List ℕ)
+      → unpackShortLeaves file old ≡ leaves (unpackShortCallTest file (length old) size) (shortTapsIn file) old
+  unfolding unpackShortLeaves
+  unpack-short-left file old =
+      ap (λ t. leaves t (shortTapsIn file) old) (unpack-short-room file (length old) size four)
+
 -- where no word of a destination was lent
 pub list-kept : (part old : List ℕ) → length part ≡ 0 → part ++ old ≡ old
 list-kept [] old h = refl
@@ -232,8 +272,8 @@ module _ (T s old : List ℕ) (room : length old ≡ 8) where
 -- and without
 pub unhash-stopped : (T s old : List ℕ) (code : ℕ) → (length old ≡ 8 → ⊥) → code ≡ answerCode (hashNoRoom T)
     → UnhashCall T s code old old
-unhash-stopped T s old code short e =
-    let same = unhash-short T s (length old) short in
+unhash-stopped T s old code without e =
+    let same = unhash-without T s (length old) without in
     record {
       coded = e ∙ sym (ap answerCode same);
       taps = kept (hashNoRoom T) _ same (hash-no-room-refuses T) (tapsBefore T s) old;

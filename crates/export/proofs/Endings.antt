@@ -2,7 +2,7 @@
 -- known there of what was lent. Q is any property of refusals; from what each test of an order leaves to be shown,
 -- whatever the tests answer has it.
 -- Assumes nothing.
-use mathlib.Core.Path.{_≡_, subst}
+use mathlib.Core.Path.{_≡_, sym, subst}
 use mathlib.Core.Bool.{Bool, true, false, _&&_}
 use mathlib.Core.List.{List}
 use mathlib.Core.Logic.{_⊎_}
@@ -14,18 +14,18 @@ use lib.ListN.{length}
 use Rattle.field.specs.Field.{P}
 use Rattle.words.specs.Words.{AllCanonical, firstBad, canonicalWords}
 use Rattle.words.proofs.Laws.{within, bad-test, good-test}
-use Rattle.numbers.specs.Numbers.{width, IsPermitted, mostBatches, permitted}
+use Rattle.numbers.specs.Numbers.{width, IsPermittedTo, IsPermitted, mostBatches, permitted}
 use Rattle.numbers.specs.Numbers.{isTapLength, tapWordBatches, isTraceLength, traceWordBatches}
 use Rattle.numbers.proofs.Laws.{tap-length-sound, trace-length-sound}
 use Rattle.refusals.specs.declared.Refusal.{Refusal}
 use Rattle.refusals.specs.declared.Refusal.the-variants.{TableLength, TableWord, NoInverse, WrongInverse, TapLength}
 use Rattle.refusals.specs.declared.Refusal.the-variants.{TapWord, TraceLength, DestinationLength, ClaimWord, TraceWord}
 use Rattle.refusals.specs.declared.Refusal.the-variants.{Constraint, FileLength, WrongKind, WrongValue, NoSuchTap}
-use Rattle.refusals.specs.declared.Refusal.the-variants.{NoPair, ClaimBatches}
+use Rattle.refusals.specs.declared.Refusal.the-variants.{NoPair, ClaimBatches, LongElement}
 use Rattle.refusals.specs.declared.Answer.{Answer}
 use Rattle.refusals.specs.declared.Answer.the-variants.{Accepted}
 use Rattle.refusals.specs.Answers.{unless, after}
-use Rattle.refusals.proofs.Laws.{AnswerEnds, unless-ends, after-ends}
+use Rattle.refusals.proofs.Laws.{AnswerEnds, unless-ends, after-ends, refusal-ends}
 use Rattle.table.specs.Table.{tableTest, rawTest, Prepares, accepts, no-inverse, refuses}
 use Rattle.table.proofs.Theorems as table
 use Rattle.hash.specs.Answers.{hashTest, chainTest}
@@ -43,8 +43,13 @@ use Rattle.unhash.specs.Answers.{unhashTest}
 use Rattle.elements.specs.Words.{kindOf, wordAt}
 use Rattle.elements.specs.Elements.{elementAt, elementTest, elementsTest}
 use Rattle.board.specs.Board.{mostFileBatches, fileSize, packTest, countIn, spareIn, batchesIn, countTest, unpackTest}
+use Rattle.shortreading.specs.Reading.{nextWord, shortTest, shortsTest, ElementFault, no-first, first-kind, no-second}
+use Rattle.shortreading.specs.Reading.{second-kind, no-third, third-kind, too-large, needless}
+use Rattle.shortreading.proofs.Tests.{next-most, faulty}
+use Rattle.shortboard.proofs.Answers.{CountFault, kind, value, count-faulty}
+use Rattle.shortboard.specs.ShortBoard.{mostShortBatches, shortFileSize, packShortTest, shortCountTest, unpackShortTest}
 use Rattle.export.specs.Calls.{hashCallTest, chainCallTest, buildCallTest, editCallTest, unhashCallTest}
-use Rattle.export.specs.Calls.{unpackCallTest}
+use Rattle.export.specs.Calls.{unpackCallTest, unpackShortCallTest}
 
 -- ---- Prepare: 1, 8, 2, 3
 pub prepare-ends : (Q : Refusal → Type 0) → Q TableLength → Q DestinationLength
@@ -247,21 +252,36 @@ module _ (Q : Refusal → Type 0) (causes : TableCauses Q) where
           unless-ends Q (eqb size 4) DestinationLength _ (λ h. q8) λ h.
           edited-end o (q11 (eqb-true size 4 h) (leb-true n (3 * k) g))
 
--- ---- Pack: 5, 8, 9, 6
-pub pack-ends : (Q : Refusal → Type 0) (taps claim : List ℕ) (size : ℕ) → Q TapLength → Q DestinationLength
-    → ((i : ℕ) → i < length claim → Q (ClaimWord i))
-    → ((k : ℕ) → length taps ≡ 12 * k + 4 → IsPermitted k → (i : ℕ) → i < length taps → Q (TapWord i))
-    → AnswerEnds Q (packTest taps claim size)
-unfolding packTest
-pack-ends Q taps claim size q5 q8 q9 q6 =
-    let k : ℕ = tapWordBatches (length taps) in
-    unless-ends Q (isTapLength mostFileBatches (length taps)) TapLength _ (λ e. q5) λ e.
-    let s = tap-length-sound mostFileBatches (length taps) e in
-    unless-ends Q (eqb size (fileSize k)) DestinationLength _ (λ f. q8) λ f.
-    unless-ends Q (canonicalWords claim) (ClaimWord (firstBad claim)) _
-    (λ g. q9 (firstBad claim) (bad-test claim g)) λ g.
-    unless-ends Q (canonicalWords taps) (TapWord (firstBad taps)) _
-    (λ h. q6 k (s .0) (s .1) (firstBad taps) (bad-test taps h)) λ h. tt
+-- ---- Pack and the short edition's writer: 5, 8, 9, 6
+module _ (Q : Refusal → Type 0) (taps claim : List ℕ) (size : ℕ) (q5 : Q TapLength) (q8 : Q DestinationLength)
+    (q9 : (i : ℕ) → i < length claim → Q (ClaimWord i)) where
+  -- a tap's word is refused in a list of k batches, k permitted
+  abbrev Taps6 : ℕ → Type 0
+  Taps6 most =
+      (k : ℕ) → length taps ≡ 12 * k + 4 → IsPermittedTo most k → (i : ℕ) → i < length taps → Q (TapWord i)
+
+  -- most is the edition's most batches, n the length of its file
+  write-ends : (most n : ℕ) → Taps6 most
+      → AnswerEnds Q (unless (isTapLength most (length taps)) TapLength
+      (unless (eqb size n) DestinationLength
+      (unless (canonicalWords claim) (ClaimWord (firstBad claim))
+      (unless (canonicalWords taps) (TapWord (firstBad taps)) Accepted))))
+  write-ends most n q6 =
+      unless-ends Q (isTapLength most (length taps)) TapLength _ (λ e. q5) λ e.
+      let s = tap-length-sound most (length taps) e in
+      unless-ends Q (eqb size n) DestinationLength _ (λ f. q8) λ f.
+      unless-ends Q (canonicalWords claim) (ClaimWord (firstBad claim)) _
+      (λ g. q9 (firstBad claim) (bad-test claim g)) λ g.
+      unless-ends Q (canonicalWords taps) (TapWord (firstBad taps)) _
+      (λ h. q6 (tapWordBatches (length taps)) (s .0) (s .1) (firstBad taps) (bad-test taps h)) λ h. tt
+
+  pub pack-ends : Taps6 mostFileBatches → AnswerEnds Q (packTest taps claim size)
+  unfolding packTest
+  pack-ends = write-ends mostFileBatches (fileSize (tapWordBatches (length taps)))
+
+  pub pack-short-ends : Taps6 mostShortBatches → AnswerEnds Q (packShortTest taps claim size)
+  unfolding packShortTest
+  pack-short-ends = write-ends mostShortBatches (shortFileSize taps claim)
 
 -- ---- Unpack: 12 (below 4), word 0's 13 then 14, 12, 8, then each element's three kinds and its value
 module _ (Q : Refusal → Type 0) (file : List ℕ) (q12 : Q FileLength) (q8 : Q DestinationLength)
@@ -309,3 +329,52 @@ module _ (Q : Refusal → Type 0) (file : List ℕ) (q12 : Q FileLength) (q8 : Q
   pub unpack-call-ends : (taps size : ℕ) → AnswerEnds Q (unpackCallTest file taps size)
   unfolding unpackCallTest
   unpack-call-ends taps size = read-ends (eqb size 4 && eqb taps (12 * batchesIn file + 4))
+
+-- ---- the short edition's reader: 12 (below 4), word 0's 13 then 14, 8, then element by element 12, 13, 14, 18, and 12
+module _ (Q : Refusal → Type 0) (file : List ℕ) (q12 : Q FileLength) (q8 : Q DestinationLength)
+    (q13 : (j : ℕ) → j < 36 * batchesIn file + 25 → Q (WrongKind j))
+    (q14 : (j : ℕ) → j < 36 * batchesIn file + 25 → Q (WrongValue j))
+    (q18 : (j : ℕ) → j < 36 * batchesIn file + 25 → Q (LongElement j)) where
+  by-fault : (j : ℕ) → j + 3 ≤ 36 * batchesIn file + 25 → (r : Refusal) → ElementFault file j r → Q r
+  by-fault j h r (no-first l e) = subst Q (sym e) q12
+  by-fault j h r (first-kind l n m e) = subst Q (sym e) (q13 j (omega arith))
+  by-fault j h r (no-second l a m e) = subst Q (sym e) q12
+  by-fault j h r (second-kind l a n e) = subst Q (sym e) (q13 (j + 1) (omega arith))
+  by-fault j h r (no-third l a b m e) = subst Q (sym e) q12
+  by-fault j h r (third-kind l a b n e) = subst Q (sym e) (q13 (j + 2) (omega arith))
+  by-fault j h r (too-large l a b c m e) = subst Q (sym e) (q14 j (omega arith))
+  by-fault j h r (needless l is m e) = subst Q (sym e) (q18 j (omega arith))
+
+  short-elements-end : (j n : ℕ) → j + 3 * n ≤ 36 * batchesIn file + 25 → AnswerEnds Q (shortsTest file j n)
+  unfolding shortsTest
+  short-elements-end j zero h = unless-ends Q (eqb (4 * j) (length file)) FileLength _ (λ e. q12) λ e. tt
+  short-elements-end j (suc n) h =
+      after-ends Q (shortTest file j) _
+      (refusal-ends Q (shortTest file j) (λ r e. by-fault j (omega arith) r (faulty file j r e))) λ e.
+      short-elements-end (nextWord file j) n (omega (arith, next-most file j))
+
+  count-by-fault : (w : ℕ) (r : Refusal) → CountFault w r → Q r
+  count-by-fault w r (kind n e) = subst Q (sym e) (q13 0 (omega arith))
+  count-by-fault w r (value z n e) = subst Q (sym e) (q14 0 (omega arith))
+
+  -- room is what is tested at 8
+  read-short-ends : (room : Bool)
+      → AnswerEnds Q (unless (leb 4 (length file)) FileLength
+      (after (shortCountTest (wordAt file 0))
+      (unless room DestinationLength
+      (shortsTest file 1 (12 * batchesIn file + 8)))))
+  read-short-ends room =
+      unless-ends Q (leb 4 (length file)) FileLength _ (λ e. q12) λ e.
+      after-ends Q (shortCountTest (wordAt file 0)) _
+      (refusal-ends Q (shortCountTest (wordAt file 0))
+      (λ r f. count-by-fault (wordAt file 0) r (count-faulty (wordAt file 0) r f))) λ f.
+      unless-ends Q room DestinationLength _ (λ h. q8) λ h.
+      short-elements-end 1 (12 * batchesIn file + 8) (omega arith)
+
+  pub unpack-short-ends : (size : ℕ) → AnswerEnds Q (unpackShortTest file size)
+  unfolding unpackShortTest
+  unpack-short-ends size = read-short-ends (eqb size (12 * batchesIn file + 4))
+
+  pub unpack-short-call-ends : (taps size : ℕ) → AnswerEnds Q (unpackShortCallTest file taps size)
+  unfolding unpackShortCallTest
+  unpack-short-call-ends taps size = read-short-ends (eqb size 4 && eqb taps (12 * batchesIn file + 4))

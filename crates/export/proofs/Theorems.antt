@@ -22,8 +22,9 @@ use Rattle.checker.specs.Answers.{checkTest}
 use Rattle.checker.proofs.Answers.{CheckInputs}
 use Rattle.readoff.specs.Answers.{readOffTest}
 use Rattle.board.specs.Board.{packTest, batchesIn}
+use Rattle.shortboard.specs.ShortBoard.{packShortTest}
 use Rattle.export.specs.Calls.{hashCallTest, chainCallTest, buildCallTest, editCallTest, unhashCallTest}
-use Rattle.export.specs.Calls.{unpackCallTest}
+use Rattle.export.specs.Calls.{unpackCallTest, unpackShortCallTest}
 use Rattle.handover.proofs.Bits.{InBits, RefusalInBits}
 use Rattle.export.proofs.Endings as ends
 use Rattle.export.proofs.Endings.{TableCauses}
@@ -153,3 +154,14 @@ pub unpack-bits : (file : List ℕ) (taps size : ℕ) → AnswerEnds RefusalInBi
 unpack-bits file taps size =
     ends.unpack-call-ends RefusalInBits file (alone-bits 12 (lit< tt)) eight
     (λ j h. file-bits file 13 j (lit< tt) h) (λ j h. file-bits file 14 j (lit< tt) h) taps size
+
+pub pack-short-bits : (taps claim : List ℕ) (size : ℕ) → length claim ≡ 4
+    → AnswerEnds RefusalInBits (packShortTest taps claim size)
+pack-short-bits taps claim size four =
+    ends.pack-short-ends RefusalInBits taps claim size five eight (claim-bits claim four) (taps-bits taps)
+
+pub unpack-short-bits : (file : List ℕ) (taps size : ℕ) → AnswerEnds RefusalInBits (unpackShortCallTest file taps size)
+unpack-short-bits file taps size =
+    ends.unpack-short-call-ends RefusalInBits file (alone-bits 12 (lit< tt)) eight
+    (λ j h. file-bits file 13 j (lit< tt) h) (λ j h. file-bits file 14 j (lit< tt) h)
+    (λ j h. file-bits file 18 j (lit< tt) h) taps size

@@ -1,9 +1,9 @@
 -- What each call from another language answers and leaves (document 01, "What is turned back", and document 02, for
--- Edit U1, for Unhash U5, for c U6, for the order of the refusals). Four words that are returned, Hash's twelve
--- (document 02, U3) and Unhash's eight go to a destination like any other; size is its length, and one other than 4,
--- for Hash than 12, for Unhash than 8, is refused with 8, where 8 stands in the order. T is the lent table, w a list of
--- taps, t a trace, c the number of batches that is lent with a claim, n the number of a tap and new the new one, s a
--- state.
+-- Edit U1, for Unhash U5, for c U6, for the short edition U7, for the order of the refusals). Four words that are
+-- returned, Hash's twelve (document 02, U3) and Unhash's eight go to a destination like any other; size is its length,
+-- and one other than 4, for Hash than 12, for Unhash than 8, is refused with 8, where 8 stands in the order. T is the
+-- lent table, w a list of taps, t a trace, c the number of batches that is lent with a claim, n the number of a tap and
+-- new the new one, s a state.
 -- Assumes nothing.
 use mathlib.Core.Bool.{_&&_}
 use mathlib.Core.List.{List}
@@ -33,6 +33,8 @@ use Rattle.unhash.specs.Unhash.{inputBefore, tapsBefore, endsInZeros}
 use Rattle.elements.specs.Words.{wordAt}
 use Rattle.elements.specs.Elements.{elementsTest}
 use Rattle.board.specs.Board.{fileSize, elementCount, packTest, packLeaves, batchesIn, claimIn, tapsIn, countTest}
+use Rattle.shortreading.specs.Reading.{shortsTest}
+use Rattle.shortboard.specs.ShortBoard.{packShortTest, packShortLeaves, shortClaimIn, shortTapsIn, shortCountTest}
 use Rattle.handover.specs.Code.{answerCode, testsCode}
 use Rattle.handover.specs.HandsOver.{HandsOver}
 
@@ -169,3 +171,24 @@ unpackCall file taps size = digestAfter (unpackCallTest file taps size) (digest 
 pub record UnpackCall (file : List ℕ) (code : ℕ) (taps taps′ claim claim′ : List ℕ) : Type 0 where
   pub four : HandsOver (unpackCall file (length taps) (length claim)) code claim claim′
   pub list : taps′ ≡ leaves (unpackCallTest file (length taps) (length claim)) (tapsIn file) taps
+
+-- the short edition's writer: 5, 8, 9, 6
+pub record PackShortCall (taps claim old : List ℕ) (code : ℕ) (new : List ℕ) : Type 0 where
+  pub coded : code ≡ answerCode (packShortTest taps claim (length old))
+  pub file : new ≡ packShortLeaves taps claim old
+
+-- its reader: 12 (below 4), word 0's 13 then 14, 8, then element by element 12 where the input ends, 13, 14, 18, and 12
+-- for bytes after the last; both destinations are tested at 8
+unfoldable pub unpackShortCallTest : List ℕ → ℕ → ℕ → Answer
+unpackShortCallTest file taps size =
+    unless (leb 4 (length file)) FileLength
+    (after (shortCountTest (wordAt file 0))
+    (unless (eqb size 4 && eqb taps (tapWords (batchesIn file))) DestinationLength
+    (shortsTest file 1 (elementCount (batchesIn file)))))
+
+unfoldable pub unpackShortCall : List ℕ → ℕ → ℕ → DigestAnswer
+unpackShortCall file taps size = digestAfter (unpackShortCallTest file taps size) (digest (shortClaimIn file))
+
+pub record UnpackShortCall (file : List ℕ) (code : ℕ) (taps taps′ claim claim′ : List ℕ) : Type 0 where
+  pub four : HandsOver (unpackShortCall file (length taps) (length claim)) code claim claim′
+  pub list : taps′ ≡ leaves (unpackShortCallTest file (length taps) (length claim)) (shortTapsIn file) taps

@@ -8,7 +8,7 @@ ghost use Rattle.handover.specs.Code.{testsCode};
 ghost use Rattle.handover.specs.HandsOver.{HandsOver, HandsOverState};
 ghost use Rattle.export.specs.Calls.{interface, PrepareCall, hashNoRoom, hashCall, chainNoRoom, chainCall};
 ghost use Rattle.export.specs.Calls.{BuildCall, ReadOffCall, editNoRoom, EditCall, UnhashCall, PackCall};
-ghost use Rattle.export.specs.Calls.{UnpackCall};
+ghost use Rattle.export.specs.Calls.{UnpackCall, PackShortCall, UnpackShortCall};
 use numbers::BATCH_WORDS;
 use numbers::BatchCount;
 use numbers::MOST_BATCHES;
@@ -260,4 +260,33 @@ pub extern "C" fn lemoncolumn_unpack(file: &[u8], taps: &mut [u64], claim: &mut 
         return handover::digest_code(board::unpack(file, &mut taps[..0]));
     }
     handover::hand_over(board::unpack(file, taps), claim)
+}
+
+// The short edition's writer: 5, 8, 9, 6.
+#[no_mangle]
+pub extern "C" fn lemoncolumn_pack_short(
+    taps: &[u64],
+    c0: u64,
+    c1: u64,
+    c2: u64,
+    c3: u64,
+    file: &mut [u8],
+) -> u64
+    ensures { λ r. ⌜ PackShortCall (now (taps .entry)) (c0 ∷ c1 ∷ c2 ∷ c3 ∷ []) (now (file .entry)) r
+        (now (file .exit)) ⌝ }
+{
+    handover::answer_code(shortboard::pack_short(taps, [c0, c1, c2, c3], file))
+}
+
+// The short edition's reader: 12 (below 4), word 0's 13 then 14, 8, then element by element 12 where the input ends,
+// 13, 14, 18, and 12 for bytes after the last.
+#[no_mangle]
+pub extern "C" fn lemoncolumn_unpack_short(file: &[u8], taps: &mut [u64], claim: &mut [u64]) -> u64
+    ensures { λ r. ⌜ UnpackShortCall (now (file .entry)) r (now (taps .entry)) (now (taps .exit))
+        (now (claim .entry)) (now (claim .exit)) ⌝ }
+{
+    if claim.len() != 4 {
+        return handover::digest_code(shortboard::unpack_short(file, &mut taps[..0]));
+    }
+    handover::hand_over(shortboard::unpack_short(file, taps), claim)
 }

@@ -1,7 +1,7 @@
 -- The laws of answers, once for every operation: what an acceptance says of the tests before it, what a refusal leaves,
 -- and how answers end.
 -- Assumes nothing.
-use mathlib.Core.Path.{_≡_, refl, sym, ap, _∙_}
+use mathlib.Core.Path.{_≡_, refl, sym, ap, subst, _∙_}
 use mathlib.Core.Bool.{Bool, true, false}
 use Prim.Native.Nat.{ℕ}
 use native.Mathlib.Omega.{arith}
@@ -19,6 +19,9 @@ use Rattle.refusals.specs.Answers.{unless, after, digestAfter, stateAfte
 
 pub not-accepted : (r : Refusal) → Refused r ≡ Accepted → ⊥
 not-accepted r e = let z : _≡_ {A = ℕ} 0 1 = cc in omega arith
+
+pub refused-same : {r s : Refusal} → Refused r ≡ Refused s → r ≡ s
+refused-same e = cc
 
 -- ---- what acceptance says of the tests before it
 pub passed : (b : Bool) (r : Refusal) (rest : Answer) → unless b r rest ≡ Accepted → (b ≡ true) × (rest ≡ Accepted)
@@ -136,3 +139,12 @@ module _ (Q : Refusal → Type 0) where
   pub after-ends : (a rest : Answer) → AnswerEnds Q a → (a ≡ Accepted → AnswerEnds Q rest) → AnswerEnds Q (after a rest)
   after-ends Accepted rest p n = n refl
   after-ends (Refused r) rest p n = p
+
+  -- from what is known of whatever refusal it is
+  pub refusal-ends : (a : Answer) → ((r : Refusal) → a ≡ Refused r → Q r) → AnswerEnds Q a
+  refusal-ends Accepted q = tt
+  refusal-ends (Refused r) q = q r refl
+
+  pub ends-refusal : (a : Answer) (r : Refusal) → AnswerEnds Q a → a ≡ Refused r → Q r
+  ends-refusal Accepted r q e = absurd (not-accepted r (sym e))
+  ends-refusal (Refused s) r q e = subst Q (refused-same e) q

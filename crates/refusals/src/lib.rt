@@ -29,6 +29,7 @@ pub enum Refusal {
     NoSuchTap,
     NoPair,
     ClaimBatches,
+    LongElement(usize),
 }
 
 // What is told of a refusal: its number, and how many values come with it: none, an index (`value`), or row, constraint
@@ -98,10 +99,11 @@ pub fn told(refusal: Refusal) -> Particulars
         Refusal::NoSuchTap => alone(15),
         Refusal::NoPair => alone(16),
         Refusal::ClaimBatches => alone(17),
+        Refusal::LongElement(i) => indexed(18, i),
     }
 }
 
-// The answer of the tests that an operation begins with, and of Prepare and Pack.
+// The answer of the tests that an operation begins with, and of Prepare and the writers of board files.
 pub enum Answer {
     Accepted,
     Refused(Refusal),
@@ -123,7 +125,7 @@ impl Answer {
 // Four words: an output of the chain, a claim, or a tap.
 pub struct Digest(pub u64, pub u64, pub u64, pub u64);
 
-// The answer of Chain, Build, Unpack and Edit: four words.
+// The answer of Chain, Build, Edit, and of the readers of board files: four words.
 pub enum DigestAnswer {
     Accepted(Digest),
     Refused(Refusal),

@@ -7,7 +7,8 @@
 //! prints the tables of README.md, "Speed". A further operation gets its row, with
 //! its goal, in the list of `operations` or in `field`; one that alters what is
 //! lent to it, as Edit does, in `edits`. Unhash, whose goal goes by Hash, is in
-//! `unhash`, and claims that end before the rows do in `claims`.
+//! `unhash`, claims that end before the rows do in `claims`, and the short edition of
+//! the board file, whose goals go by the full one, in `short`.
 //!
 //! The implementations take turns, many times over, and the shortest time of
 //! each counts, in the thread's own time: what else the machine does lengthens
@@ -17,6 +18,7 @@ mod claims;
 mod edits;
 mod field;
 mod operations;
+mod short;
 mod timing;
 mod unhash;
 
@@ -31,6 +33,7 @@ fn main() {
     let unhash = unhash::measure(&days[0]);
     let edits = edits::measure(&days[2]);
     let claims = claims::measure(&days[2]);
+    let short = short::measure();
     table.print();
     let growth: Vec<String> = growth
         .iter()
@@ -43,4 +46,6 @@ fn main() {
     unhash.print();
     println!();
     claims.print();
+    println!();
+    short.print();
 }

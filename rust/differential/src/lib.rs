@@ -128,6 +128,7 @@ pub fn named(refusal: lemoncolumn::Refusal) -> second::Refusal {
         Proved::NoSuchTap => Second::NoSuchTap,
         Proved::NoPair => Second::NoPair,
         Proved::ClaimBatches => Second::ClaimBatches,
+        Proved::LongElement { word } => Second::LongElement { word },
     }
 }
 

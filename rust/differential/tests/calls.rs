@@ -1,9 +1,13 @@
 //! The calls as C sees them: a digest's destination that has not four words, a final
 //! state's that has not twelve, or a pair's that has not eight, is refused with 8, in
-//! 8's place of the order, and nothing is written. Check, and Read-off, Hash, Edit and
-//! Unhash with room, what they write between guards; c stands where the header has it.
+//! 8's place of the order, and nothing is written. Check, and Read-off, Hash, Edit,
+//! Unhash and the short edition's pair with room, what they write between guards; c
+//! stands where the header has it.
 
-use differential::{holding, named, words, Lent};
+use differential::{bytes, holding, named, words, Lent};
+use inputs::files::{
+    element_words, not_an_element, short_element, short_words_of, widths, KIND, MARK, NO_K,
+};
 use inputs::pairs::end_of;
 use inputs::tables::{dense, first_unlike_identity};
 use inputs::traces::{failed, first_failure_of_cell, honest_days, Day};
@@ -611,4 +615,299 @@ fn unpack() {
             refused(&about, code, refusal, &[&taps, &claim]);
         }
     }
+}
+
+fn call_pack_short(taps: &[u64], claim: &[u64], file: &mut [u8]) -> u64 {
+    unsafe {
+        calls::lemoncolumn_pack_short(
+            taps.as_ptr(),
+            taps.len(),
+            claim[0],
+            claim[1],
+            claim[2],
+            claim[3],
+            file.as_mut_ptr(),
+            file.len(),
+        )
+    }
+}
+
+#[test]
+fn pack_short() {
+    for seed in seeds("calls, pack_short") {
+        for case in pack_short_cases(seed, 2000) {
+            let about = format!("seed {seed}: {}", case.name);
+            let taps = holding(&case.taps);
+            let mut file = bytes(case.destination);
+            let code = call_pack_short(&taps, &case.claim, &mut file);
+            says(&about, code, case.refusal);
+            assert!(taps.is_untouched(), "{about}");
+            if case.refusal.is_some() {
+                assert!(file.is_untouched(), "{about}");
+                continue;
+            }
+            assert!(file.is_guarded(), "{about}");
+            assert_eq!(file[..], case.file[..], "{about}");
+        }
+    }
+}
+
+/// Lengths other than the exact one of a short file: a byte off, one to three words off,
+/// those of no elements, and the full file's.
+fn other_file_lengths(exact: usize, full: usize) -> Vec<usize> {
+    let near = [1, 4, 8, 12].map(|off| [exact - off, exact + off]);
+    let mut others = near.concat();
+    others.extend([0, 4, full]);
+    others.retain(|&length| length != exact);
+    others
+}
+
+/// Each choice of the writer's four faults at once, for lists of all widths: the first in
+/// the order 5, 8, 9, 6 is answered.
+#[test]
+fn pack_short_with_faults_together() {
+    for seed in seeds("calls, pack_short with faults together") {
+        let mut random = Random::new(seed);
+        for k in [1, 2, 4] {
+            for (name, honest) in widths(&mut random, k) {
+                for choice in 0..1 << 4 {
+                    let faults: [bool; 4] = std::array::from_fn(|fault| choice >> fault & 1 == 1);
+                    let about = format!("seed {seed}: k = {k}, {name}, {faults:?}");
+                    packs_or_refuses(&about, &mut random, k, &honest, faults);
+                }
+            }
+        }
+    }
+}
+
+/// These elements with some of the faults of length, room, claim and taps.
+fn packs_or_refuses(
+    about: &str,
+    random: &mut Random,
+    k: usize,
+    honest: &[u64],
+    [length, room, claim, word]: [bool; 4],
+) {
+    let mut elements = honest.to_vec();
+    let claim = claim.then(|| claim_word(random.spoil(&mut elements[..4])));
+    let word = word.then(|| tap_word(random.spoil(&mut elements[4..])));
+    let length = length.then(|| {
+        elements.push(P);
+        Refusal::TapLength
+    });
+    let no_room = room.then_some(Refusal::DestinationLength);
+    let refusal = first_of(&[length, no_room, claim, word]);
+    let written = inputs::files::bytes(&short_words_of(k, &elements));
+    let lengths = match room {
+        true => other_file_lengths(written.len(), 144 * k + 100),
+        false => vec![written.len()],
+    };
+    for length in lengths {
+        let about = format!("{about}, into {length}");
+        let mut file = bytes(length);
+        let code = call_pack_short(&elements[4..], &elements[..4], &mut file);
+        says(&about, code, refusal);
+        match refusal {
+            Some(_) => assert!(file.is_untouched(), "{about}"),
+            None => assert!(file.is_guarded() && file[..] == written, "{about}"),
+        }
+    }
+}
+
+fn call_unpack_short(file: &[u8], taps: &mut [u64], claim: &mut [u64]) -> u64 {
+    unsafe {
+        calls::lemoncolumn_unpack_short(
+            file.as_ptr(),
+            file.len(),
+            taps.as_mut_ptr(),
+            taps.len(),
+            claim.as_mut_ptr(),
+            claim.len(),
+        )
+    }
+}
+
+/// Here only what is wrong with word 0 comes before 8.
+#[test]
+fn unpack_short() {
+    for seed in seeds("calls, unpack_short") {
+        for (number, case) in unpack_short_cases(seed, 2000).into_iter().enumerate() {
+            let length = LENGTHS[number % LENGTHS.len()];
+            let about = format!("seed {seed}: {}, claim of {length}", case.name);
+            let mut taps = words(case.destination);
+            let mut claim = words(length);
+            let code = call_unpack_short(&case.file, &mut taps, &mut claim);
+            let refusal = case.refusal.filter(|refusal| match refusal {
+                Refusal::FileLength => case.file.len() < 4,
+                Refusal::Kind { word } | Refusal::Value { word } => *word == 0,
+                _ => false,
+            });
+            refused(&about, code, refusal, &[&taps, &claim]);
+        }
+    }
+}
+
+#[test]
+fn unpack_short_with_room() {
+    for seed in seeds("calls, unpack_short with room") {
+        for case in unpack_short_cases(seed, 4000) {
+            let about = format!("seed {seed}: {}", case.name);
+            let mut taps = words(case.destination);
+            let mut claim = words(4);
+            let code = call_unpack_short(&case.file, &mut taps, &mut claim);
+            says(&about, code, case.refusal);
+            let both = [&taps, &claim];
+            if case.refusal.is_some() {
+                assert!(both.iter().all(|lent| lent.is_untouched()), "{about}");
+                continue;
+            }
+            assert!(both.iter().all(|lent| lent.is_guarded()), "{about}");
+            assert_eq!(taps[..], case.taps[..], "{about}");
+            assert_eq!(claim[..], case.claim, "{about}");
+        }
+    }
+}
+
+/// An element one of whose kinds is wrong, and which of its words that is. Its value may
+/// be wrong too, or need fewer words: the kinds come first.
+fn wrong_kind(random: &mut Random, honest: u64) -> (Vec<u32>, u64) {
+    let small = random.small();
+    let no_element = not_an_element(random);
+    let mut words = match random.below(3) {
+        0 => short_element(honest),
+        1 => element_words(small as u128).to_vec(),
+        _ => element_words(no_element).to_vec(),
+    };
+    let place = random.below(words.len());
+    // A first word of kind 1 or 3 begins an element.
+    let kind = match place {
+        0 => random.pick(&[0, 2]),
+        1 => random.pick(&[0, 1, 3]),
+        _ => random.pick(&[0, 1, 2]),
+    };
+    words[place] = kind * KIND + words[place] % KIND;
+    (words, place as u64)
+}
+
+/// The words of the elements where up to three of them, not the last, have one of three
+/// faults each: a wrong kind, a value that is not canonical, three words for one. The
+/// refusal is that of the first.
+fn elements_with(
+    random: &mut Random,
+    elements: &[u64],
+    [kind, value, long]: [bool; 3],
+) -> (Vec<u32>, Option<Refusal>) {
+    let mut written: Vec<Vec<u32>> = elements.iter().map(|&e| short_element(e)).collect();
+    let mut refusals = vec![];
+    // Distinct places in any order: thirds of the list, turned.
+    let third = (elements.len() - 1) / 3;
+    let turn = random.below(3);
+    let places = [0, 1, 2].map(|part| (part + turn) % 3 * third);
+    let places = places.map(|start| start + random.below(third));
+    if kind {
+        let (words, wrong) = wrong_kind(random, elements[places[0]]);
+        written[places[0]] = words;
+        refusals.push((places[0], Refusal::Kind { word: wrong }));
+    }
+    if value {
+        written[places[1]] = element_words(not_an_element(random)).to_vec();
+        refusals.push((places[1], Refusal::Value { word: 0 }));
+    }
+    if long {
+        written[places[2]] = element_words(random.small() as u128).to_vec();
+        refusals.push((places[2], Refusal::LongElement { word: 0 }));
+    }
+    let first = refusals.into_iter().min_by_key(|(place, _)| *place);
+    let refusal = first.map(|(place, refusal)| {
+        let before: usize = written[..place].iter().map(Vec::len).sum();
+        let first_word = 1 + before as u64;
+        match refusal {
+            Refusal::Kind { word } => Refusal::Kind {
+                word: first_word + word,
+            },
+            Refusal::Value { .. } => Refusal::Value { word: first_word },
+            _ => Refusal::LongElement { word: first_word },
+        }
+    });
+    (written.concat(), refusal)
+}
+
+/// Word 0 with some of its two faults: its kind; then a spare bit, a k that is not
+/// permitted, or no mark.
+fn head_with(random: &mut Random, k: usize, [kind, value]: [bool; 2]) -> (u32, Option<Refusal>) {
+    let mut word = MARK + k as u32;
+    if value {
+        let spare = word + (1 << (16 + random.below(13)));
+        let no_k = MARK + random.pick(&NO_K);
+        word = random.pick(&[spare, no_k, k as u32]);
+    }
+    let value = value.then_some(Refusal::Value { word: 0 });
+    let kind = kind.then(|| {
+        word += KIND * random.pick(&[1, 2, 3]);
+        Refusal::Kind { word: 0 }
+    });
+    (word, first_of(&[kind, value]))
+}
+
+/// Each choice of the reader's nine faults at once, for files of all widths: the first in
+/// the order is answered, and nothing is written.
+#[test]
+fn unpack_short_with_faults_together() {
+    for seed in seeds("calls, unpack_short with faults together") {
+        let mut random = Random::new(seed);
+        for k in [1, 2, 4] {
+            for (name, elements) in widths(&mut random, k) {
+                for choice in 0..1 << 9 {
+                    let faults: [bool; 9] = std::array::from_fn(|fault| choice >> fault & 1 == 1);
+                    let about = format!("seed {seed}: k = {k}, {name}, {faults:?}");
+                    unpacks_or_refuses(&about, &mut random, k, &elements, faults);
+                }
+            }
+        }
+    }
+}
+
+/// The file of these elements with some of the faults: below 4 bytes, kind and value of
+/// word 0, room of the taps, room of the claim, those of elements, and an end before the
+/// last one is whole or bytes after it.
+fn unpacks_or_refuses(
+    about: &str,
+    random: &mut Random,
+    k: usize,
+    honest: &[u64],
+    [below_4, kind, value, taps, claim, wrong_kind, no_element, long, end]: [bool; 9],
+) {
+    let (head, of_head) = head_with(random, k, [kind, value]);
+    let (elements, of_element) = elements_with(random, honest, [wrong_kind, no_element, long]);
+    let mut file = inputs::files::bytes(&[&[head], &elements[..]].concat());
+    if end {
+        let length = file.len();
+        file.resize(
+            random.pick(&[length - 4, length - 1, length + 1, length + 4]),
+            0xc0,
+        );
+    }
+    if below_4 {
+        file.truncate(random.below(4));
+    }
+    let (tap_words, no_room) = lent_destination(random, 12 * k + 4, taps);
+    let claim_words = if claim { random.pick(&LENGTHS) } else { 4 };
+    let refusal = first_of(&[
+        below_4.then_some(Refusal::FileLength),
+        of_head,
+        no_room,
+        claim.then_some(Refusal::DestinationLength),
+        of_element,
+        end.then_some(Refusal::FileLength),
+    ]);
+    let mut taps = words(tap_words);
+    let mut claim = words(claim_words);
+    let code = call_unpack_short(&file, &mut taps, &mut claim);
+    says(about, code, refusal);
+    if refusal.is_some() {
+        assert!(taps.is_untouched() && claim.is_untouched(), "{about}");
+        return;
+    }
+    assert!(taps.is_guarded() && claim.is_guarded(), "{about}");
+    assert_eq!([&claim[..], &taps[..]].concat(), honest, "{about}");
 }

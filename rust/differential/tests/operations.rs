@@ -204,3 +204,42 @@ fn unpack() {
         }
     }
 }
+
+#[test]
+fn pack_short() {
+    for seed in seeds("pack_short") {
+        for case in pack_short_cases(seed, 4000) {
+            let about = format!("seed {seed}: {}", case.name);
+            let mut proved = bytes(case.destination);
+            let mut other = bytes(case.destination);
+            let taps = case.taps.clone();
+            let answer = lemoncolumn::pack_short(&taps, case.claim, &mut proved);
+            assert_eq!(taps, case.taps, "{about}");
+            let second = second::pack_short(&case.taps, case.claim, &mut other);
+            agree(&about, (answer, &proved), (second, &other), case.refusal);
+            if case.refusal.is_none() {
+                assert_eq!(proved[..], case.file[..], "{about}");
+            }
+        }
+    }
+}
+
+#[test]
+fn unpack_short() {
+    for seed in seeds("unpack_short") {
+        for case in unpack_short_cases(seed, 8000) {
+            let about = format!("seed {seed}: {}", case.name);
+            let mut proved = words(case.destination);
+            let mut other = words(case.destination);
+            let file = case.file.clone();
+            let answer = lemoncolumn::unpack_short(&file, &mut proved);
+            assert_eq!(file, case.file, "{about}");
+            let second = second::unpack_short(&case.file, &mut other);
+            agree(&about, (answer, &proved), (second, &other), case.refusal);
+            if case.refusal.is_none() {
+                assert_eq!(answer, Ok(case.claim), "{about}");
+                assert_eq!(proved[..], case.taps[..], "{about}");
+            }
+        }
+    }
+}

@@ -90,6 +90,7 @@ pub struct UnhashCase {
     pub pair: [u64; 8],
 }
 
+/// For either edition of the file.
 #[derive(Clone, Debug)]
 pub struct PackCase {
     pub name: String,
@@ -101,6 +102,7 @@ pub struct PackCase {
     pub file: Vec<u8>,
 }
 
+/// For either edition of the file.
 #[derive(Clone, Debug)]
 pub struct UnpackCase {
     pub name: String,

@@ -1,5 +1,5 @@
-//! Board files (document 01, "The board file"), and the cases of Pack and
-//! Unpack.
+//! Board files (document 01, "The board file"; the short edition: document 02, U7),
+//! and the cases of Pack and Unpack of the full edition.
 
 use crate::cases::{
     claim_word, damage, first_of, join, lent_claim, lent_destination, tap_word, PackCase,
@@ -11,7 +11,15 @@ use second::field::P;
 use second::Refusal;
 
 /// One in the two bits of a word's kind.
-const KIND: u32 = 1 << 30;
+pub const KIND: u32 = 1 << 30;
+/// Bit 29 of word 0, which marks the short edition.
+pub const MARK: u32 = 1 << 29;
+/// Every permitted k.
+pub const PERMITTED: [usize; 11] = [1, 2, 4, 8, 16, 32, 64, 128, 256, 512, 1024];
+/// Values of bits 0 to 15 of word 0 that are no permitted k.
+pub const NO_K: [u32; 14] = [
+    0, 3, 5, 6, 7, 12, 1023, 1025, 2048, 4096, 8192, 16384, 32768, 65535,
+];
 
 /// The 32-bit words of a file, by division.
 pub fn words_of(k: usize, claim: &[u64], taps: &[u64]) -> Vec<u32> {
@@ -23,7 +31,7 @@ pub fn words_of(k: usize, claim: &[u64], taps: &[u64]) -> Vec<u32> {
 }
 
 /// The three words of an element below 2^90.
-fn element_words(element: u128) -> [u32; 3] {
+pub fn element_words(element: u128) -> [u32; 3] {
     let unit = KIND as u128;
     [
         KIND + (element / (unit * unit)) as u32,
@@ -37,13 +45,55 @@ pub fn bytes_of(k: usize, claim: &[u64], taps: &[u64]) -> Vec<u8> {
     bytes(&words_of(k, claim, taps))
 }
 
-fn bytes(words: &[u32]) -> Vec<u8> {
+pub fn bytes(words: &[u32]) -> Vec<u8> {
     words.iter().flat_map(|word| word.to_le_bytes()).collect()
+}
+
+/// The words of an element in the short edition: the last of the three alone where the
+/// first two are empty.
+pub fn short_element(element: u64) -> Vec<u32> {
+    let words = element_words(element as u128);
+    match words {
+        [first, second, last] if (first, second) == (KIND, 2 * KIND) => vec![last],
+        _ => words.to_vec(),
+    }
+}
+
+/// The words of a short file; claim and taps are one list here.
+pub fn short_words_of(k: usize, elements: &[u64]) -> Vec<u32> {
+    let mut words = vec![MARK + k as u32];
+    words.extend(elements.iter().flat_map(|&element| short_element(element)));
+    words
+}
+
+/// Claim and taps as the elements of one list, which need one word in the short edition
+/// or three: all of them small, all large, in turn from either on, and any.
+pub fn widths(random: &mut Random, k: usize) -> [(&'static str, Vec<u64>); 5] {
+    let mut elements = |is_small: fn(usize) -> bool| -> Vec<u64> {
+        let element = |place| match is_small(place) {
+            true => random.small(),
+            false => random.large(),
+        };
+        (0..12 * k + 8).map(element).collect()
+    };
+    [
+        ("all small", elements(|_| true)),
+        ("all large", elements(|_| false)),
+        ("in turn, small first", elements(|place| place % 2 == 0)),
+        ("in turn, large first", elements(|place| place % 2 == 1)),
+        ("any widths", any_widths(random, k)),
+    ]
+}
+
+/// Claim and taps, half of them small.
+pub fn any_widths(random: &mut Random, k: usize) -> Vec<u64> {
+    let element = |_| random.small_or_large();
+    (0..12 * k + 8).map(element).collect()
 }
 
 /// Elements that are not below p: the nearest ones, those whose 64 bits look
 /// small, and those of 2^64 and above, where the first payload exceeds 15.
-fn not_an_element(random: &mut Random) -> u128 {
+pub fn not_an_element(random: &mut Random) -> u128 {
     let p = P as u128;
     let any = p + random.word() as u128;
     let wide = (16 + random.below((1 << 30) - 16) as u128) << 60;
@@ -143,7 +193,7 @@ fn damage_head(random: &mut Random, head: &mut u32) {
     if random.one_in(2) {
         *head |= 1 << (16 + random.below(14));
     } else {
-        *head = random.pick(&[0, 3, 5, 6, 7, 12, 1023, 1025, 2048, 4096, 32768, 65535]);
+        *head = random.pick(&NO_K);
     }
 }
 
@@ -191,7 +241,7 @@ fn damage_elements(
 fn pack_corners(seed: u64) -> Vec<PackCase> {
     let mut random = Random::new(seed);
     let mut cases = vec![];
-    for k in (0..=10).map(|exponent| 1 << exponent) {
+    for k in PERMITTED {
         let taps = random.canonicals(12 * k + 4);
         let claim = std::array::from_fn(|_| random.canonical());
         let file = bytes_of(k, &claim, &taps);
@@ -280,10 +330,10 @@ pub fn pack_cases(seed: u64, n: usize) -> Vec<PackCase> {
 }
 
 /// A file of k = 1 that unpacks, and what is in it.
-struct SmallFile {
-    words: Vec<u32>,
-    claim: [u64; 4],
-    taps: Vec<u64>,
+pub struct SmallFile {
+    pub words: Vec<u32>,
+    pub claim: [u64; 4],
+    pub taps: Vec<u64>,
 }
 
 impl SmallFile {
@@ -297,7 +347,7 @@ impl SmallFile {
         }
     }
 
-    fn case(&self, name: String, words: &[u32], refusal: Option<Refusal>) -> UnpackCase {
+    pub fn case(&self, name: String, words: &[u32], refusal: Option<Refusal>) -> UnpackCase {
         UnpackCase {
             name,
             file: bytes(words),
@@ -309,7 +359,7 @@ impl SmallFile {
     }
 
     /// The file with word 0 as given.
-    fn with_head(&self, head: u32, refusal: Refusal) -> UnpackCase {
+    pub fn with_head(&self, head: u32, refusal: Refusal) -> UnpackCase {
         let mut words = self.words.clone();
         words[0] = head;
         self.case(format!("word 0 is {head:x}"), &words, Some(refusal))
@@ -318,7 +368,8 @@ impl SmallFile {
 
 /// Every bit and word of a small file that can be wrong.
 fn unpack_corners(seed: u64) -> Vec<UnpackCase> {
-    let file = SmallFile::new(&mut Random::new(seed));
+    let mut random = Random::new(seed);
+    let file = SmallFile::new(&mut random);
     let mut cases = vec![file.case(String::from("honest"), &file.words, None)];
     for word in 0..file.words.len() {
         for turn in 1..4 {
@@ -343,6 +394,26 @@ fn unpack_corners(seed: u64) -> Vec<UnpackCase> {
         cases.push(other);
     }
     cases.extend(elements(&file));
+    cases.extend(short_files(&mut random));
+    cases
+}
+
+/// Short files, refused for their mark. Without small elements they have the length of
+/// full ones.
+fn short_files(random: &mut Random) -> Vec<UnpackCase> {
+    let mut cases = vec![];
+    for k in PERMITTED {
+        for (name, elements) in widths(random, k) {
+            cases.push(UnpackCase {
+                name: format!("short file, k = {k}, {name}"),
+                file: bytes(&short_words_of(k, &elements)),
+                destination: 12 * k + 4,
+                refusal: Some(Refusal::Value { word: 0 }),
+                claim: [0; 4],
+                taps: vec![],
+            });
+        }
+    }
     cases
 }
 
@@ -352,9 +423,7 @@ fn heads(file: &SmallFile) -> Vec<UnpackCase> {
     for bit in 16..30 {
         cases.push(file.with_head(1 | 1 << bit, Refusal::Value { word: 0 }));
     }
-    for k in [
-        0, 3, 5, 6, 7, 1023, 1025, 2048, 4096, 8192, 16384, 32768, 65535,
-    ] {
+    for k in NO_K {
         cases.push(file.with_head(k, Refusal::Value { word: 0 }));
     }
     for k in [2, 4, 8, 512, 1024] {

@@ -12,6 +12,7 @@
 //! 8. `program`: the line that the program prints (there, "The program reads")
 //! 9. `edits`: Edit (document 02, U1 and U6)
 //! 10. `pairs`: Unhash (document 02, U5)
+//! 11. `short_files`: Pack and Unpack of the short edition (document 02, U7)
 //!
 //! For each operation there is a kind of case and a function that makes its
 //! corner cases and `n` random ones from a seed; the same seed makes the same
@@ -32,6 +33,7 @@ pub mod files;
 pub mod pairs;
 pub mod program;
 pub mod random;
+pub mod short_files;
 pub mod tables;
 pub mod taps;
 pub mod traces;
@@ -43,5 +45,6 @@ pub use files::{pack_cases, unpack_cases};
 pub use pairs::unhash_cases;
 pub use program::clear_cases;
 pub use random::Random;
+pub use short_files::{pack_short_cases, unpack_short_cases};
 pub use tables::prepare_cases;
 pub use taps::{build_cases, chain_cases, hash_cases};

@@ -2,7 +2,7 @@
 //! program reads").
 
 use crate::cases::{damage, first_of, join, table_word, ClearCase};
-use crate::files::{bytes_of, lent_file, words_of, Damaged};
+use crate::files::{bytes, bytes_of, lent_file, short_words_of, words_of, Damaged};
 use crate::random::Random;
 use crate::tables::{dense, good, singular, Good};
 use crate::taps::list;
@@ -74,8 +74,14 @@ fn clear_corners(seed: u64) -> Vec<ClearCase> {
         push(format!("{length} x 255"), vec![255; length], "refused 2 0");
         push(format!("{length} x 0"), vec![0; length], "refused 3");
     }
-    for (name, file, line) in short_files() {
+    for (name, file, line) in files_of_one_word() {
         push(name, input_of(&good.raw, &file), line);
+    }
+    // A short file is refused for its mark, also where a full one of that k is too long.
+    for k in [1, 2, 4, 8, 16, 32] {
+        let file = short_words_of(k, &vec![0; 12 * k + 8]);
+        let input = input_of(&good.raw, &bytes(&file));
+        push(format!("short file, k = {k}"), input, "refused 14 0");
     }
     for k in [1, 2, 4, 8, 16, 32] {
         let honest = day(good.clone(), random.canonicals(12 * k + 4), k);
@@ -94,7 +100,7 @@ fn clear_corners(seed: u64) -> Vec<ClearCase> {
 }
 
 /// Files of at most one word, and their lines.
-fn short_files() -> Vec<(String, Vec<u8>, &'static str)> {
+fn files_of_one_word() -> Vec<(String, Vec<u8>, &'static str)> {
     let mut files = vec![];
     for length in 0..4 {
         let name = format!("{length} bytes of file");
@@ -107,6 +113,7 @@ fn short_files() -> Vec<(String, Vec<u8>, &'static str)> {
         (1024, "refused 12"),
         (2048, "refused 14 0"),
         (0x10001, "refused 14 0"),
+        (0x20000001, "refused 14 0"),
         (0x40000001u32, "refused 13 0"),
     ] {
         let name = format!("word 0 alone, {word:x}");

@@ -106,6 +106,25 @@ impl Random {
         self.canonical().max(1)
     }
 
+    /// A word below 2^30.
+    pub fn small(&mut self) -> u64 {
+        self.canonical() % (1 << 30)
+    }
+
+    /// From 2^30 to p - 1.
+    pub fn large(&mut self) -> u64 {
+        self.canonical().max(1 << 30)
+    }
+
+    /// A word below p, half of them below 2^30.
+    pub fn small_or_large(&mut self) -> u64 {
+        if self.one_in(2) {
+            self.small()
+        } else {
+            self.large()
+        }
+    }
+
     /// A word that is not below p, half of them at an edge.
     pub fn not_canonical(&mut self) -> u64 {
         if self.one_in(2) {

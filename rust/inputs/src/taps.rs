@@ -46,9 +46,21 @@ pub struct LentList {
 
 pub fn lent_list(random: &mut Random, length: bool, word: bool) -> LentList {
     let k = some_k(random);
+    let words = list(random, k);
+    lent_words(random, k, words, length, word)
+}
+
+/// The words of a list of k batches as lent.
+pub fn lent_words(
+    random: &mut Random,
+    k: usize,
+    words: Vec<u64>,
+    length: bool,
+    word: bool,
+) -> LentList {
     let mut lent = LentList {
         name: format!("k = {k}"),
-        words: list(random, k),
+        words,
         k,
         length: None,
         word: None,

@@ -16,8 +16,8 @@ const OLD: u64 = 0x0123456789abcdef;
 
 /// Counts refusals by number, 0 for accepted, and checks that each has come.
 struct Seen([usize; NUMBERS]);
-/// 0 to 17.
-const NUMBERS: usize = 18;
+/// 0 to 18.
+const NUMBERS: usize = 19;
 
 impl Seen {
     fn new() -> Seen {
@@ -291,6 +291,46 @@ fn unpack() {
         seen.note(case.refusal);
     }
     seen.each(&[0, 8, 12, 13, 14], 40);
+}
+
+#[test]
+fn pack_short() {
+    let mut seen = Seen::new();
+    for case in pack_short_cases(SEED, 800) {
+        let mut destination = vec![0xab; case.destination];
+        let answer = second::pack_short(&case.taps, case.claim, &mut destination);
+        assert_eq!(answer.err(), case.refusal, "seed {SEED}: {}", case.name);
+        let expected = match case.refusal {
+            None => case.file,
+            Some(_) => vec![0xab; case.destination],
+        };
+        assert_eq!(destination, expected, "seed {SEED}: {}", case.name);
+        seen.note(case.refusal);
+    }
+    seen.each(&[0, 5, 6, 8, 9], 20);
+}
+
+#[test]
+fn unpack_short() {
+    let mut seen = Seen::new();
+    for case in unpack_short_cases(SEED, 1600) {
+        let mut destination = vec![OLD; case.destination];
+        let answer = second::unpack_short(&case.file, &mut destination);
+        assert_eq!(answer.err(), case.refusal, "seed {SEED}: {}", case.name);
+        match answer {
+            Ok(claim) => {
+                assert_eq!(claim, case.claim, "seed {SEED}: {}", case.name);
+                assert_eq!(destination, case.taps, "seed {SEED}: {}", case.name);
+                // An accepted file packs to the same bytes.
+                let mut file = vec![0xab; case.file.len()];
+                assert_eq!(second::pack_short(&destination, claim, &mut file), Ok(()));
+                assert_eq!(file, case.file, "seed {SEED}: {}", case.name);
+            }
+            Err(_) => assert_eq!(destination, vec![OLD; case.destination]),
+        }
+        seen.note(case.refusal);
+    }
+    seen.each(&[0, 8, 12, 13, 14, 18], 40);
 }
 
 #[test]

@@ -135,4 +135,24 @@ extern "C" {
         claim: *mut u64,
         claim_words: usize,
     ) -> u64;
+
+    pub fn lemoncolumn_pack_short(
+        taps: *const u64,
+        tap_words: usize,
+        c0: u64,
+        c1: u64,
+        c2: u64,
+        c3: u64,
+        file: *mut u8,
+        file_bytes: usize,
+    ) -> u64;
+
+    pub fn lemoncolumn_unpack_short(
+        file: *const u8,
+        file_bytes: usize,
+        taps: *mut u64,
+        tap_words: usize,
+        claim: *mut u64,
+        claim_words: usize,
+    ) -> u64;
 }

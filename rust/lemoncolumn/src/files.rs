@@ -1,5 +1,5 @@
-//! What a caller needs to lend files to the calls: the words of a raw table, and
-//! the batches of a board file of some length.
+//! What a caller needs to lend files to the calls: the words of a raw table, the
+//! batches of a board file of some length, and length and batches of a short file.
 
 use crate::{file_bytes, Refusal, RAW_WORDS};
 
@@ -8,6 +8,18 @@ pub const RAW_BYTES: usize = 8 * RAW_WORDS;
 
 /// The largest permitted number of batches.
 pub const MOST_BATCHES: usize = 1024;
+
+/// Bytes of a word of a board file.
+const WORD_BYTES: usize = 4;
+/// In a short file an element of at most so many bits has one word, any other three.
+const ONE_WORD_BITS: u32 = 30;
+/// What word 0 of a short file has beside k.
+const SHORT_MARK: u32 = 1 << 29;
+
+/// Whether this is a permitted number of batches.
+fn is_permitted(k: usize) -> bool {
+    k.count_ones() == 1 && k <= MOST_BATCHES
+}
 
 /// The words of a raw table's file; refusal 1 where it has another length.
 pub fn raw_table(file: &[u8]) -> Result<[u64; RAW_WORDS], Refusal> {
@@ -25,6 +37,28 @@ pub fn raw_table(file: &[u8]) -> Result<[u64; RAW_WORDS], Refusal> {
 /// other length is refused before `unpack` looks at its destination.
 pub fn batches(bytes: usize) -> Option<usize> {
     let k = bytes.checked_sub(file_bytes(0))? / (file_bytes(1) - file_bytes(0));
-    let permitted = k.count_ones() == 1 && k <= MOST_BATCHES;
-    (permitted && file_bytes(k) == bytes).then_some(k)
+    (is_permitted(k) && file_bytes(k) == bytes).then_some(k)
+}
+
+/// Bytes of the short file of a list of taps and a claim, which
+/// [`pack_short`](crate::pack_short) asks for: 4 for word 0, 4 for an element below
+/// 2^30 and 12 for any other, one that is not canonical included. That is 48k + 36 where
+/// all are below 2^30, and [`file_bytes`] where none is.
+pub fn short_file_bytes(taps: &[u64], claim: [u64; 4]) -> usize {
+    let words = |&element: &u64| match element >> ONE_WORD_BITS {
+        0 => 1,
+        _ => 3,
+    };
+    let elements: usize = claim.iter().chain(taps).map(words).sum();
+    WORD_BYTES * (1 + elements)
+}
+
+/// The k in word 0 of a short file, if these bytes begin as one does: its length does
+/// not say it. Any other file is refused before [`unpack_short`](crate::unpack_short)
+/// looks at its destination.
+pub fn short_batches(file: &[u8]) -> Option<usize> {
+    let word = u32::from_le_bytes(*file.first_chunk::<WORD_BYTES>()?);
+    // Too large where the mark is not set, or any bit above k.
+    let k = (word ^ SHORT_MARK) as usize;
+    is_permitted(k).then_some(k)
 }

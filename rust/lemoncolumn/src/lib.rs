@@ -17,7 +17,7 @@ mod files;
 mod interface;
 mod refusal;
 
-pub use files::{batches, raw_table, MOST_BATCHES, RAW_BYTES};
+pub use files::{batches, raw_table, short_batches, short_file_bytes, MOST_BATCHES, RAW_BYTES};
 pub use interface::INTERFACE;
 pub use refusal::{decode, Refusal};
 
@@ -313,6 +313,76 @@ pub fn unpack(file: &[u8], taps: &mut [u64]) -> Result<[u64; 4], Refusal> {
     let mut claim = [0; 4];
     let code = call(|| unsafe {
         lemoncolumn_unpack(
+            file.as_ptr(),
+            file.len(),
+            taps.as_mut_ptr(),
+            taps.len(),
+            claim.as_mut_ptr(),
+            claim.len(),
+        )
+    });
+    accepted(code).map(|()| claim)
+}
+
+/// Writes the short edition of the board file of a list of taps and a claim, where an
+/// element below 2^30 has one word and any other three; [`short_file_bytes`] says how
+/// many bytes that takes. A claim with its list has one short file.
+///
+/// ```
+/// use lemoncolumn::*;
+///
+/// let k = 1;
+/// let mut taps = vec![290; tap_words(k)]; // 16 words, one of them a card's number
+/// taps[7] = 1 << 40;
+/// let claim = [0, 1, 2, 3];
+///
+/// // Word 0, 19 elements of one word, and one of three.
+/// let mut file = vec![0; short_file_bytes(&taps, claim)];
+/// assert_eq!(file.len(), 4 + 19 * 4 + 12);
+/// assert_eq!(file_bytes(k), 244);
+/// pack_short(&taps, claim, &mut file)?;
+///
+/// // Whoever receives it learns k from its first word.
+/// let k = short_batches(&file).expect("a short file");
+/// let mut read = vec![0; tap_words(k)];
+/// assert_eq!(unpack_short(&file, &mut read)?, claim);
+/// assert_eq!(read, taps);
+///
+/// // Neither edition is read as the other, and a file that was cut is refused.
+/// let other_edition = Refusal::WrongValue { word: 0 };
+/// assert_eq!(unpack(&file, &mut read), Err(other_edition));
+/// let mut full = vec![0; file_bytes(k)];
+/// pack(&taps, claim, &mut full)?;
+/// assert_eq!(unpack_short(&full, &mut read), Err(other_edition));
+/// file.pop();
+/// assert_eq!(unpack_short(&file, &mut read), Err(Refusal::FileLength));
+/// # Ok::<(), Refusal>(())
+/// ```
+pub fn pack_short(taps: &[u64], claim: [u64; 4], file: &mut [u8]) -> Result<(), Refusal> {
+    let [c0, c1, c2, c3] = claim;
+    let code = call(|| unsafe {
+        lemoncolumn_pack_short(
+            taps.as_ptr(),
+            taps.len(),
+            c0,
+            c1,
+            c2,
+            c3,
+            file.as_mut_ptr(),
+            file.len(),
+        )
+    });
+    accepted(code)
+}
+
+/// Writes the taps of a short file; answers its claim. [`short_batches`] says for how
+/// many batches. An element in three words that needs one is
+/// [`Refusal::LongElement`], and bytes after the last element are
+/// [`Refusal::FileLength`].
+pub fn unpack_short(file: &[u8], taps: &mut [u64]) -> Result<[u64; 4], Refusal> {
+    let mut claim = [0; 4];
+    let code = call(|| unsafe {
+        lemoncolumn_unpack_short(
             file.as_ptr(),
             file.len(),
             taps.as_mut_ptr(),

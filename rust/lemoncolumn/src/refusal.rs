@@ -36,12 +36,13 @@ pub enum Refusal {
         constraint: u64,
         tests: u64,
     },
-    /// 12: the file is below 4 bytes, or not 144k + 100.
+    /// 12: the file is below 4 bytes, or not 144k + 100; a short one ends before its
+    /// last element is whole, or goes on after it.
     FileLength,
     /// 13: a file word has the wrong kind; its index in 32-bit words.
     WrongKind { word: u64 },
-    /// 14: spare bits or a k not permitted (index 0), or an element that is not
-    /// canonical (its first word).
+    /// 14: spare bits, a file of the other edition or a k not permitted (index 0), or
+    /// an element that is not canonical (its first word).
     WrongValue { word: u64 },
     /// 15: the tap number is above 3k.
     NoSuchTap,
@@ -49,6 +50,8 @@ pub enum Refusal {
     NoPair,
     /// 17: c is 0 or above k.
     ClaimBatches,
+    /// 18: an element below 2^30 has three words in a short file; its first word.
+    LongElement { word: u64 },
 }
 
 /// Reads the number that a call returns: the tests walked, 0 for a call that
@@ -58,7 +61,7 @@ pub enum Refusal {
 ///
 /// # Panics
 ///
-/// Where bits 0 to 5 are above 17, as in no number that a call returns.
+/// Where bits 0 to 5 are above 18, as in no number that a call returns.
 pub fn decode(code: u64) -> Result<u64, Refusal> {
     let constraint = code >> 6 & 0x3f;
     let row = code >> 12 & 0xff_ffff;
@@ -86,6 +89,7 @@ pub fn decode(code: u64) -> Result<u64, Refusal> {
         15 => Refusal::NoSuchTap,
         16 => Refusal::NoPair,
         17 => Refusal::ClaimBatches,
+        18 => Refusal::LongElement { word: value },
         _ => unreachable!("no refusal has this number"),
     })
 }
@@ -116,11 +120,12 @@ impl Refusal {
             Refusal::NoSuchTap => 15,
             Refusal::NoPair => 16,
             Refusal::ClaimBatches => 17,
+            Refusal::LongElement { .. } => 18,
         }
     }
 
     /// The index or cell that is returned beside the number, if one is: for 2, 4,
-    /// 6, 9, 10, 13 and 14.
+    /// 6, 9, 10, 13, 14 and 18.
     pub fn index(self) -> Option<u64> {
         match self {
             Refusal::TableWord { index }
@@ -128,7 +133,9 @@ impl Refusal {
             | Refusal::ClaimWord { index }
             | Refusal::TraceWord { index } => Some(index),
             Refusal::WrongInverse { cell } => Some(cell),
-            Refusal::WrongKind { word } | Refusal::WrongValue { word } => Some(word),
+            Refusal::WrongKind { word }
+            | Refusal::WrongValue { word }
+            | Refusal::LongElement { word } => Some(word),
             Refusal::TableLength
             | Refusal::NoInverse
             | Refusal::TapLength

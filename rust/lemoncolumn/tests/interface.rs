@@ -1,7 +1,8 @@
 //! The number of the interface is the same in the library, in the header for C
-//! and here, and every safe call goes by it.
+//! and here, so are the calls, and every safe call goes by the number.
 
 use lemoncolumn::*;
+use std::collections::BTreeSet;
 
 const HEADER: &str = include_str!("../../../include/lemoncolumn.h");
 const SAFE: &str = include_str!("../src/lib.rs");
@@ -16,6 +17,22 @@ fn numbers_agree() {
         .filter_map(|line| line.strip_prefix("#define LEMONCOLUMN_INTERFACE "));
     assert_eq!(defined.next(), Some(INTERFACE.to_string().as_str()));
     assert_eq!(defined.next(), None);
+}
+
+/// The names of the functions that are declared on lines which begin so.
+fn names<'a>(lines: &'a str, beginning: &str) -> BTreeSet<&'a str> {
+    let begun = lines
+        .lines()
+        .filter_map(|line| line.strip_prefix(beginning));
+    begun.filter_map(|rest| rest.split('(').next()).collect()
+}
+
+#[test]
+fn calls_agree() {
+    let mut declared = names(HEADER, "lemoncolumn_code ");
+    declared.extend(names(HEADER, "uint64_t "));
+    assert_eq!(declared, names(CALLS, "    pub fn "));
+    assert!(declared.contains("lemoncolumn_interface"));
 }
 
 /// A call of the library stands in `call`, which compares the numbers first:

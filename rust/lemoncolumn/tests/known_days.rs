@@ -1,6 +1,6 @@
 //! Document 01's known days, with cells 4 to 11 of the hashes (document 02, U3), the
-//! counts of refusal 11 (U4), edits, pairs found again (U5), and claims that end before
-//! the rows do (U6), worked out by hand, through the safe calls.
+//! counts of refusal 11 (U4), edits, pairs found again (U5), claims that end before the
+//! rows do (U6), and short files (U7), worked out by hand, through the safe calls.
 
 use lemoncolumn::*;
 
@@ -352,20 +352,269 @@ fn no_such_c() {
     assert_eq!(trace, [0; 768]);
 }
 
+/// The bytes of a file's words, low byte first.
+fn bytes(words: &[u32]) -> Vec<u8> {
+    words.iter().flat_map(|word| word.to_le_bytes()).collect()
+}
+
 #[test]
 fn files() {
     let mut file = [7; 244];
     assert_eq!(pack(&[0; 16], [0; 4], &mut file), Ok(()));
-    let words: Vec<u32> = file
-        .chunks(4)
-        .map(|bytes| u32::from_le_bytes(bytes.try_into().expect("four bytes")))
-        .collect();
     let mut expected = vec![1];
     for _ in 0..20 {
         expected.extend([0x4000_0000, 0x8000_0000, 0xc000_0000]);
     }
-    assert_eq!(words, expected);
+    assert_eq!(file, bytes(&expected)[..]);
     let mut taps = [7; 16];
     assert_eq!(unpack(&file, &mut taps), Ok([0; 4]));
     assert_eq!(taps, [0; 16]);
+}
+
+/// The short file of zeros, k = 1.
+fn short_zeros() -> Vec<u32> {
+    let mut words = vec![0x2000_0001];
+    words.extend([0xc000_0000; 20]);
+    words
+}
+
+/// The same with these words in place of one of its elements, 0 to 19.
+fn short_zeros_with(element: usize, words: &[u32]) -> Vec<u8> {
+    let mut file = short_zeros();
+    file.splice(1 + element..2 + element, words.iter().copied());
+    bytes(&file)
+}
+
+/// Zeros have a word each, and p - 1 has three: 2^61 is 2 x 2^60, and 20 x 2^32 is
+/// 80 x 2^30.
+#[test]
+fn short_files() {
+    for (k, head, shortest, longest) in [
+        (1, 0x2000_0001, 84, 244),
+        (2, 0x2000_0002, 132, 388),
+        (16, 0x2000_0010, 804, 2404),
+        (1024, 0x2000_0400, 49_188, 147_556),
+    ] {
+        for (element, words, length) in [
+            (0, &[0xc000_0000][..], shortest),
+            (P - 1, &[0x4000_0002, 0x8000_0050, 0xc000_0000], longest),
+        ] {
+            let (taps, claim) = (vec![element; 12 * k + 4], [element; 4]);
+            assert_eq!(short_file_bytes(&taps, claim), length);
+            let expected = bytes(&[&[head], &words.repeat(12 * k + 8)[..]].concat());
+            let mut file = vec![7; length];
+            assert_eq!(pack_short(&taps, claim, &mut file), Ok(()), "k = {k}");
+            assert_eq!(file, expected, "k = {k}");
+            let mut read = vec![7; 12 * k + 4];
+            assert_eq!(unpack_short(&file, &mut read), Ok(claim), "k = {k}");
+            assert_eq!(read, taps, "k = {k}");
+        }
+    }
+}
+
+/// Claim and taps of a day: the ends of 30, 60 and 61 bits, a tap of stop, fare, minute
+/// and card, and p - 2, which is 2 x 2^60 + 79 x 2^30 + 2^30 - 1. Eleven have one word
+/// and nine have three.
+const BOTH_WIDTHS: [(u64, &[u32]); 20] = [
+    (P - 1, &[0x4000_0002, 0x8000_0050, 0xc000_0000]),
+    (0, &[0xc000_0000]),
+    ((1 << 30) - 1, &[0xffff_ffff]),
+    (1 << 30, &[0x4000_0000, 0x8000_0001, 0xc000_0000]),
+    (4711, &[0xc000_1267]),
+    (290, &[0xc000_0122]),
+    (485, &[0xc000_01e5]),
+    ((1 << 32) + 5, &[0x4000_0000, 0x8000_0004, 0xc000_0005]),
+    (1, &[0xc000_0001]),
+    (1 << 29, &[0xe000_0000]),
+    ((1 << 31) - 1, &[0x4000_0000, 0x8000_0001, 0xffff_ffff]),
+    ((1 << 60) - 1, &[0x4000_0000, 0xbfff_ffff, 0xffff_ffff]),
+    (1 << 60, &[0x4000_0001, 0x8000_0000, 0xc000_0000]),
+    (1 << 61, &[0x4000_0002, 0x8000_0000, 0xc000_0000]),
+    (P - 2, &[0x4000_0002, 0x8000_004f, 0xffff_ffff]),
+    (7, &[0xc000_0007]),
+    (0, &[0xc000_0000]),
+    (0, &[0xc000_0000]),
+    (0, &[0xc000_0000]),
+    ((1 << 30) + 1, &[0x4000_0000, 0x8000_0001, 0xc000_0001]),
+];
+
+#[test]
+fn a_short_file_of_both_widths() {
+    let mut words = vec![0x2000_0001];
+    words.extend(BOTH_WIDTHS.iter().flat_map(|(_, words)| *words));
+    let elements = BOTH_WIDTHS.map(|(element, _)| element);
+    let claim = [P - 1, 0, (1 << 30) - 1, 1 << 30];
+    let length = 4 + 11 * 4 + 9 * 12;
+    assert_eq!(short_file_bytes(&elements[4..], claim), length);
+    let mut file = vec![7; length];
+    assert_eq!(pack_short(&elements[4..], claim, &mut file), Ok(()));
+    assert_eq!(file, bytes(&words));
+    assert_eq!(file[..8], [0x01, 0, 0, 0x20, 0x02, 0, 0, 0x40]);
+    let mut taps = [7; 16];
+    assert_eq!(unpack_short(&file, &mut taps), Ok(claim));
+    assert_eq!(taps, elements[4..]);
+}
+
+/// A length of the list that no k has, then a length of the file that the elements do
+/// not need, then the claim, then the taps. p and 2^64 - 1 count 12 bytes.
+#[test]
+fn refused_short_packs() {
+    let (p, most) = (P, u64::MAX);
+    let with = |index: usize, word: u64| {
+        let mut taps = vec![0; 16];
+        taps[index] = word;
+        taps
+    };
+    let claimed = |word: u64| [0, word, 0, word];
+    for (taps, claim, length, refusal) in [
+        (vec![p; 15], [p; 4], 0, Refusal::TapLength),
+        (vec![0; 40], [0; 4], 180, Refusal::TapLength),
+        (vec![0; 16], [0; 4], 83, Refusal::DestinationLength),
+        (vec![0; 16], [0; 4], 85, Refusal::DestinationLength),
+        (vec![0; 16], [0; 4], 92, Refusal::DestinationLength),
+        (vec![0; 16], [0; 4], 244, Refusal::DestinationLength),
+        (with(3, 1 << 30), [0; 4], 84, Refusal::DestinationLength),
+        (with(3, p), [0; 4], 84, Refusal::DestinationLength),
+        (with(3, p), claimed(p), 84, Refusal::DestinationLength),
+        (with(3, p), claimed(p), 108, Refusal::ClaimWord { index: 1 }),
+        (with(3, p), [0; 4], 92, Refusal::TapWord { index: 3 }),
+        (with(15, most), [0; 4], 92, Refusal::TapWord { index: 15 }),
+    ] {
+        let mut file = vec![7; length];
+        let packed = pack_short(&taps, claim, &mut file);
+        assert_eq!(packed, Err(refusal), "{taps:?}, {claim:?}, {length} bytes");
+        assert_eq!(file, vec![7; length], "{refusal}");
+    }
+    let mut file = [7; 92];
+    assert_eq!(pack_short(&with(15, P - 1), [0; 4], &mut file), Ok(()));
+}
+
+/// What the reader answers to these bytes, into 16 words and into 15. Where it refuses,
+/// nothing is written.
+fn read_short(file: &[u8]) -> [Result<[u64; 4], Refusal>; 2] {
+    let mut taps = [7; 16];
+    let [exact, other] = [16, 15].map(|length| unpack_short(file, &mut taps[..length]));
+    if exact.is_err() {
+        assert_eq!(taps, [7; 16], "{file:x?}");
+    }
+    [exact, other]
+}
+
+/// 8 comes right after word 0.
+#[test]
+fn word_0_of_a_short_file() {
+    let (kind, value) = (
+        Refusal::WrongKind { word: 0 },
+        Refusal::WrongValue { word: 0 },
+    );
+    for (head, refusal) in [
+        (0x6000_0001, kind),
+        (0xa000_0001, kind),
+        (0xe000_0000, kind),
+        (0x0000_0001, value),
+        (0x2001_0001, value),
+        (0x3000_0001, value),
+        (0x2000_0000, value),
+        (0x2000_0003, value),
+        (0x2000_0800, value),
+    ] {
+        let mut words = short_zeros();
+        words[0] = head;
+        for words in [&words[..], &[head]] {
+            assert_eq!(read_short(&bytes(words)), [Err(refusal); 2], "{head:x}");
+        }
+    }
+    let head = bytes(&[0x2000_0001]);
+    let refused = [Err(Refusal::FileLength), Err(Refusal::DestinationLength)];
+    assert_eq!(read_short(&head), refused);
+    for length in 0..4 {
+        let refused = read_short(&head[..length]);
+        assert_eq!(refused, [Err(Refusal::FileLength); 2], "{length} bytes");
+    }
+}
+
+/// Elements 0 and 19, whose first words are 1 and 20, refused alike: small ones in three
+/// words, those of p, 2^64 and 2^90 - 1, and wrong kinds, the third before the value.
+#[test]
+fn damaged_short_files() {
+    let no_room = Err(Refusal::DestinationLength);
+    for (element, word) in [(0, 1), (19, 20)] {
+        let (long, value) = (Refusal::LongElement { word }, Refusal::WrongValue { word });
+        for (words, refusal) in [
+            ([0x4000_0000, 0x8000_0000, 0xc000_0000], long),
+            ([0x4000_0000, 0x8000_0000, 0xffff_ffff], long),
+            ([0x4000_0002, 0x8000_0050, 0xc000_0001], value),
+            ([0x4000_0003, 0x8000_0000, 0xc000_0005], value),
+            ([0x4000_0010, 0x8000_0000, 0xc000_0000], value),
+            ([0x7fff_ffff, 0xbfff_ffff, 0xffff_ffff], value),
+            (
+                [0x8000_0000, 0x8000_0000, 0xc000_0000],
+                Refusal::WrongKind { word },
+            ),
+            (
+                [0x0000_0000, 0x8000_0000, 0xc000_0000],
+                Refusal::WrongKind { word },
+            ),
+            (
+                [0x4000_0000, 0xc000_0000, 0xc000_0000],
+                Refusal::WrongKind { word: word + 1 },
+            ),
+            (
+                [0x4000_0000, 0x8000_0000, 0x8000_0000],
+                Refusal::WrongKind { word: word + 2 },
+            ),
+        ] {
+            let mut file = short_zeros_with(element, &words);
+            assert_eq!(read_short(&file), [Err(refusal), no_room], "{words:x?}");
+            // Bytes after the last element are looked at last.
+            file.push(0);
+            assert_eq!(read_short(&file), [Err(refusal), no_room], "{words:x?}");
+        }
+        let whole = [0x4000_0000, 0x8000_0001, 0xc000_0000];
+        let file = short_zeros_with(element, &whole);
+        assert!(unpack_short(&file, &mut [7; 16]).is_ok(), "2^30 at {word}");
+    }
+}
+
+/// A short file of k = 1 ends where its twentieth element does. Of p - 1 in place of the
+/// last zero, one or two words alone are 12, whatever they would be with the third.
+#[test]
+fn cut_short_files() {
+    let refused = [Err(Refusal::FileLength), Err(Refusal::DestinationLength)];
+    let honest = bytes(&short_zeros());
+    for length in 4..84 {
+        assert_eq!(read_short(&honest[..length]), refused, "{length} bytes");
+    }
+    for more in [&[0][..], &[0, 0, 0, 0xc0], &[0; 160]] {
+        let longer = [&honest, more].concat();
+        assert_eq!(read_short(&longer), refused, "{more:?}");
+    }
+    for words in [
+        &[0x4000_0002][..],
+        &[0x4000_0002, 0x8000_0050],
+        &[0x4000_0000, 0x8000_0000],
+        &[0x4000_0010, 0x8000_0000],
+    ] {
+        let cut = short_zeros_with(19, words);
+        assert_eq!(read_short(&cut), refused, "{words:x?}");
+        assert_eq!(read_short(&[&cut, &[0; 3][..]].concat()), refused);
+    }
+}
+
+/// The full file of zeros has no mark; with one its first element is 0 in three words.
+#[test]
+fn the_other_edition() {
+    let other_edition = Refusal::WrongValue { word: 0 };
+    let mut full = [7; 244];
+    assert_eq!(pack(&[0; 16], [0; 4], &mut full), Ok(()));
+    assert_eq!(read_short(&full), [Err(other_edition); 2]);
+    full[3] = 0x20;
+    let long = Refusal::LongElement { word: 1 };
+    let refused = [Err(long), Err(Refusal::DestinationLength)];
+    assert_eq!(read_short(&full), refused);
+    let mut taps = [7; 16];
+    for file in [&full[..], &bytes(&short_zeros())] {
+        assert_eq!(unpack(file, &mut taps), Err(other_edition));
+        assert_eq!(taps, [7; 16]);
+    }
 }

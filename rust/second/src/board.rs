@@ -6,7 +6,7 @@ use crate::hash::{is_permitted, k_of_list, list_words, test_tap_words, TAP};
 use crate::refusal::Refusal;
 
 /// Bits of a word below its kind.
-const PAYLOAD_BITS: u32 = 30;
+pub const PAYLOAD_BITS: u32 = 30;
 const PAYLOAD_MASK: u32 = (1 << PAYLOAD_BITS) - 1;
 /// Bits 0 to 15 of word 0 hold k.
 const K_MASK: u32 = 0xffff;
@@ -27,12 +27,9 @@ pub fn pack(taps: &[u64], claim: [u64; TAP], destination: &mut [u8]) -> Result<(
     test_tap_words(taps)?;
     let mut words = vec![join(0, k as u32)];
     for &element in claim.iter().chain(taps) {
-        words.push(join(1, (element >> (2 * PAYLOAD_BITS)) as u32));
-        words.push(join(2, (element >> PAYLOAD_BITS) as u32 & PAYLOAD_MASK));
-        words.push(join(3, element as u32 & PAYLOAD_MASK));
+        words.extend(element_words(element));
     }
-    let bytes: Vec<u8> = words.iter().flat_map(|word| word.to_le_bytes()).collect();
-    destination.copy_from_slice(&bytes);
+    destination.copy_from_slice(&bytes_of(&words));
     Ok(())
 }
 
@@ -42,11 +39,7 @@ pub fn unpack(file: &[u8], destination: &mut [u64]) -> Result<[u64; TAP], Refusa
     if file.len() < 4 {
         return Err(Refusal::FileLength);
     }
-    let k = read_payload(file, 0, 0)?;
-    if k & !K_MASK != 0 || !is_permitted(k as usize) {
-        return Err(Refusal::Value { word: 0 });
-    }
-    let k = k as usize;
+    let k = test_k(read_payload(file, 0, 0)?)?;
     if file.len() != file_bytes(k) {
         return Err(Refusal::FileLength);
     }
@@ -62,15 +55,50 @@ pub fn unpack(file: &[u8], destination: &mut [u64]) -> Result<[u64; TAP], Refusa
 }
 
 /// A word of this kind and payload.
-fn join(kind: u32, payload: u32) -> u32 {
+pub fn join(kind: u32, payload: u32) -> u32 {
     kind << PAYLOAD_BITS | payload
 }
 
-/// The payload of a word of the file, or 13 when its kind is another.
-fn read_payload(file: &[u8], word: usize, kind: u32) -> Result<u32, Refusal> {
-    let at = 4 * word;
-    let value = u32::from_le_bytes([file[at], file[at + 1], file[at + 2], file[at + 3]]);
-    if value >> PAYLOAD_BITS == kind {
+/// The kind of a word.
+pub fn kind(word: u32) -> u32 {
+    word >> PAYLOAD_BITS
+}
+
+/// The three words of an element.
+pub fn element_words(element: u64) -> [u32; 3] {
+    [
+        join(1, (element >> (2 * PAYLOAD_BITS)) as u32),
+        join(2, (element >> PAYLOAD_BITS) as u32 & PAYLOAD_MASK),
+        join(3, element as u32 & PAYLOAD_MASK),
+    ]
+}
+
+/// Words as the file has them, low byte first.
+pub fn bytes_of(words: &[u32]) -> Vec<u8> {
+    words.iter().flat_map(|word| word.to_le_bytes()).collect()
+}
+
+/// The k in what is below word 0's kind; 14 when another bit is set, or k is not
+/// permitted.
+pub fn test_k(payload: u32) -> Result<usize, Refusal> {
+    if payload & !K_MASK == 0 && is_permitted(payload as usize) {
+        Ok(payload as usize)
+    } else {
+        Err(Refusal::Value { word: 0 })
+    }
+}
+
+/// A word of the file; 12 when it is not there whole.
+pub fn read_word(file: &[u8], word: usize) -> Result<u32, Refusal> {
+    let whole = file.chunks_exact(4).nth(word);
+    let bytes = whole.ok_or(Refusal::FileLength)?;
+    Ok(u32::from_le_bytes(bytes.try_into().expect("four bytes")))
+}
+
+/// The payload of a word of the file; 13 when its kind is another.
+pub fn read_payload(file: &[u8], word: usize, expected: u32) -> Result<u32, Refusal> {
+    let value = read_word(file, word)?;
+    if kind(value) == expected {
         Ok(value & PAYLOAD_MASK)
     } else {
         Err(Refusal::Kind { word: word as u64 })
@@ -79,7 +107,7 @@ fn read_payload(file: &[u8], word: usize, kind: u32) -> Result<u32, Refusal> {
 
 /// The element whose three words begin at `word`; 14 when it is not canonical.
 /// Three payloads are 90 bits, so the sum is taken in 128.
-fn read_element(file: &[u8], word: usize) -> Result<u64, Refusal> {
+pub fn read_element(file: &[u8], word: usize) -> Result<u64, Refusal> {
     let high = read_payload(file, word, 1)? as u128;
     let middle = read_payload(file, word + 1, 2)? as u128;
     let low = read_payload(file, word + 2, 3)? as u128;

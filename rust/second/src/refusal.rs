@@ -34,12 +34,13 @@ pub enum Refusal {
         constraint: u64,
         tests: u64,
     },
-    /// 12: the file is below 4 bytes, or not 144k + 100.
+    /// 12: the file is below 4 bytes, or not 144k + 100; a short one ends before its
+    /// last element is whole, or goes on after it.
     FileLength,
     /// 13: a file word has the wrong kind; its index in 32-bit words.
     Kind { word: u64 },
-    /// 14: spare bits or a k not permitted (index 0), or an element that is not
-    /// canonical (its first word).
+    /// 14: spare bits, a file of the other edition or a k not permitted (index 0), or
+    /// an element that is not canonical (its first word).
     Value { word: u64 },
     /// 15: the tap number is above 3k.
     NoSuchTap,
@@ -47,6 +48,8 @@ pub enum Refusal {
     NoPair,
     /// 17: c is 0 or above k.
     ClaimBatches,
+    /// 18: an element below 2^30 has three words in a short file; its first word.
+    LongElement { word: u64 },
 }
 
 impl Refusal {
@@ -70,6 +73,7 @@ impl Refusal {
             Refusal::NoSuchTap => 15,
             Refusal::NoPair => 16,
             Refusal::ClaimBatches => 17,
+            Refusal::LongElement { .. } => 18,
         }
     }
 
@@ -91,7 +95,9 @@ impl Refusal {
             | Refusal::ClaimWord { index }
             | Refusal::TraceWord { index } => vec![index],
             Refusal::InverseCell { cell } => vec![cell],
-            Refusal::Kind { word } | Refusal::Value { word } => vec![word],
+            Refusal::Kind { word } | Refusal::Value { word } | Refusal::LongElement { word } => {
+                vec![word]
+            }
             Refusal::Constraint {
                 row, constraint, ..
             } => vec![row, constraint],

@@ -1,12 +1,16 @@
 //! The operations against document 01's definitions, 004's Algorithm 1 and
 //! document 02, written here a second time in another manner: products by
-//! doubling, powers by halving, the hash column by column, the file by division.
+//! doubling, powers by halving, the hash column by column, the file by division, the
+//! short file also from the full one.
 
 mod common;
 use common::*;
 use second::constraints::{tests, Test};
 use second::field::{self, P};
-use second::{build, chain, check, edit, hash, pack, prepare, read_off, unhash, unpack, Refusal};
+use second::{
+    build, chain, check, edit, hash, pack, pack_short, prepare, read_off, unhash, unpack,
+    unpack_short, Refusal,
+};
 
 /// a times b by doubling and adding; nothing exceeds 2p.
 fn times(a: u64, b: u64) -> u64 {
@@ -502,6 +506,25 @@ fn the_order_of_tests() {
     }
 }
 
+/// The three words of an element, by division.
+fn three_words(element: u64) -> [u64; 3] {
+    let unit = 1 << 30;
+    [
+        unit + element / (unit * unit),
+        2 * unit + element / unit % unit,
+        3 * unit + element % unit,
+    ]
+}
+
+/// The bytes of words, low byte first, by division.
+fn low_byte_first(words: &[u64]) -> Vec<u8> {
+    let byte = |word: u64, number: u32| (word / 256_u64.pow(number) % 256) as u8;
+    let bytes = words
+        .iter()
+        .map(|&word| [0, 1, 2, 3].map(|n| byte(word, n)));
+    bytes.flatten().collect()
+}
+
 #[test]
 fn files_there_and_back() {
     let mut random = Random(9);
@@ -510,24 +533,138 @@ fn files_there_and_back() {
         taps[5] = P - 1;
         taps[6] = (1 << 60) - 1;
         let claim: [u64; 4] = std::array::from_fn(|_| random.canonical());
-        let mut bytes = vec![k as u64 % 256, k as u64 / 256, 0, 0];
-        for element in claim.iter().chain(&taps) {
-            let parts = [
-                element >> 60,
-                (element >> 30) % (1 << 30),
-                element % (1 << 30),
-            ];
-            for (kind, part) in (1..).zip(parts) {
-                let word = kind * (1 << 30) + part;
-                bytes.extend((0..4).map(|byte| word >> (8 * byte) & 255));
-            }
-        }
-        let bytes: Vec<u8> = bytes.iter().map(|&byte| byte as u8).collect();
+        let elements = claim.iter().chain(&taps);
+        let mut words = vec![k as u64];
+        words.extend(elements.flat_map(|&element| three_words(element)));
         let mut file = vec![7; 144 * k + 100];
         assert_eq!(pack(&taps, claim, &mut file), Ok(()));
-        assert_eq!(file, bytes);
+        assert_eq!(file, low_byte_first(&words));
         let mut read = vec![7; 12 * k + 4];
         assert_eq!(unpack(&file, &mut read), Ok(claim));
         assert_eq!(read, taps);
     }
+}
+
+/// A word below p of any number of bits, so that about half are below 2^30.
+fn of_any_width(random: &mut Random) -> u64 {
+    let any = random.word();
+    (any >> (random.word() % 64)) % P
+}
+
+fn day_of_any_widths(random: &mut Random, k: usize) -> (Vec<u64>, [u64; 4]) {
+    let mut taps: Vec<u64> = (0..12 * k + 4).map(|_| of_any_width(random)).collect();
+    taps[5..9].copy_from_slice(&[P - 1, (1 << 30) - 1, 1 << 30, 0]);
+    (taps, std::array::from_fn(|_| of_any_width(random)))
+}
+
+/// Word 0 has the mark, and an element below 2^30 its low 30 bits alone.
+#[test]
+fn short_files_there_and_back() {
+    let mut random = Random(20);
+    for k in [1, 2, 16, 1024] {
+        let (taps, claim) = day_of_any_widths(&mut random, k);
+        let mut words = vec![(1 << 29) + k as u64];
+        for &element in claim.iter().chain(&taps) {
+            let from = if element < 1 << 30 { 2 } else { 0 };
+            words.extend(&three_words(element)[from..]);
+        }
+        let mut file = vec![7; 4 * words.len()];
+        assert_eq!(pack_short(&taps, claim, &mut file), Ok(()));
+        assert_eq!(file, low_byte_first(&words));
+        let mut read = vec![7; 12 * k + 4];
+        assert_eq!(unpack_short(&file, &mut read), Ok(claim));
+        assert_eq!(read, taps);
+    }
+}
+
+/// The short file is the full one with the mark, less the pairs of words of kinds 1 and
+/// 2 that are empty both. Back: a word of kind 3 that follows none of kind 2 gets them
+/// again.
+#[test]
+fn short_files_from_full_ones_and_back() {
+    let empty = [0x40000000_u32.to_le_bytes(), 0x80000000_u32.to_le_bytes()].concat();
+    let mut random = Random(21);
+    for k in [1, 2, 4, 8, 16, 32, 64, 128, 256, 512, 1024] {
+        let (taps, claim) = day_of_any_widths(&mut random, k);
+        let mut full = vec![7; 144 * k + 100];
+        pack(&taps, claim, &mut full).expect("packs");
+        let mut short = full[..4].to_vec();
+        short[3] += 0x20;
+        for element in full[4..].chunks(12) {
+            let from = if element.starts_with(&empty) { 8 } else { 0 };
+            short.extend(&element[from..]);
+        }
+        let mut file = vec![7; short.len()];
+        assert_eq!(pack_short(&taps, claim, &mut file), Ok(()), "k = {k}");
+        assert_eq!(file, short, "k = {k}");
+
+        let mut back = file[..4].to_vec();
+        back[3] -= 0x20;
+        for pair in file.chunks(4).collect::<Vec<_>>().windows(2) {
+            if pair[1][3] / 64 == 3 && pair[0][3] / 64 != 2 {
+                back.extend(&empty);
+            }
+            back.extend(pair[1]);
+        }
+        assert_eq!(back, full, "k = {k}");
+    }
+}
+
+/// Of all lengths up to the full file's and beyond, the writer takes the one that the
+/// elements need; it is the full file's where none is below 2^30.
+#[test]
+fn lengths_of_short_files() {
+    let mut random = Random(22);
+    for small in 0..=20 {
+        let mut elements = vec![(1 << 30) - 1; small];
+        elements.resize(20, 1 << 30);
+        elements.rotate_left(random.word() as usize % 20);
+        let claim = elements[..4].try_into().expect("four words");
+        let accepted = |length: &usize| {
+            let mut file = vec![7; *length];
+            pack_short(&elements[4..], claim, &mut file).is_ok()
+        };
+        let lengths: Vec<usize> = (0..=260).filter(accepted).collect();
+        assert_eq!(lengths, [244 - 8 * small], "{elements:x?}");
+    }
+}
+
+/// What is accepted is what the writer makes of it, so that a claim with its list has
+/// one short file: honest files with each bit changed, each word left out, and each
+/// word twice.
+#[test]
+fn one_short_file_for_each_claim_and_list() {
+    let mut random = Random(23);
+    let (taps, claim) = day_of_any_widths(&mut random, 1);
+    let small = |&&element: &&u64| element < 1 << 30;
+    let small = claim.iter().chain(&taps).filter(small).count();
+    let mut file = vec![7; 244 - 8 * small];
+    pack_short(&taps, claim, &mut file).expect("packs");
+    let words = file.chunks(4).enumerate();
+    let mut others: Vec<Vec<u8>> = words
+        .flat_map(|(number, word)| {
+            let (before, from) = file.split_at(4 * number);
+            [[before, &from[4..]].concat(), [before, word, from].concat()]
+        })
+        .collect();
+    others.extend((0..8 * file.len()).map(|bit| {
+        let mut other = file.clone();
+        other[bit / 8] ^= 1 << (bit % 8);
+        other
+    }));
+    let mut accepted = 0;
+    for other in others {
+        let mut read = vec![7; 16];
+        let Ok(claimed) = unpack_short(&other, &mut read) else {
+            assert_eq!(read, [7; 16]);
+            continue;
+        };
+        assert_ne!((claimed, &read), (claim, &taps));
+        let mut again = vec![7; other.len()];
+        assert_eq!(pack_short(&read, claimed, &mut again), Ok(()));
+        assert_eq!(again, other);
+        accepted += 1;
+    }
+    // Each bit of a one-word element below its kind.
+    assert!(accepted >= 30 * small, "{accepted}");
 }

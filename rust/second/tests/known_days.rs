@@ -1,14 +1,15 @@
 //! Every line of document 01's "Known days", and the program's lines. The
 //! expected values stand in document 01, and the count 362 in document 02, U4; the
 //! other counts, what edits answer and leave, cells 4 to 11 of the hashes (document
-//! 02, U3), the pairs that end in a state (U5), and claims that end before the rows
-//! do (U6), are worked out by hand from its definitions.
+//! 02, U3), the pairs that end in a state (U5), claims that end before the rows do
+//! (U6), and short files (U7), are worked out by hand from its definitions.
 
 mod common;
 use common::*;
 use second::field::{mul, root, P};
 use second::{
-    build, chain, check, clear, edit, hash, pack, prepare, read_off, unhash, unpack, Refusal,
+    build, chain, check, clear, edit, hash, pack, pack_short, prepare, read_off, unhash, unpack,
+    unpack_short, Refusal,
 };
 
 const NO_CLAIM: [u64; 4] = [0; 4];
@@ -364,6 +365,8 @@ fn lengths_of_tap_lists() {
         assert_eq!(built, Err(Refusal::TapLength), "{words}");
         let packed = pack(&taps, NO_CLAIM, &mut [0; 244]);
         assert_eq!(packed, Err(Refusal::TapLength), "{words}");
+        let packed = pack_short(&taps, NO_CLAIM, &mut [0; 84]);
+        assert_eq!(packed, Err(Refusal::TapLength), "{words}");
     }
     for (words, k) in [(16, 1), (12292, 1024)] {
         let taps = vec![0; words];
@@ -373,6 +376,8 @@ fn lengths_of_tap_lists() {
         assert_eq!(trace, vec![0; 384 * k]);
         let mut file = vec![7; 144 * k + 100];
         assert_eq!(pack(&taps, NO_CLAIM, &mut file), Ok(()), "{words}");
+        let mut file = vec![7; 48 * k + 36];
+        assert_eq!(pack_short(&taps, NO_CLAIM, &mut file), Ok(()), "{words}");
     }
 }
 
@@ -384,6 +389,8 @@ fn p_minus_1_passes_and_p_does_not_in_taps() {
     assert_eq!(chain(&z(), &taps), Ok(NO_CLAIM));
     assert_eq!(build(&z(), &taps, &mut [0; 384]), Ok(NO_CLAIM));
     assert_eq!(pack(&taps, NO_CLAIM, &mut [0; 244]), Ok(()));
+    // 19 zeros of 4 bytes, and 12.
+    assert_eq!(pack_short(&taps, NO_CLAIM, &mut [0; 92]), Ok(()));
     let hashed = hash(&z(), [P - 1, 0, 0, 0, 0, 0, 0, P - 1]);
     let state = [P - 1, 0, 0, 0, 0, 0, 0, P - 1, 0, 0, 0, 0];
     assert_eq!(hashed, Ok(state));
@@ -392,6 +399,8 @@ fn p_minus_1_passes_and_p_does_not_in_taps() {
     assert_eq!(chain(&z(), &taps), Err(refused));
     assert_eq!(build(&z(), &taps, &mut [0; 384]), Err(refused));
     assert_eq!(pack(&taps, NO_CLAIM, &mut [0; 244]), Err(refused));
+    let packed = pack_short(&taps, NO_CLAIM, &mut [0; 92]);
+    assert_eq!(packed, Err(refused));
     let hashed = hash(&z(), [0, 0, 0, 0, 0, 0, 0, P]);
     assert_eq!(hashed, Err(Refusal::TapWord { index: 7 }));
 }
@@ -448,4 +457,118 @@ fn the_file_of_zeros_is_what_pack_writes() {
     let mut taps = vec![7; 16];
     assert_eq!(unpack(&file, &mut taps), Ok(NO_CLAIM));
     assert_eq!(taps, [0; 16]);
+}
+
+#[test]
+fn the_short_file_of_zeros() {
+    let expected = bytes(&short_zero_words());
+    assert_eq!(expected.len(), 84);
+    let mut file = vec![7; 84];
+    assert_eq!(pack_short(&[0; 16], NO_CLAIM, &mut file), Ok(()));
+    assert_eq!(file, expected);
+    assert_eq!(file[..8], [0x01, 0, 0, 0x20, 0, 0, 0, 0xC0]);
+    let mut taps = vec![7; 16];
+    assert_eq!(unpack_short(&file, &mut taps), Ok(NO_CLAIM));
+    assert_eq!(taps, [0; 16]);
+}
+
+/// Elements and their words: the ends of 30, 60 and 61 bits, a stop and a fare, and
+/// p - 1 = 2 x 2^60 + 80 x 2^30, one less than which is 2 x 2^60 + 79 x 2^30 + 2^30 - 1.
+/// The claim comes first.
+const ELEMENTS: [(u64, &[u32]); 20] = [
+    (0, &[0xC0000000]),
+    ((1 << 30) - 1, &[0xFFFFFFFF]),
+    (1 << 30, &[0x40000000, 0x80000001, 0xC0000000]),
+    (P - 1, &[0x40000002, 0x80000050, 0xC0000000]),
+    (1, &[0xC0000001]),
+    (4711, &[0xC0001267]),
+    (290, &[0xC0000122]),
+    ((1 << 30) + 1, &[0x40000000, 0x80000001, 0xC0000001]),
+    (1 << 29, &[0xE0000000]),
+    ((1 << 31) - 1, &[0x40000000, 0x80000001, 0xFFFFFFFF]),
+    (1 << 31, &[0x40000000, 0x80000002, 0xC0000000]),
+    (1 << 32, &[0x40000000, 0x80000004, 0xC0000000]),
+    ((1 << 60) - 1, &[0x40000000, 0xBFFFFFFF, 0xFFFFFFFF]),
+    (1 << 60, &[0x40000001, 0x80000000, 0xC0000000]),
+    ((1 << 60) + 7, &[0x40000001, 0x80000000, 0xC0000007]),
+    (1 << 61, &[0x40000002, 0x80000000, 0xC0000000]),
+    (P - 2, &[0x40000002, 0x8000004F, 0xFFFFFFFF]),
+    (0, &[0xC0000000]),
+    (P - 1, &[0x40000002, 0x80000050, 0xC0000000]),
+    (2, &[0xC0000002]),
+];
+
+/// Eight of them have one word and twelve have three: 4 + 8 x 4 + 12 x 12 bytes.
+#[test]
+fn a_short_file_of_both_widths() {
+    let mut words = vec![0x20000001];
+    words.extend(ELEMENTS.iter().flat_map(|(_, words)| *words));
+    let expected = bytes(&words);
+    let elements = ELEMENTS.map(|(element, _)| element);
+    let claim = [0, (1 << 30) - 1, 1 << 30, P - 1];
+    let mut file = vec![7; 180];
+    assert_eq!(pack_short(&elements[4..], claim, &mut file), Ok(()));
+    assert_eq!(file, expected);
+    let mut taps = vec![7; 16];
+    assert_eq!(unpack_short(&expected, &mut taps), Ok(claim));
+    assert_eq!(taps, elements[4..]);
+}
+
+/// Zeros have 4 bytes each, and 48k + 36 with word 0; where each element is p - 1, the
+/// short file is as long as the full one.
+#[test]
+fn short_files_of_every_k() {
+    let days = [
+        (1, 0x20000001, 84),
+        (2, 0x20000002, 132),
+        (4, 0x20000004, 228),
+        (8, 0x20000008, 420),
+        (16, 0x20000010, 804),
+        (32, 0x20000020, 1572),
+        (64, 0x20000040, 3108),
+        (128, 0x20000080, 6180),
+        (256, 0x20000100, 12324),
+        (512, 0x20000200, 24612),
+        (1024, 0x20000400, 49188),
+    ];
+    for (k, head, length) in days {
+        let mut words: Vec<u32> = vec![head];
+        words.resize(length / 4, 0xC0000000);
+        let mut file = vec![7; length];
+        let packed = pack_short(&vec![0; 12 * k + 4], NO_CLAIM, &mut file);
+        assert_eq!(packed, Ok(()), "{k}");
+        assert_eq!(file, bytes(&words), "{k}");
+        let mut taps = vec![7; 12 * k + 4];
+        assert_eq!(unpack_short(&file, &mut taps), Ok(NO_CLAIM), "{k}");
+        assert_eq!(taps, vec![0; 12 * k + 4], "{k}");
+
+        let mut words: Vec<u32> = vec![head];
+        for _ in 0..12 * k + 8 {
+            words.extend([0x40000002, 0x80000050, 0xC0000000]);
+        }
+        let largest = vec![P - 1; 12 * k + 4];
+        let mut file = vec![7; 144 * k + 100];
+        let packed = pack_short(&largest, [P - 1; 4], &mut file);
+        assert_eq!(packed, Ok(()), "{k}");
+        assert_eq!(file, bytes(&words), "{k}");
+        assert_eq!(unpack_short(&file, &mut taps), Ok([P - 1; 4]), "{k}");
+        assert_eq!(taps, largest, "{k}");
+    }
+}
+
+/// Each reader refuses the other edition on word 0. With the mark, the full file of
+/// zeros has zeros in three words, from word 1 on.
+#[test]
+fn the_other_edition() {
+    let refused = Err(Refusal::Value { word: 0 });
+    let mut full = zero_file();
+    assert_eq!(unpack_short(&full, &mut [7; 16]), refused);
+    let short = bytes(&short_zero_words());
+    assert_eq!(unpack(&short, &mut [7; 16]), refused);
+    assert_eq!(clear(&input(&z_raw(), &short)), "refused 14 0\n");
+    full[3] = 0x20;
+    assert_eq!(unpack(&full, &mut [7; 16]), refused);
+    assert_eq!(clear(&input(&z_raw(), &full)), "refused 14 0\n");
+    let refused = Err(Refusal::LongElement { word: 1 });
+    assert_eq!(unpack_short(&full, &mut [7; 16]), refused);
 }

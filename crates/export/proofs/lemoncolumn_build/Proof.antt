@@ -4,7 +4,7 @@ use mathlib.Core.Path.{ap, _∙_}
 use Rattle.handover.specs.Code.{answerCode}
 use Rattle.export.specs.Calls.{buildCall}
 use Rattle.handover.proofs.Handed.{handed-as}
-use Rattle.export.proofs.Answers.{stopped, kept, build-short, chain-no-room-refuses}
+use Rattle.export.proofs.Answers.{stopped, kept, build-without, chain-no-room-refuses}
 use Rattle.export.proofs.Answers.{build-answer, build-left}
 use borrow.Author.Needs.{needs}
 use Rattle.export.proofs.lemoncolumn_build.Statement.{statement}
@@ -20,11 +20,11 @@ returns : tie.Need-returns
 unfolding buildCall
 returns c =
     let n = c .before in
-    let short = build-short _ _ _ _ (n .before .if1 .taken) in
+    let without = build-without _ _ _ _ (n .before .if1 .taken) in
     let refuses = chain-no-room-refuses _ _ in
     record {
-      four = stopped _ _ short refuses _ _ _ (c .answer-code .ensures ∙ ap answerCode (n .chain-no-room .ensures));
-      rows = kept _ _ short refuses _ _;
+      four = stopped _ _ without refuses _ _ _ (c .answer-code .ensures ∙ ap answerCode (n .chain-no-room .ensures));
+      rows = kept _ _ without refuses _ _;
     }
 
 build-requires : tie.Need-build-requires

@@ -4,7 +4,7 @@ use mathlib.Core.Path.{ap, _∙_}
 use Rattle.handover.specs.Code.{answerCode}
 use Rattle.export.specs.Calls.{chainCall}
 use Rattle.handover.proofs.Handed.{handed-as}
-use Rattle.export.proofs.Answers.{stopped, chain-short, chain-no-room-refuses, chain-answer}
+use Rattle.export.proofs.Answers.{stopped, chain-without, chain-no-room-refuses, chain-answer}
 use borrow.Author.Needs.{needs}
 use Rattle.export.proofs.lemoncolumn_chain.Statement.{statement}
 use Rattle.export.proofs.lemoncolumn_chain.Tie as tie
@@ -19,9 +19,9 @@ returns : tie.Need-returns
 unfolding chainCall
 returns c =
     let n = c .before in
-    let short = chain-short _ _ _ (n .before .if1 .taken) in
+    let without = chain-without _ _ _ (n .before .if1 .taken) in
     let coded = c .answer-code .ensures ∙ ap answerCode (n .chain-no-room .ensures) in
-    stopped _ _ short (chain-no-room-refuses _ _) _ _ _ coded
+    stopped _ _ without (chain-no-room-refuses _ _) _ _ _ coded
 
 chain-requires : tie.Need-chain-requires
 chain-requires c κs = search needs

@@ -4,7 +4,7 @@ use mathlib.Core.Path.{ap, _∙_}
 use Rattle.handover.specs.Code.{answerCode}
 use Rattle.export.specs.Calls.{editCall}
 use Rattle.handover.proofs.Handed.{handed-as}
-use Rattle.export.proofs.Answers.{stopped, kept, edit-short, edit-no-room-refuses}
+use Rattle.export.proofs.Answers.{stopped, kept, edit-without, edit-no-room-refuses}
 use Rattle.export.proofs.Answers.{edit-answer, edit-left}
 use borrow.Author.Needs.{needs}
 use Rattle.export.proofs.lemoncolumn_edit.Statement.{statement}
@@ -23,11 +23,11 @@ returns : tie.Need-returns
 unfolding editCall
 returns c =
     let n = c .before in
-    let short = edit-short _ _ _ _ _ _ _ (n .before .before .if1 .taken) in
+    let without = edit-without _ _ _ _ _ _ _ (n .before .before .if1 .taken) in
     let refuses = edit-no-room-refuses _ _ _ _ in
     record {
-      four = stopped _ _ short refuses _ _ _ (c .answer-code .ensures ∙ ap answerCode (n .edit-no-room .ensures));
-      rows = kept _ _ short refuses _ _;
+      four = stopped _ _ without refuses _ _ _ (c .answer-code .ensures ∙ ap answerCode (n .edit-no-room .ensures));
+      rows = kept _ _ without refuses _ _;
     }
 
 edit-requires : tie.Need-edit-requires

@@ -4,7 +4,7 @@ use mathlib.Core.Path.{ap, _∙_}
 use Rattle.handover.specs.Code.{answerCode}
 use Rattle.export.specs.Calls.{hashCall}
 use Rattle.handover.proofs.Handed.{state-handed-as}
-use Rattle.export.proofs.Answers.{state-stopped, hash-short, hash-no-room-refuses, hash-answer}
+use Rattle.export.proofs.Answers.{state-stopped, hash-without, hash-no-room-refuses, hash-answer}
 use borrow.Author.Needs.{needs}
 use Rattle.export.proofs.lemoncolumn_hash.Statement.{statement}
 use Rattle.export.proofs.lemoncolumn_hash.Tie as tie
@@ -19,9 +19,9 @@ returns : tie.Need-returns
 unfolding hashCall
 returns c =
     let n = c .before in
-    let short = hash-short _ _ _ (n .before .if1 .taken) in
+    let without = hash-without _ _ _ (n .before .if1 .taken) in
     let coded = c .answer-code .ensures ∙ ap answerCode (n .hash-no-room .ensures) in
-    state-stopped _ _ short (hash-no-room-refuses _) _ _ _ coded
+    state-stopped _ _ without (hash-no-room-refuses _) _ _ _ coded
 
 hash-requires : tie.Need-hash-requires
 hash-requires c κs = search needs

@@ -4,7 +4,7 @@
 use mathlib.Core.Path.{ap, _∙_}
 use Rattle.handover.specs.Code.{digestCode}
 use Rattle.handover.proofs.Handed.{handed-as}
-use Rattle.export.proofs.Answers.{kept, list-kept, unpack-short, unpack-stopped, no-list-refuses}
+use Rattle.export.proofs.Answers.{kept, list-kept, unpack-without, unpack-stopped, no-list-refuses}
 use Rattle.export.proofs.Answers.{unpack-answer, unpack-left}
 use borrow.Author.Needs.{needs}
 use Rattle.export.proofs.lemoncolumn_unpack.Statement.{statement}
@@ -28,12 +28,12 @@ same-length c = search needs
 returns : tie.Need-returns
 returns c =
     let called = c .before .before .before in
-    let short = called .before .before .if1 .taken in
+    let without = called .before .before .if1 .taken in
     record {
-      four = unpack-stopped _ _ _ short _ _ (c .digest-code .ensures ∙ ap digestCode (called .unpack .ensures .0));
+      four = unpack-stopped _ _ _ without _ _ (c .digest-code .ensures ∙ ap digestCode (called .unpack .ensures .0));
       list =
           list-kept (called .unpack .last .1 .0) _ (called .unpack .kept .1 .0)
-          ∙ kept _ _ (unpack-short _ _ _ short) (no-list-refuses _) _ _;
+          ∙ kept _ _ (unpack-without _ _ _ without) (no-list-refuses _) _ _;
     }
 
 unpack-requires-2 : tie.Need-unpack-requires-2

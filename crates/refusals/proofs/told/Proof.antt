@@ -105,6 +105,12 @@ enum-told-9 c = search needs
 alone-requires-9 : tie.Need-alone-requires-9
 alone-requires-9 c κs = search needs
 
+enum-known-refusal-9 : tie.Need-enum-known-refusal-9
+enum-known-refusal-9 c = search needs
+
+indexed-requires-8 : tie.Need-indexed-requires-8
+indexed-requires-8 c κs = search needs
+
 returns : tie.Need-returns
 returns c = c .alone .ensures ∙ sym (ap told (c .before .enum-told .given .1))
 
@@ -156,6 +162,9 @@ returns-16 c = c .alone8 .ensures ∙ sym (ap told (c .before .enum-told8 .given
 returns-17 : tie.Need-returns-17
 returns-17 c = c .alone9 .ensures ∙ sym (ap told (c .before .enum-told9 .given .1))
 
+returns-18 : tie.Need-returns-18
+returns-18 c = c .indexed8 .ensures ∙ sym (ap told (c .before .before .refusal9 .given .1))
+
 pub told-spec : {M : Type 1} → statement M
 told-spec =
     tie.close
@@ -193,6 +202,8 @@ told-spec =
     alone-requires-8
     enum-told-9
     alone-requires-9
+    enum-known-refusal-9
+    indexed-requires-8
     returns
     returns-2
     returns-3
@@ -209,4 +220,5 @@ told-spec =
     returns-14
     returns-15
     returns-16
-    returns-17)
+    returns-17
+    returns-18)

@@ -93,5 +93,17 @@ pub fn zero_file() -> Vec<u8> {
     for _ in 0..20 {
         words.extend([0x40000000, 0x80000000, 0xC0000000]);
     }
+    bytes(&words)
+}
+
+/// The same day in the short edition, one word for each zero: 84 bytes.
+pub fn short_zero_words() -> Vec<u32> {
+    let mut words = vec![0x20000001];
+    words.extend([0xC0000000; 20]);
+    words
+}
+
+/// Bytes of 32-bit words.
+pub fn bytes(words: &[u32]) -> Vec<u8> {
     words.iter().flat_map(|word| word.to_le_bytes()).collect()
 }

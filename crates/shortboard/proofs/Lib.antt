@@ -1,0 +1,4 @@
+pub mod Answers
+pub mod Files
+pub mod Round
+pub mod Theorems

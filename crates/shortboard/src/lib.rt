@@ -1,0 +1,119 @@
+// The short edition's writer and reader (document 02, U7). Neither hashes.
+ghost use mathlib.Core.Path.{_≡_};
+ghost use Prim.Native.Nat.{_≤_};
+ghost use lib.ListN.{length};
+ghost use Rattle.shortboard.specs.ShortBoard.{mostShortBatches, shortFileOf, shortFileSize, packShortTest};
+ghost use Rattle.shortboard.specs.ShortBoard.{packShortLeaves, shortCountTest, unpackShortTest};
+ghost use Rattle.shortboard.specs.ShortBoard.{unpackShortAnswer, unpackShortLeaves};
+use board::EXTRA_ELEMENTS;
+use elements::Word;
+use numbers::BATCH_TAP_WORDS;
+use numbers::BatchCount;
+use numbers::TAP_WORDS;
+use refusals::Answer;
+use refusals::Digest;
+use refusals::DigestAnswer;
+use refusals::Refusal;
+
+// The most batches of a short file.
+pub const MOST_BATCHES: usize = 1024;
+
+// Bit 29 of word 0.
+const MARK: u32 = 1 << 29;
+
+// What the writer tests: 5, 8, 9, 6.
+fn test_pack(taps: &[u64], claim: [u64; 4], size: usize) -> Answer
+    ensures { λ r. ⌜ r ≡ packShortTest (now (taps .entry)) claim size ⌝ }
+{
+    let BatchCount::Permitted(_) = numbers::tap_batches(MOST_BATCHES, taps.len()) else {
+        return Answer::Refused(Refusal::TapLength);
+    };
+    if size != 4 + shortwords::size(&claim) + shortwords::size(taps) {
+        return Answer::Refused(Refusal::DestinationLength);
+    }
+    let bad_claim = words::first_bad(&claim);
+    if bad_claim != 4 {
+        return Answer::Refused(Refusal::ClaimWord(bad_claim));
+    }
+    let bad_tap = words::first_bad(taps);
+    if bad_tap != taps.len() {
+        return Answer::Refused(Refusal::TapWord(bad_tap));
+    }
+    Answer::Accepted
+}
+
+// Word 0, then claim and taps.
+fn write_file(taps: &[u64], claim: [u64; 4], k: usize, destination: &mut [u8])
+    requires { ⌜ (k ≤ mostShortBatches) × (length (now destination) ≡ shortFileSize (now taps) claim) ⌝ }
+    ensures { λ _. ⌜ now (destination .exit) ≡ shortFileOf (now (taps .entry)) claim k ⌝ }
+{
+    Word::join(0, MARK | (k as u32)).write(0, destination);
+    let after_claim = shortwords::write_all(&claim, 1, destination);
+    shortwords::write_all(taps, after_claim, destination);
+}
+
+// The writer writes the short file of the taps and the claim when all its tests have passed.
+pub fn pack_short(taps: &[u64], claim: [u64; 4], destination: &mut [u8]) -> Answer
+    ensures { λ r. ⌜ r ≡ packShortTest (now (taps .entry)) claim (length (now (destination .entry))) ⌝ }
+    ensures { λ _. ⌜ now (destination .exit)
+        ≡ packShortLeaves (now (taps .entry)) claim (now (destination .entry)) ⌝ }
+{
+    let answer = test_pack(taps, claim, destination.len());
+    let Answer::Accepted = answer else {
+        return answer;
+    };
+    write_file(taps, claim, taps.len() / BATCH_TAP_WORDS, destination);
+    Answer::Accepted
+}
+
+// What reading word 0 finds: 13, then 14. Bits 16 to 29 are the mark alone.
+fn test_count(word: Word) -> Answer
+    ensures { λ r. ⌜ r ≡ shortCountTest (word .0) ⌝ }
+{
+    if word.kind() != 0 {
+        return Answer::Refused(Refusal::WrongKind(0));
+    }
+    if word.payload() >> 16 != MARK >> 16 {
+        return Answer::Refused(Refusal::WrongValue(0));
+    }
+    if numbers::is_permitted(MOST_BATCHES, board::count_in(word)) {
+        Answer::Accepted
+    } else {
+        Answer::Refused(Refusal::WrongValue(0))
+    }
+}
+
+// What the reader tests: 12 (below 4), word 0's 13 then 14, 8, then element by element 12 where the input ends, 13, 14,
+// 18, and 12 for bytes after the last.
+fn test_unpack(file: &[u8], size: usize) -> Answer
+    ensures { λ r. ⌜ r ≡ unpackShortTest (now (file .entry)) size ⌝ }
+{
+    if file.len() < 4 {
+        return Answer::Refused(Refusal::FileLength);
+    }
+    let word = Word::read(file, 0);
+    let of_count = test_count(word);
+    let Answer::Accepted = of_count else {
+        return of_count;
+    };
+    let k = board::count_in(word);
+    if size != BATCH_TAP_WORDS * k + TAP_WORDS {
+        return Answer::Refused(Refusal::DestinationLength);
+    }
+    shortreading::test_all(file, 1, BATCH_TAP_WORDS * k + EXTRA_ELEMENTS)
+}
+
+// The reader writes the taps of a short file and returns its claim when all its tests have passed.
+pub fn unpack_short(file: &[u8], destination: &mut [u64]) -> DigestAnswer
+    ensures { λ r. ⌜ r ≡ unpackShortAnswer (now (file .entry)) (length (now (destination .entry))) ⌝ }
+    ensures { λ _. ⌜ now (destination .exit) ≡ unpackShortLeaves (now (file .entry)) (now (destination .entry)) ⌝ }
+{
+    let of_file = test_unpack(file, destination.len());
+    let Answer::Accepted = of_file else {
+        return DigestAnswer::Refused(of_file.refusal());
+    };
+    let mut claim = [0; 4];
+    let after_claim = shortreading::read_all(file, 1, &mut claim);
+    shortreading::read_all(file, after_claim, destination);
+    DigestAnswer::Accepted(Digest(claim[0], claim[1], claim[2], claim[3]))
+}

@@ -1,0 +1,88 @@
+// Elements of the short edition, as they are written (document 02, U7): one word of kind 3 below 2^30, else the three
+// of the full edition. An index counts words of the file, from word 0.
+ghost use mathlib.Core.Path.{_≡_};
+ghost use mathlib.Core.List.{[]};
+ghost use Prim.Native.Nat.{_+_, _*_, _^_, _≤_, _<_};
+ghost use lib.ListN.{length};
+ghost use lib.Seq.{sets};
+ghost use Rattle.lists.specs.Lists.{choose};
+ghost use Rattle.elements.specs.Words.{bytesOf};
+ghost use Rattle.elements.specs.ElementHelpers.{upperWords};
+ghost use Rattle.shortwords.specs.Short.{isSmall, shortWords, shortWordsOf, allBytesNeeded};
+use elements::Word;
+
+// One word holds the elements below this.
+const LIMIT: u64 = 1 << Word::PAYLOAD_BITS;
+
+// Whether one word holds the element.
+pub fn is_small(element: u64) -> bool
+    ensures { λ r. ⌜ r ≡ isSmall element ⌝ }
+{
+    element < LIMIT
+}
+
+// The bits of an element above a payload's, and the most that they can be.
+const UPPER_BITS: u32 = 34;
+
+const MOST_UPPER: u64 = (1 << UPPER_BITS) - 1;
+
+// 0 where one word holds the element, else 1: its upper bits are not all zero, so that the most that they can be, added
+// to them, carries. With sums in the place of comparisons the compiler takes several elements at a time.
+fn takes_three(element: u64) -> u64
+    ensures { λ r. ⌜ r ≡ choose (isSmall element) 0 1 ⌝ }
+{
+    ((element >> Word::PAYLOAD_BITS) + MOST_UPPER) >> UPPER_BITS
+}
+
+// The bytes that the elements need: 4 each, and 8 more for each that one word does not hold.
+pub fn size(elements: &[u64]) -> usize
+    requires { ⌜ 12 * length (now elements) < 2 ^ 64 ⌝ }
+    ensures { λ r. ⌜ r ≡ allBytesNeeded (now (elements .entry)) ⌝ }
+{
+    let mut threes: u64 = 0;
+    for i in 0..elements.len() {
+        threes += takes_three(elements[i]);
+    }
+    4 * elements.len() + 8 * (threes as usize)
+}
+
+// Where one word does not hold the element, its first two become the words from `index` on. Answers the word that its
+// last becomes.
+fn write_first(element: u64, index: usize, destination: &mut [u8]) -> usize
+    requires { ⌜ 4 * (index + length (shortWords element)) ≤ length (now destination) ⌝ }
+    ensures { λ r. ⌜ r + 1 ≡ index + length (shortWords element) ⌝ }
+    ensures { λ _. ⌜ now (destination .exit) ≡ sets (now (destination .entry)) (4 * index)
+        (bytesOf (choose (isSmall element) [] (upperWords element))) ⌝ }
+{
+    if is_small(element) {
+        return index;
+    }
+    elements::write_upper(element, index, destination);
+    index + 2
+}
+
+// The element becomes the words from `index` on. Answers the word after it. One word or three, the last is the same.
+fn write(element: u64, index: usize, destination: &mut [u8]) -> usize
+    requires { ⌜ 4 * (index + length (shortWords element)) ≤ length (now destination) ⌝ }
+    ensures { λ r. ⌜ r ≡ index + length (shortWords element) ⌝ }
+    ensures { λ _. ⌜ now (destination .exit)
+        ≡ sets (now (destination .entry)) (4 * index) (bytesOf (shortWords element)) ⌝ }
+{
+    let last = write_first(element, index, destination);
+    elements::write_low(element, last, destination);
+    last + 1
+}
+
+// The elements become the words from `index` on. Answers the word after the last.
+pub fn write_all(elements: &[u64], index: usize, destination: &mut [u8]) -> usize
+    requires { ⌜ 4 * (index + length (shortWordsOf (now elements))) ≤ length (now destination) ⌝ }
+    ensures { λ r. ⌜ r ≡ index + length (shortWordsOf (now (elements .entry))) ⌝ }
+    ensures { λ _. ⌜ now (destination .exit)
+        ≡ sets (now (destination .entry)) (4 * index) (bytesOf (shortWordsOf (now (elements .entry)))) ⌝ }
+{
+    let mut at = index;
+    for i in 0..elements.len() {
+        at = write(elements[i], at, destination);
+    }
+    at
+}

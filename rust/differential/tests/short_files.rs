@@ -1,0 +1,476 @@
+//! The short edition of the board file (document 02, U7): days of every k and width there
+//! and back and beside their full files, then files with everything wrong in turn, and
+//! bytes at random. Whatever is accepted is what the writer makes of it again, so that a
+//! claim with its list has one short file. Claim and taps are one list of elements here,
+//! the claim first.
+
+use differential::{bytes, named, same_verdict, seeds, words};
+use inputs::files::{any_widths, element_words, short_element, widths, KIND, MARK, PERMITTED};
+use inputs::*;
+use lemoncolumn::{file_bytes, short_batches, short_file_bytes, tap_words};
+use second::field::P;
+use second::Refusal;
+use std::collections::BTreeMap;
+
+fn claim_of(elements: &[u64]) -> [u64; 4] {
+    elements[..4].try_into().expect("four words")
+}
+
+/// What both write, into the length that `short_file_bytes` says.
+fn written(elements: &[u64], about: &str) -> Result<Vec<u8>, Refusal> {
+    let (claim, taps) = (claim_of(elements), &elements[4..]);
+    let length = short_file_bytes(taps, claim);
+    assert_eq!(length, second::short::short_file_bytes(taps, claim));
+    let (mut proved, mut other) = (bytes(length), bytes(length));
+    let answer = lemoncolumn::pack_short(taps, claim, &mut proved);
+    let expected = second::pack_short(taps, claim, &mut other);
+    same_verdict(answer, expected, about);
+    assert!(proved.is_guarded() && proved[..] == other[..], "{about}");
+    assert_eq!(proved.is_untouched(), answer.is_err(), "{about}");
+    answer.map(|()| proved.to_vec()).map_err(named)
+}
+
+/// What both read, into so many tap words. What they accept is the file of what they read.
+fn read_into(file: &[u8], destination: usize, about: &str) -> Result<Vec<u64>, Refusal> {
+    let (mut proved, mut other) = (words(destination), words(destination));
+    let answer = lemoncolumn::unpack_short(file, &mut proved);
+    let expected = second::unpack_short(file, &mut other);
+    same_verdict(answer, expected, about);
+    assert!(proved.is_guarded() && proved[..] == other[..], "{about}");
+    assert!(proved.is_untouched() || answer.is_ok(), "{about}");
+    let elements = answer.map(|claim| [&claim, &proved[..]].concat());
+    if let Ok(elements) = &elements {
+        assert_eq!(written(elements, about), Ok(file.to_vec()), "{about}");
+    }
+    elements.map_err(named)
+}
+
+/// The same, with room for the taps that word 0 says, where it says any.
+fn read(file: &[u8], about: &str) -> Result<Vec<u64>, Refusal> {
+    read_into(file, short_batches(file).map_or(0, tap_words), about)
+}
+
+/// A short file, its elements, and the first word of each, with where the next one would
+/// begin.
+struct Day {
+    name: String,
+    k: usize,
+    elements: Vec<u64>,
+    words: Vec<u32>,
+    firsts: Vec<usize>,
+}
+
+impl Day {
+    fn new(seed: u64, k: usize, (name, elements): (&str, Vec<u64>)) -> Day {
+        let mut words = vec![MARK + k as u32];
+        let mut firsts = vec![1];
+        for &element in &elements {
+            words.extend(short_element(element));
+            firsts.push(words.len());
+        }
+        Day {
+            name: format!("seed {seed}: k = {k}, {name}"),
+            k,
+            elements,
+            words,
+            firsts,
+        }
+    }
+
+    fn file(&self) -> Vec<u8> {
+        inputs::files::bytes(&self.words)
+    }
+
+    /// The bytes with the element at `place` written as given.
+    fn with_words(&self, place: usize, element: &[u32]) -> Vec<u8> {
+        let (before, after) = (self.firsts[place], self.firsts[place + 1]);
+        let words = [&self.words[..before], element, &self.words[after..]];
+        inputs::files::bytes(&words.concat())
+    }
+}
+
+/// All small, all large, in turn and any, for each of these k.
+fn days(seed: u64, ks: &[usize]) -> Vec<Day> {
+    let mut random = Random::new(seed);
+    let mut days = vec![];
+    for &k in ks {
+        days.extend(widths(&mut random, k).map(|day| Day::new(seed, k, day)));
+    }
+    days
+}
+
+#[test]
+fn there_and_back() {
+    for seed in seeds("short files, there and back") {
+        for day in days(seed, &PERMITTED) {
+            let about = &day.name;
+            let file = day.file();
+            assert_eq!(short_batches(&file), Some(day.k), "{about}");
+            assert_eq!(written(&day.elements, about), Ok(file.clone()), "{about}");
+            assert_eq!(read(&file, about), Ok(day.elements.clone()), "{about}");
+            let exact = tap_words(day.k);
+            for other in [0, 1, exact - 1, exact + 1, exact + 12] {
+                let refused = Err(Refusal::DestinationLength);
+                assert_eq!(read_into(&file, other, about), refused, "{about}");
+            }
+        }
+    }
+}
+
+/// The short file of a full one: the mark, and of each element whose first two words are
+/// empty the third alone.
+fn shortened(full: &[u8]) -> Vec<u8> {
+    let empty = inputs::files::bytes(&[KIND, 2 * KIND]);
+    let mut short = full[..4].to_vec();
+    short[3] |= (MARK >> 24) as u8;
+    for element in full[4..].chunks(12) {
+        short.extend(element.strip_prefix(&empty[..]).unwrap_or(element));
+    }
+    short
+}
+
+/// What the full edition's readers answer.
+fn read_full(file: &[u8], k: usize, about: &str) -> Result<Vec<u64>, Refusal> {
+    let (mut proved, mut other) = (words(tap_words(k)), words(tap_words(k)));
+    let answer = lemoncolumn::unpack(file, &mut proved);
+    same_verdict(answer, second::unpack(file, &mut other), about);
+    assert!(proved.is_guarded() && proved[..] == other[..], "{about}");
+    let elements = answer.map(|claim| [&claim, &proved[..]].concat());
+    elements.map_err(named)
+}
+
+/// One day, two files, and neither is read as the other: without its mark the short file
+/// is too short for its k, and with a mark the full one has three words for a small
+/// element; where no element is small, the mark alone tells them apart.
+#[test]
+fn full_and_short_of_the_same_day() {
+    for seed in seeds("short files, full and short of the same day") {
+        for day in days(seed, &PERMITTED) {
+            let (about, elements) = (&day.name, &day.elements);
+            let mut full = vec![0; file_bytes(day.k)];
+            let packed = lemoncolumn::pack(&elements[4..], claim_of(elements), &mut full);
+            assert_eq!(packed, Ok(()), "{about}");
+            let mut short = day.file();
+            assert_eq!(short, shortened(&full), "{about}");
+            assert_eq!(read_full(&full, day.k, about), Ok(elements.clone()));
+            assert_eq!(read(&short, about), Ok(elements.clone()), "{about}");
+
+            let refused = Err(Refusal::Value { word: 0 });
+            assert_eq!(read_full(&short, day.k, about), refused, "{about}");
+            let exact = tap_words(day.k);
+            assert_eq!(read_into(&full, exact, about), refused, "{about}");
+
+            let mark = (MARK >> 24) as u8;
+            short[3] -= mark;
+            full[3] += mark;
+            let small = elements.iter().position(|&element| element < 1 << 30);
+            let (as_full, as_short) = match small {
+                None => (Ok(elements.clone()), Ok(elements.clone())),
+                Some(place) => {
+                    let word = 1 + 3 * place as u64;
+                    let long = Refusal::LongElement { word };
+                    (Err(Refusal::FileLength), Err(long))
+                }
+            };
+            assert_eq!(read_full(&short, day.k, about), as_full, "{about}");
+            assert_eq!(read(&full, about), as_short, "{about}");
+        }
+    }
+}
+
+#[test]
+fn every_cut() {
+    for seed in seeds("short files, every cut") {
+        for day in days(seed, &[1, 2, 4]) {
+            let file = day.file();
+            for length in 0..file.len() {
+                let about = format!("{}, {length} bytes", day.name);
+                let cut = &file[..length];
+                let exact = tap_words(day.k);
+                let refused = Refusal::FileLength;
+                assert_eq!(read_into(cut, exact, &about), Err(refused), "{about}");
+                // 8 stands between word 0 and the elements.
+                let no_room = match length {
+                    0..4 => Refusal::FileLength,
+                    _ => Refusal::DestinationLength,
+                };
+                assert_eq!(read_into(cut, exact + 1, &about), Err(no_room), "{about}");
+            }
+        }
+    }
+}
+
+/// Bytes and whole words, small elements and large ones among them.
+#[test]
+fn bytes_after_the_last_element() {
+    let further = inputs::files::bytes(&[3 * KIND, KIND + 2, 2 * KIND + 80, 3 * KIND]);
+    for seed in seeds("short files, bytes after the last element") {
+        for day in days(seed, &PERMITTED) {
+            for more in 1..=further.len() {
+                let about = format!("{}, {more} bytes more", day.name);
+                for tail in [&vec![0; more], &vec![0xff; more], &further[..more]] {
+                    let file = [&day.file(), tail].concat();
+                    let refused = Err(Refusal::FileLength);
+                    assert_eq!(read(&file, &about), refused, "{about}");
+                }
+            }
+        }
+    }
+}
+
+/// What is answered where a word of the file has another kind. A first word of kind 1 in
+/// place of 3, or 3 in place of 1, makes its element longer or shorter, and the word after
+/// is wrong, or the length where there is none; any other word is wrong itself.
+fn refusal_of_kind(day: &Day, word: usize, kind: u32) -> Refusal {
+    let other_width = kind % 2 == 1 && day.firsts.contains(&word);
+    if other_width && word == day.firsts[day.elements.len() - 1] {
+        return Refusal::FileLength;
+    }
+    let wrong = if other_width { word + 1 } else { word };
+    Refusal::Kind { word: wrong as u64 }
+}
+
+#[test]
+fn every_kind_of_every_word() {
+    for seed in seeds("short files, every kind of every word") {
+        for day in days(seed, &[1, 2, 4]) {
+            for (word, turn) in (0..day.words.len()).flat_map(|word| [1, 2, 3].map(|t| (word, t))) {
+                let mut words = day.words.clone();
+                words[word] = words[word].wrapping_add(turn * KIND);
+                let kind = words[word] / KIND;
+                let about = format!("{}, word {word} of kind {kind}", day.name);
+                let file = inputs::files::bytes(&words);
+                let answer = read_into(&file, tap_words(day.k), &about);
+                let refusal = refusal_of_kind(&day, word, kind);
+                assert_eq!(answer, Err(refusal), "{about}");
+            }
+        }
+    }
+}
+
+/// Where one word ends and three begin, where the field ends, and where 64 bits and three
+/// payloads do.
+const ENDS: [u128; 12] = [
+    0,
+    1,
+    (1 << 30) - 1,
+    1 << 30,
+    (1 << 60) - 1,
+    1 << 60,
+    P as u128 - 1,
+    P as u128,
+    (1 << 64) - 1,
+    1 << 64,
+    (1 << 64) + (1 << 30),
+    (1 << 90) - 1,
+];
+
+/// Each element in turn at those ends, in three words, and in one where it fits.
+#[test]
+fn elements_at_the_ends() {
+    for seed in seeds("short files, elements at the ends") {
+        for day in days(seed, &[1, 2]) {
+            for place in 0..day.elements.len() {
+                for end in ENDS {
+                    element_at_an_end(&day, place, end);
+                }
+            }
+        }
+    }
+}
+
+fn element_at_an_end(day: &Day, place: usize, end: u128) {
+    let about = format!("{}, element {place} is {end}", day.name);
+    let word = day.firsts[place] as u64;
+    let is_small = end < 1 << 30;
+    let in_three = read(&day.with_words(place, &element_words(end)), &about);
+    if end >= P as u128 {
+        assert_eq!(in_three, Err(Refusal::Value { word }), "{about}");
+    } else if is_small {
+        assert_eq!(in_three, Err(Refusal::LongElement { word }), "{about}");
+    }
+    let Ok(element) = u64::try_from(end) else {
+        return;
+    };
+    let mut elements = day.elements.clone();
+    elements[place] = element;
+    let file = written(&elements, &about);
+    if element >= P {
+        let refusal = match place {
+            0..4 => claim_word(place),
+            _ => tap_word(place - 4),
+        };
+        assert_eq!(file, Err(refusal), "{about}");
+        return;
+    }
+    let one = [3 * KIND + element as u32 % KIND];
+    let three = element_words(end);
+    let needed = if is_small { &one[..] } else { &three };
+    assert_eq!(file, Ok(day.with_words(place, needed)), "{about}");
+    let answer = read(&file.expect("written"), &about);
+    assert_eq!(answer, Ok(elements), "{about}");
+}
+
+/// Each value of either half of word 0, with the other as it is: one of them is the
+/// file's, and ten say another k.
+#[test]
+fn every_word_0() {
+    for seed in seeds("short files, every word 0") {
+        let mut random = Random::new(seed);
+        let day = Day::new(seed, 1, ("any widths", any_widths(&mut random, 1)));
+        let mut file = day.file();
+        let lower = (0..1 << 16).map(|half: u32| MARK + half);
+        let upper = (0..1 << 16).map(|half: u32| (half << 16) + 1);
+        for word in lower.chain(upper) {
+            let about = format!("{}, word 0 is {word:08x}", day.name);
+            file[..4].copy_from_slice(&word.to_le_bytes());
+            let k = PERMITTED.iter().find(|&&k| MARK + k as u32 == word);
+            let expected = match k {
+                Some(1) => Ok(day.elements.clone()),
+                Some(_) => Err(Refusal::DestinationLength),
+                None if word < KIND => Err(Refusal::Value { word: 0 }),
+                None => Err(Refusal::Kind { word: 0 }),
+            };
+            assert_eq!(read_into(&file, 16, &about), expected, "{about}");
+        }
+    }
+}
+
+/// Each bit of a file changed. The 30 of an element in one word make another small one, and
+/// a bit of three words may make another that is large.
+#[test]
+fn every_bit() {
+    for seed in seeds("short files, every bit") {
+        for day in days(seed, &[1, 2]) {
+            let honest = day.file();
+            let mut accepted = 0;
+            for bit in 0..8 * honest.len() {
+                let about = format!("{}, bit {bit}", day.name);
+                let mut file = honest.clone();
+                file[bit / 8] ^= 1 << (bit % 8);
+                if let Ok(elements) = read_into(&file, tap_words(day.k), &about) {
+                    assert_ne!(elements, day.elements, "{about}");
+                    accepted += 1;
+                }
+            }
+            let small = |&&element: &&u64| element < 1 << 30;
+            let small = day.elements.iter().filter(small).count();
+            assert!(accepted >= 30 * small, "{}: {accepted}", day.name);
+            assert!(accepted < 8 * honest.len(), "{}: {accepted}", day.name);
+        }
+    }
+}
+
+/// Each word left out, and each written twice. That is never accepted, since an element
+/// has one word or three.
+#[test]
+fn words_left_out_and_twice() {
+    for seed in seeds("short files, words left out and twice") {
+        for day in days(seed, &[1, 2]) {
+            for word in 1..day.words.len() {
+                let about = format!("{}, word {word}", day.name);
+                let mut out = day.words.clone();
+                out.remove(word);
+                let mut twice = day.words.clone();
+                twice.insert(word, day.words[word]);
+                for words in [out, twice] {
+                    let file = inputs::files::bytes(&words);
+                    assert!(read(&file, &about).is_err(), "{about}");
+                }
+            }
+        }
+    }
+}
+
+/// Each two words changed about: refused, or the file of another day.
+#[test]
+fn words_changed_about() {
+    for seed in seeds("short files, words changed about") {
+        for day in days(seed, &[1]) {
+            for word in 1..day.words.len() {
+                for other in 1..word {
+                    let about = format!("{}, words {other} and {word}", day.name);
+                    let mut words = day.words.clone();
+                    words.swap(other, word);
+                    let answer = read(&inputs::files::bytes(&words), &about);
+                    let same = words == day.words;
+                    assert_eq!(answer == Ok(day.elements.clone()), same, "{about}");
+                }
+            }
+        }
+    }
+}
+
+/// A tap list of every length up to that of eight batches.
+#[test]
+fn every_length_of_list() {
+    for seed in seeds("short files, every length of list") {
+        let elements = any_widths(&mut Random::new(seed), 8);
+        for count in 0..=100 {
+            let about = format!("seed {seed}: {count} tap words");
+            let packed = written(&elements[..4 + count], &about);
+            let refused = match count {
+                16 | 28 | 52 | 100 => None,
+                _ => Some(Refusal::TapLength),
+            };
+            assert_eq!(packed.err(), refused, "{about}");
+        }
+    }
+}
+
+/// Words of a file whose elements are honest but for a few: words of any kind, small ones
+/// in three words, and those of any 64 bits or more.
+fn any_words(random: &mut Random, k: usize) -> Vec<u32> {
+    let mut words = vec![MARK + k as u32];
+    let rare = random.pick(&[10, 40, 160, 640]);
+    for _ in 0..12 * k + 8 {
+        let wrong = random.one_in(rare);
+        match random.below(3) {
+            0 if wrong => words.push(random.word() as u32),
+            1 if wrong => words.extend(element_words(random.small() as u128)),
+            _ if wrong => words.extend(element_words(random.word() as u128 * 3)),
+            _ => words.extend(short_element(random.small_or_large())),
+        }
+    }
+    words
+}
+
+/// Bytes, by turns any, any after a word 0 that says a k, words as above, and such words
+/// cut or with more bytes.
+fn any_file(random: &mut Random, number: usize, k: usize) -> Vec<u8> {
+    if number % 4 < 2 {
+        let length = random.below(300);
+        let any: Vec<u8> = (0..length).map(|_| random.word() as u8).collect();
+        let head = (MARK + k as u32).to_le_bytes();
+        return [&head[..4 * (number % 4)], &any].concat();
+    }
+    let mut file = inputs::files::bytes(&any_words(random, k));
+    if number % 4 == 3 {
+        let length = file.len() - 12 + random.below(24);
+        file.resize(length, random.word() as u8);
+    }
+    file
+}
+
+/// Each answer has come many times, so that all of them were compared.
+#[test]
+fn random_bytes() {
+    for seed in seeds("short files, random bytes") {
+        let mut random = Random::new(seed);
+        let mut seen = BTreeMap::new();
+        for number in 0..40_000 {
+            let k = random.pick(&[1, 1, 2, 4]);
+            let file = any_file(&mut random, number, k);
+            let about = format!("seed {seed}: file {number}");
+            let answer = match random.one_in(20) {
+                true => read_into(&file, tap_words(k) + 1, &about),
+                false => read(&file, &about),
+            };
+            let answer = answer.map_or_else(Refusal::number, |_| 0);
+            *seen.entry(answer).or_insert(0) += 1;
+        }
+        let numbers: Vec<u64> = seen.keys().copied().collect();
+        assert_eq!(numbers, [0, 8, 12, 13, 14, 18], "seed {seed}: {seen:?}");
+        assert!(seen.values().all(|&count| count >= 200), "{seen:?}");
+    }
+}
