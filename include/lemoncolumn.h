@@ -117,14 +117,19 @@ static inline size_t lemoncolumn_short_file_bytes(const uint64_t *taps, size_t t
     return 4 * (1 + LEMONCOLUMN_DIGEST_WORDS + tap_words + 2 * elements_of_three);
 }
 
+/* The 32-bit word of a file that begins here. */
+static inline uint32_t lemoncolumn_file_word(const uint8_t *bytes)
+{
+    return (uint32_t)bytes[3] << 24 | (uint32_t)bytes[2] << 16 | (uint32_t)bytes[1] << 8 | bytes[0];
+}
+
 /* The k in word 0 of a short file, for whose taps its reader asks room. 0 where these bytes do not begin as a short file does: the reader
  * refuses them whatever the room. */
 static inline size_t lemoncolumn_short_batches(const uint8_t *file, size_t file_bytes)
 {
     if (file_bytes < 4)
         return 0;
-    uint32_t word = (uint32_t)file[3] << 24 | (uint32_t)file[2] << 16 | (uint32_t)file[1] << 8 | file[0];
-    uint32_t k = word ^ LEMONCOLUMN_SHORT_MARK; /* too large where the mark is not set, or any bit above k */
+    uint32_t k = lemoncolumn_file_word(file) ^ LEMONCOLUMN_SHORT_MARK; /* too large where the mark is not set, or any bit above k */
     return (k & (k - 1)) == 0 && k <= LEMONCOLUMN_MOST_BATCHES ? k : 0;
 }
 
@@ -136,6 +141,39 @@ lemoncolumn_code lemoncolumn_pack_short(const uint64_t *taps, size_t tap_words, 
  * 13; 14 and 18 after an element's words; 12 for bytes after the last element. A file of the full edition gets 14 with index 0. */
 lemoncolumn_code lemoncolumn_unpack_short(const uint8_t *file, size_t file_bytes, uint64_t *taps, size_t tap_words, uint64_t *claim,
                                           size_t claim_words);
+
+/* The converters between the editions (document 02, U8), for cradles that read only full files. Bytes of the short file of a full one, the
+ * length that lemoncolumn_to_short asks for: as in the short file of its taps and claim, by the payloads of its words. It answers for any
+ * bytes; 0 where a full file of no k has this length: the converter refuses such bytes whatever the room. */
+static inline size_t lemoncolumn_to_short_bytes(const uint8_t *file, size_t file_bytes)
+{
+    const size_t element_bytes = 12;
+    size_t k = file_bytes / (LEMONCOLUMN_FILE_BYTES(1) - LEMONCOLUMN_FILE_BYTES(0));
+    if (k == 0 || (k & (k - 1)) != 0 || k > LEMONCOLUMN_MOST_BATCHES || LEMONCOLUMN_FILE_BYTES(k) != file_bytes)
+        return 0;
+    size_t elements_of_three = 0;
+    for (size_t i = 4; i < file_bytes; i += element_bytes) {
+        uint32_t above_30_bits = lemoncolumn_file_word(file + i) | lemoncolumn_file_word(file + i + 4);
+        elements_of_three += above_30_bits << 2 != 0; /* without the kinds */
+    }
+    return LEMONCOLUMN_SHORTEST_FILE_BYTES(k) + 8 * elements_of_three;
+}
+
+/* Bytes of the full file of a short one, the length that lemoncolumn_to_full asks for: that of the k in word 0. 0 where these bytes do not
+ * begin as a short file does: the converter refuses them whatever the room. */
+static inline size_t lemoncolumn_to_full_bytes(const uint8_t *short_file, size_t short_file_bytes)
+{
+    size_t k = lemoncolumn_short_batches(short_file, short_file_bytes);
+    return k == 0 ? 0 : LEMONCOLUMN_FILE_BYTES(k);
+}
+
+/* Writes the short file of a full one, with the same claim and taps: 12 (below 4 bytes), 13 of word 0, 19 where it has the mark of a short
+ * file, 14 of word 0, 12, then 13 and 14 of each element, and last 8. */
+lemoncolumn_code lemoncolumn_to_short(const uint8_t *file, size_t file_bytes, uint8_t *short_file, size_t short_file_bytes);
+
+/* Writes the full file of a short one, with the same claim and taps: 12 (below 4 bytes), 13 of word 0, 19 where it has not the mark of a
+ * short file, 14 of word 0, then 12, 13, 14 and 18 as lemoncolumn_unpack_short, and last 8. There and back gives the same bytes. */
+lemoncolumn_code lemoncolumn_to_full(const uint8_t *short_file, size_t short_file_bytes, uint8_t *file, size_t file_bytes);
 
 /* What is turned back (document 01, and document 02 from 15 on). */
 enum lemoncolumn_refusal {
@@ -158,7 +196,8 @@ enum lemoncolumn_refusal {
     LEMONCOLUMN_NO_SUCH_TAP = 15,       /* tap number above 3k */
     LEMONCOLUMN_NO_PAIR = 16,           /* no pair of taps ends in that state */
     LEMONCOLUMN_CLAIM_BATCHES = 17,     /* c is 0 or above k */
-    LEMONCOLUMN_LONG_ELEMENT = 18       /* element below 2^30 in three words of a short file: index of the first */
+    LEMONCOLUMN_LONG_ELEMENT = 18,      /* element below 2^30 in three words of a short file: index of the first */
+    LEMONCOLUMN_SAME_EDITION = 19       /* the file to convert is already in the wanted edition */
 };
 
 /* Bits 0 to 5: the refusal, 0 for acceptance. */

@@ -29,9 +29,9 @@ done >"$work/functions"
 
 # ---- the table of section 6 beside them. Entry points are the operations of documents 01 and 02, the table test, and
 # whatever other languages link
-operations="table::test table::prepare hash::hash hash::chain trace::build checker::check readoff::read_off"
+operations="table::test prepare::prepare hash::hash chain::chain trace::build checker::check readoff::read_off"
 operations="$operations edit::edit unhash::unhash board::pack board::unpack shortboard::pack_short"
-operations="$operations shortboard::unpack_short clearing::clear"
+operations="$operations shortboard::unpack_short toshort::to_short tofull::to_full clearing::clear"
 awk -F '\t' -v operations=" $operations " '
     function bad(text) { print "tests/review.sh: " name ": " text }
     function apart(text) { text = " " text " "; gsub(/[() ]+/, " ", text); return text }

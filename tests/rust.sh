@@ -8,7 +8,9 @@ cd "$(dirname "$0")/.."
 work=$(mktemp -d)
 trap 'rm -rf "$work"' EXIT
 
-# a run for each crate, since cargo does not say whose test it runs
+# built together, on all cores, and then a run for each crate, since cargo does not say whose test it runs
+(cd rust && cargo test --offline --color never --workspace --no-run) >"$work/out" 2>&1 ||
+    { cat "$work/out" >&2 && exit 1; }
 for manifest in rust/*/Cargo.toml; do
     crate=$(basename "$(dirname "$manifest")")
     (cd rust && cargo test --offline --color never -p "$crate") >"$work/out" 2>&1 || { cat "$work/out" >&2 && exit 1; }

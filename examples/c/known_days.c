@@ -1,10 +1,11 @@
 /* The known days of document 01, their hashes with all twelve cells, edits of them, the two taps found again from the last row of a
- * day, a day that closes before its rows end, and a day in the short edition of the board file, through the library for C. Prints one
- * line for each; known_days.expected has what they must be. */
+ * day, a day that closes before its rows end, and a day in the short edition of the board file, converted to the full one and back,
+ * through the library for C. Prints one line for each; known_days.expected has what they must be. */
 #include "lemoncolumn.h"
 
 #include <inttypes.h>
 #include <stdio.h>
+#include <string.h>
 
 /* The refusal, then what is returned with it: for 11 row, constraint and the failing test's place in the order; else an index, if
  * there is one. */
@@ -255,6 +256,44 @@ static void refused_on_the_radio_link(uint8_t *file, size_t bytes, const uint8_t
     show("word 6 of kind 0", unpack_short(file, bytes, 1));
 }
 
+/* What the office does for a depot with older cradles, which read only full files: it converts the short file of `radio`, and back. `full`
+ * is the day as its depot would have packed it. */
+static void converted(const uint8_t *file, size_t bytes, const uint8_t *full)
+{
+    uint8_t cradle[LEMONCOLUMN_FILE_BYTES(1)];
+    uint8_t back[LEMONCOLUMN_FILE_BYTES(1)];
+    size_t cradle_bytes = lemoncolumn_to_full_bytes(file, bytes);
+    show("converted for an older cradle", lemoncolumn_to_full(file, bytes, cradle, cradle_bytes));
+    size_t back_bytes = lemoncolumn_to_short_bytes(cradle, cradle_bytes);
+    show("and back", lemoncolumn_to_short(cradle, cradle_bytes, back, back_bytes));
+    printf("bytes there and back: %zu %zu\n", cradle_bytes, back_bytes);
+    int same = memcmp(cradle, full, cradle_bytes) == 0 && memcmp(back, file, back_bytes) == 0;
+    printf("the same files: %s\n", same ? "yes" : "no");
+    show("a short file to short", lemoncolumn_to_short(file, bytes, back, bytes));
+    show("a full file to full", lemoncolumn_to_full(cradle, cradle_bytes, back, cradle_bytes));
+    show("into the room of a short file", lemoncolumn_to_full(file, bytes, cradle, bytes));
+    cradle[4 * 60 + 3] = 0;
+    show("word 60 of kind 0, into no room", lemoncolumn_to_short(cradle, cradle_bytes, back, 0));
+}
+
+/* The lengths of the short files of zeros in so many bytes, 0 where no full file has them, then of bytes without a 0. */
+static void show_converted_lengths(void)
+{
+    static const size_t lengths[] = {100, 243, 244, 245, 388, 532, 676, 147556, 295012};
+    static uint8_t zeros[295012];
+    uint8_t ones[LEMONCOLUMN_FILE_BYTES(1)];
+    printf("bytes of short files:");
+    for (size_t i = 0; i < sizeof lengths / sizeof *lengths; i++)
+        printf(" %zu", lemoncolumn_to_short_bytes(zeros, lengths[i]));
+    memset(ones, 0xff, sizeof ones);
+    printf(" %zu\n", lemoncolumn_to_short_bytes(ones, sizeof ones));
+    printf("bytes of full files: %zu", lemoncolumn_to_full_bytes(zeros, sizeof zeros));
+    const uint8_t words[][4] = {{1, 0, 0, 0x20}, {0, 4, 0, 0x20}, {0, 8, 0, 0x20}};
+    for (size_t i = 0; i < sizeof words / sizeof *words; i++)
+        printf(" %zu", lemoncolumn_to_full_bytes(words[i], sizeof *words));
+    printf("\n");
+}
+
 /* What k is read in files that begin with these words, as short ones or not. */
 static void show_batches(void)
 {
@@ -297,15 +336,17 @@ static void radio(void)
     show_words("its claim", claim);
     show_words("its w_0", read);
     show("read as a full file", lemoncolumn_unpack(file, bytes, read, LEMONCOLUMN_TAP_WORDS(1), claim, LEMONCOLUMN_DIGEST_WORDS));
+    converted(file, bytes, full);
     refused_on_the_radio_link(file, bytes, full);
     show_batches();
+    show_converted_lengths();
 }
 
 /* The refusals of documents 01 and 02, as the header decodes them. */
 static void indices(void)
 {
     printf("refusals with an index:");
-    for (lemoncolumn_code number = LEMONCOLUMN_ACCEPTED; number <= LEMONCOLUMN_LONG_ELEMENT; number++)
+    for (lemoncolumn_code number = LEMONCOLUMN_ACCEPTED; number <= LEMONCOLUMN_SAME_EDITION; number++)
         if (lemoncolumn_has_index(number))
             printf(" %" PRIu64, number);
     printf("\n");

@@ -29,6 +29,24 @@ fn final_state(table: &[u64], taps: &[u64]) -> Result<[u64; STATE_WORDS], Refusa
     Ok(state)
 }
 
+/// What the office does for a depot with older cradles, which read only full files: it
+/// converts what came over the radio link. The cradle gets the file that was packed, and
+/// back come the bytes of the radio link.
+fn converted(short: &[u8], file: &[u8]) -> Result<(), Refusal> {
+    let mut cradle = vec![0; to_full_bytes(short).unwrap_or(0)];
+    to_full(short, &mut cradle)?;
+    let mut back = vec![0; to_short_bytes(&cradle).unwrap_or(0)];
+    to_short(&cradle, &mut back)?;
+    println!("converted to {} bytes and {}", cradle.len(), back.len());
+    println!("the same files: {}", cradle == file && back == short);
+
+    // The cradle has a full file already.
+    if let Err(refusal) = to_full(file, &mut cradle) {
+        println!("{refusal}: {refusal:?}");
+    }
+    Ok(())
+}
+
 /// A day that closes after three batches. Its trace has four, since k is a power of
 /// two, and the taps of the fourth are filler.
 fn closed_early(table: &[u64]) -> Result<(), Refusal> {
@@ -94,6 +112,7 @@ fn main() -> Result<(), Refusal> {
     let mut filed = vec![0; tap_words(k)];
     let same = unpack(&file, &mut filed)? == claim && filed == list;
     println!("the same board: {same}");
+    converted(&short, &file)?;
     println!("{} tests", check(&table, &trace, claim, k)?);
     let mut read = vec![0; tap_words(k)];
     read_off(&table, &trace, claim, k, &mut read)?;

@@ -4,7 +4,7 @@ use mathlib.Core.Path.{_≡_, sym, ap, _∙_}
 use mathlib.Core.List.{List}
 use Prim.Native.Nat.{ℕ, _+_, _*_, _≤_}
 use native.Mathlib.Omega.{arith}
-use borrow.Author.Tests.{eq-eqb, eqb-true, le-leb}
+use borrow.Author.Tests.{eq-eqb, ne-eqb, eqb-true, le-leb}
 use lib.Dec.{eqb, leb}
 use lib.ListN.{length}
 use Rattle.words.specs.Words.{AllCanonical, firstBad, canonicalWords}
@@ -121,6 +121,15 @@ unpack-complete file k h =
     let count = ap countTest (h .word) ∙ count-complete k (h .permitted) .1 in
     unpack-elements file (12 * k + 4) (omega (arith, h .size)) count (rw b (h .size)) (rw b)
     ∙ rw b (all-accepted file 1 (12 * k + 8) (h .elements))
+
+-- a board file is refused with 8 where the destination has another length than its taps
+pub unpack-no-room : (file : List ℕ) (size k : ℕ) → IsBoard file k → (size ≡ 12 * k + 4 → ⊥)
+    → unpackTest file size ≡ Refused DestinationLength
+unfolding unpackTest
+unpack-no-room file size k h n =
+    let b = batches-is file k h in
+    let count = ap countTest (h .word) ∙ count-complete k (h .permitted) .1 in
+    rw (le-leb 4 (length file) (omega (arith, h .size)), count, b, eq-eqb _ _ (h .size), ne-eqb _ _ n)
 
 -- what is returned: the claim, or the refusal
 pub unpack-returns : (file : List ℕ) (size : ℕ) → unpackTest file size ≡ Accepted

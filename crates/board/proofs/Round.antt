@@ -70,18 +70,19 @@ module _ (taps claim : List ℕ) (k : ℕ) (permitted : IsPermittedTo mostFileBa
 
 -- ---- a board file is that of the claim and the taps that are read
 
+-- its elements: the claim, then the taps
+pub board-elements : (file : List ℕ) → claimIn file ++ tapsIn file ≡ elementsAt file 1 (12 * batchesIn file + 8)
+unfolding claimIn tapsIn
+board-elements file =
+    let n : 4 + (12 * batchesIn file + 4) ≡ 12 * batchesIn file + 8 = omega arith in
+    sym (elements-append file 1 4 (12 * batchesIn file + 4)) ∙ ap (elementsAt file 1) n
+
 module _ (file : List ℕ) (bytes : AllBytes file) (h : IsBoard file (batchesIn file)) where
   k : ℕ
   k = batchesIn file
 
   elements : List ℕ
   elements = elementsAt file 1 (12 * k + 8)
-
-  board-elements : claimIn file ++ tapsIn file ≡ elements
-  unfolding claimIn tapsIn k elements
-  board-elements =
-      let n : 4 + (12 * batchesIn file + 4) ≡ 12 * batchesIn file + 8 = omega arith in
-      sym (elements-append file 1 4 (12 * batchesIn file + 4)) ∙ ap (elementsAt file 1) n
 
   board-words : (j : ℕ) → j < length (countWord k ∷ wordsOf elements)
       → cell (countWord k ∷ wordsOf elements) j ≡ wordAt file j
@@ -95,7 +96,7 @@ module _ (file : List ℕ) (bytes : AllBytes file) (h : IsBoard file (batchesIn 
   pub board-packs : fileOf (tapsIn file) (claimIn file) (batchesIn file) ≡ file
   unfolding fileOf k elements
   board-packs =
-      ap (λ s. bytesOf (countWord k ∷ wordsOf s)) board-elements
+      ap (λ s. bytesOf (countWord k ∷ wordsOf s)) (board-elements file)
       ∙ bytes-unique file (countWord k ∷ wordsOf elements) bytes
       (omega (arith, h .size, length-words elements, length-elements file 1 (12 * k + 8))) board-words
 

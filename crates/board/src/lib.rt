@@ -4,7 +4,7 @@ ghost use mathlib.Core.Path.{_≡_};
 ghost use Prim.Native.Nat.{_+_, _*_, _≤_};
 ghost use lib.ListN.{length};
 ghost use Rattle.numbers.specs.Numbers.{tapWords};
-ghost use Rattle.board.specs.Board.{mostFileBatches, fileOf, fileSize, packTest, packLeaves};
+ghost use Rattle.board.specs.Board.{mostFileBatches, countWord, fileOf, fileSize, packTest, packLeaves};
 ghost use Rattle.board.specs.Board.{countIn, countTest, unpackTest, unpackAnswer, unpackLeaves};
 use elements::Word;
 use numbers::BATCH_TAP_WORDS;
@@ -47,12 +47,20 @@ fn test_pack(taps: &[u64], claim: [u64; 4], size: usize) -> Answer
     Answer::Accepted
 }
 
+// Word 0: k.
+pub fn count_word(k: usize) -> Word
+    requires { ⌜ k ≤ mostFileBatches ⌝ }
+    ensures { λ r. ⌜ r .0 ≡ countWord k ⌝ }
+{
+    Word::join(0, k as u32)
+}
+
 // Word 0, then claim and taps.
 fn write_file(taps: &[u64], claim: [u64; 4], k: usize, destination: &mut [u8])
     requires { ⌜ (k ≤ mostFileBatches) × (length (now taps) ≡ tapWords k) × (length (now destination) ≡ fileSize k) ⌝ }
     ensures { λ _. ⌜ now (destination .exit) ≡ fileOf (now (taps .entry)) claim k ⌝ }
 {
-    Word::join(0, k as u32).write(0, destination);
+    count_word(k).write(0, destination);
     elements::write_all(&claim, 1, destination);
     elements::write_all(taps, 13, destination);
 }
@@ -77,8 +85,8 @@ pub fn count_in(word: Word) -> usize
     (word.0 & 0xffff) as usize
 }
 
-// What reading word 0 finds.
-fn test_count(word: Word) -> Answer
+// What reading word 0 finds: 13, then 14.
+pub fn test_count(word: Word) -> Answer
     ensures { λ r. ⌜ r ≡ countTest (word .0) ⌝ }
 {
     if word.kind() != 0 {
@@ -113,7 +121,7 @@ fn test_unpack(file: &[u8], size: usize) -> Answer
     if size != BATCH_TAP_WORDS * k + TAP_WORDS {
         return Answer::Refused(Refusal::DestinationLength);
     }
-    elements::test_all(file, 1, BATCH_TAP_WORDS * k + EXTRA_ELEMENTS)
+    reading::test_all(file, 1, BATCH_TAP_WORDS * k + EXTRA_ELEMENTS)
 }
 
 // Unpack writes the taps of a board file and returns its claim when all its tests have passed.
@@ -126,11 +134,11 @@ pub fn unpack(file: &[u8], destination: &mut [u64]) -> DigestAnswer
         return DigestAnswer::Refused(of_file.refusal());
     };
     let claim = Digest(
-        elements::read(file, 1),
-        elements::read(file, 4),
-        elements::read(file, 7),
-        elements::read(file, 10),
+        reading::read(file, 1),
+        reading::read(file, 4),
+        reading::read(file, 7),
+        reading::read(file, 10),
     );
-    elements::read_all(file, 13, destination);
+    reading::read_all(file, 13, destination);
     DigestAnswer::Accepted(claim)
 }

@@ -17,7 +17,7 @@ use Rattle.refusals.specs.declared.Refusal.the-variants.{Constraint}
 use Rattle.refusals.specs.declared.Answer.the-variants.{Accepted, Refused}
 use Rattle.table.specs.Table.{IsTable}
 use Rattle.hash.specs.Hash.{chain}
-use Rattle.hash.proofs.FirstTaps.{chain-first}
+use Rattle.chain.proofs.FirstTaps.{chain-first}
 use Rattle.trace.specs.Trace.{trace, row}
 use Rattle.trace.proofs.TraceCells.{length-trace, trace-canonical}
 use Rattle.constraints.specs.Constraints.{Test, applies, holds, tests, constraintTest}

@@ -22,7 +22,8 @@ use Rattle.refusals.specs.Refusals.{digest, digestWords}
 use Rattle.refusals.specs.Answers.{testsAfter}
 use Rattle.refusals.proofs.Laws.{digest-refused}
 use Rattle.table.specs.Table.{IsTable, Prepares}
-use Rattle.table.proofs.Theorems.{test-sound, prepared-accepted, refused-kept}
+use Rattle.table.proofs.Theorems.{test-sound}
+use Rattle.prepare.proofs.Theorems.{prepared-accepted, refused-kept}
 use Rattle.hash.specs.Hash.{chain}
 use Rattle.trace.specs.Trace.{trace}
 use Rattle.trace.specs.Answers.{buildAnswer, buildLeaves}

@@ -15,7 +15,7 @@ use Rattle.refusals.specs.declared.Answer.{Answer}
 use Rattle.refusals.specs.declared.Answer.the-variants as answer
 use Rattle.refusals.proofs.Laws.{not-accepted}
 use Rattle.table.specs.Table.{Prepares}
-use Rattle.table.proofs.Theorems.{prepares-some, prepares-unique}
+use Rattle.prepare.proofs.Theorems.{prepares-some, prepares-unique}
 use Rattle.trace.specs.Trace.{trace}
 use Rattle.constraints.specs.Constraints.{constraintTest}
 use Rattle.board.specs.Board.{claimIn, tapsIn}

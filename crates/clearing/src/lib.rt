@@ -61,7 +61,7 @@ fn prepare(input: &[u8], table: &mut [u64]) -> Answer
 {
     let mut raw = [0u64; table::RAW_WORDS];
     read_table(input, &mut raw);
-    table::prepare(&raw, table)
+    prepare::prepare(&raw, table)
 }
 
 // Room for a prepared table, and for the list and the trace of that many batches.

@@ -1,5 +1,5 @@
 -- Demand 1: each operation refuses with its own numbers only, each call's word says a full result or such a refusal,
--- and a refusal alters no lent buffer. From how each can end (crate `export`, proofs/Endings.antt), and that its word
+-- and a refusal alters no lent buffer. From how each can end (crate `calls`, proofs/Endings.antt), and that its word
 -- loses nothing of its answer (there, proofs/Theorems.antt).
 -- Assumes nothing.
 use mathlib.Core.Path.{_≡_, refl, sym, ap, subst, _∙_}
@@ -25,12 +25,13 @@ use Rattle.refusals.specs.declared.State.{State}
 use Rattle.refusals.proofs.Laws.{passed, both-accepted, digest-refused, state-refused, pair-refused}
 use Rattle.refusals.proofs.Laws.{tests-refused, AnswerEnds}
 use Rattle.table.specs.Table.{Prepares, tableTest}
-use Rattle.table.proofs.Theorems.{prepares-some, prepares-unique, refused-kept}
+use Rattle.prepare.proofs.Theorems.{prepares-some, prepares-unique, refused-kept}
 use Rattle.hash.specs.Hash as rescue
-use Rattle.hash.specs.Answers.{hashTest, hashAnswer, chainTest, chainAnswer}
+use Rattle.hash.specs.Answers.{hashTest, hashAnswer}
 use Rattle.hash.proofs.States.{finalState-state}
 use Rattle.hash.proofs.Inputs.{hash-tap}
-use Rattle.hash.proofs.Answers.{ChainInputs, chain-inputs}
+use Rattle.chain.specs.Answers.{chainTest, chainAnswer}
+use Rattle.chain.proofs.Answers.{ChainInputs, chain-inputs}
 use Rattle.trace.specs.Trace.{trace}
 use Rattle.trace.specs.Answers.{buildAnswer, buildLeaves, buildTest}
 use Rattle.trace.proofs.Answers.{BuildInputs, build-inputs}
@@ -49,27 +50,30 @@ use Rattle.board.proofs.Round.{claim-is}
 use Rattle.shortboard.specs.ShortBoard.{packShortTest, packedShort, packShortLeaves, unpackShortAnswer, unpackShortTest}
 use Rattle.shortboard.specs.ShortBoard.{shortTapsIn, shortClaimIn, unpackShortLeaves}
 use Rattle.shortboard.proofs.Round as short
+use Rattle.toshort.specs.ToShort.{toShortTest, toShortLeaves}
+use Rattle.tofull.specs.ToFull.{toFullTest, toFullLeaves}
 use Rattle.handover.specs.Code.{code as code-of, answerCode, digestCode, stateCode, testsCode}
 use Rattle.handover.specs.HandsOver.{written, HandsOver, writtenState, HandsOverState}
-use Rattle.export.specs.Calls.{PrepareCall, hashCallTest, hashCall}
-use Rattle.export.specs.Calls.{chainCallTest, chainCall, buildCallTest, buildCall, BuildCall, ReadOffCall}
-use Rattle.export.specs.Calls.{editCallTest, editCall, EditCall, unhashCallTest, UnhashCall, PackCall}
-use Rattle.export.specs.Calls.{unpackCallTest, unpackCall, UnpackCall, PackShortCall, unpackShortCallTest}
-use Rattle.export.specs.Calls.{unpackShortCall, UnpackShortCall}
-use Rattle.export.proofs.Answers.{chain-room, build-room}
+use Rattle.calls.specs.Calls.{PrepareCall, hashCallTest, hashCall}
+use Rattle.calls.specs.Calls.{chainCallTest, chainCall, buildCallTest, buildCall, BuildCall, ReadOffCall}
+use Rattle.calls.specs.Calls.{editCallTest, editCall, EditCall, unhashCallTest, UnhashCall, PackCall}
+use Rattle.calls.specs.Calls.{unpackCallTest, unpackCall, UnpackCall, PackShortCall, unpackShortCallTest}
+use Rattle.calls.specs.Calls.{unpackShortCall, UnpackShortCall, ToShortCall, ToFullCall}
+use Rattle.calls.proofs.Answers.{chain-room, build-room}
 use Rattle.handover.proofs.Bits.{RefusalInBits, says, says-accepted}
-use Rattle.export.proofs.Endings as ends
-use Rattle.export.proofs.Endings.{TableCauses}
-use Rattle.export.proofs.Theorems as bits
+use Rattle.calls.proofs.Endings as ends
+use Rattle.calls.proofs.Endings.{TableCauses}
+use Rattle.calls.proofs.Theorems as bits
 use Rattle.demands.specs.Demand1.{Operation, prepare, hash, chain, build, check, read-off, edit, unhash}
-use Rattle.demands.specs.Demand1.{pack, unpack, pack-short, unpack-short}
+use Rattle.demands.specs.Demand1.{pack, unpack, pack-short, unpack-short, to-short, to-full}
 use Rattle.demands.specs.Demand1.{numbers, callNumbers, OneOf, Refuses, prepare-refuses, hash-refuses}
 use Rattle.demands.specs.Demand1.{chain-refuses, build-refuses, check-refuses, read-off-refuses, edit-refuses}
 use Rattle.demands.specs.Demand1.{unhash-refuses, pack-refuses, unpack-refuses, pack-short-refuses}
-use Rattle.demands.specs.Demand1.{unpack-short-refuses, Answered, accepted, refused}
+use Rattle.demands.specs.Demand1.{unpack-short-refuses, to-short-refuses, to-full-refuses}
+use Rattle.demands.specs.Demand1.{Answered, accepted, refused}
 use Rattle.demands.specs.Demand1.{PrepareResult, HashResult, ChainResult, BuildResult, CheckResult, ReadOffResult}
 use Rattle.demands.specs.Demand1.{EditResult, UnhashResult, PackResult, UnpackResult, PackShortResult}
-use Rattle.demands.specs.Demand1.{UnpackShortResult, Demand1}
+use Rattle.demands.specs.Demand1.{UnpackShortResult, ToShortResult, ToFullResult, Demand1}
 use Rattle.refusals.proofs.Returned.{four-words, twelve-words}
 
 -- ---- numbers of a list, by computing
@@ -136,6 +140,18 @@ pack-short-numbers w claim size =
     ends.pack-short-ends (OneOf ns) w claim size (one-of 5 ns refl) (one-of 8 ns refl) (λ i h. one-of 9 ns refl)
     (λ k s p i h. one-of 6 ns refl)
 
+to-short-numbers : (file : List ℕ) (size : ℕ) → AnswerEnds (OneOf (numbers to-short)) (toShortTest file size)
+to-short-numbers file size =
+    let ns = numbers to-short in
+    ends.to-short-ends (OneOf ns) file (one-of 12 ns refl) (λ j h. one-of 13 ns refl) (λ j h. one-of 14 ns refl) size
+    (one-of 19 ns refl) (one-of 8 ns refl)
+
+to-full-numbers : (file : List ℕ) (size : ℕ) → AnswerEnds (OneOf (numbers to-full)) (toFullTest file size)
+to-full-numbers file size =
+    let ns = numbers to-full in
+    ends.to-full-ends (OneOf ns) file (one-of 12 ns refl) (λ j h. one-of 13 ns refl) (λ j h. one-of 14 ns refl)
+    (λ j h. one-of 18 ns refl) size (one-of 19 ns refl) (one-of 8 ns refl)
+
 -- ---- the operations
 numbered : (o : Operation) (r : Refusal) → Refuses o r → OneOf (numbers o) r
 unfolding hashAnswer chainAnswer buildAnswer checkAnswer readOffAnswer editAnswer unhashAnswer unpackAnswer
@@ -175,15 +191,19 @@ numbered o r (pack-short-refuses w claim size q e) =
 numbered o r (unpack-short-refuses file size q e) =
     let ns = numbers unpack-short in
     subst (AnswerEnds (OneOf ns)) (digest-refused (unpackShortTest file size) _ q e)
-    (ends.unpack-short-ends (OneOf ns) file (one-of 12 ns refl) (one-of 8 ns refl) (λ j h. one-of 13 ns refl)
-    (λ j h. one-of 14 ns refl) (λ j h. one-of 18 ns refl) size)
+    (ends.unpack-short-ends (OneOf ns) file (one-of 12 ns refl) (λ j h. one-of 13 ns refl) (λ j h. one-of 14 ns refl)
+    (λ j h. one-of 18 ns refl) size (λ n. one-of 8 ns refl))
+numbered o r (to-short-refuses file size q e) =
+    subst (AnswerEnds (OneOf (numbers to-short))) e (to-short-numbers file size)
+numbered o r (to-full-refuses file size q e) =
+    subst (AnswerEnds (OneOf (numbers to-full))) e (to-full-numbers file size)
 numbered o r (pack-refuses w claim size q e) =
     subst (AnswerEnds (OneOf (numbers pack))) e (pack-numbers w claim size)
 numbered o r (unpack-refuses file size q e) =
     let ns = numbers unpack in
     subst (AnswerEnds (OneOf ns)) (digest-refused (unpackTest file size) _ q e)
-    (ends.unpack-ends (OneOf ns) file (one-of 12 ns refl) (one-of 8 ns refl) (λ j h. one-of 13 ns refl)
-    (λ j h. one-of 14 ns refl) size)
+    (ends.unpack-ends (OneOf ns) file (one-of 12 ns refl) (λ j h. one-of 13 ns refl) (λ j h. one-of 14 ns refl) size
+    (λ n. one-of 8 ns refl))
 
 -- no operation refuses with a number that is none of its own
 never : (o : Operation) (r : Refusal) → among (told r .number) (numbers o) ≡ false → Refuses o r → ⊥
@@ -206,6 +226,8 @@ only-3 pack h = absurd (never pack NoInverse refl h)
 only-3 unpack h = absurd (never unpack NoInverse refl h)
 only-3 pack-short h = absurd (never pack-short NoInverse refl h)
 only-3 unpack-short h = absurd (never unpack-short NoInverse refl h)
+only-3 to-short h = absurd (never to-short NoInverse refl h)
+only-3 to-full h = absurd (never to-full NoInverse refl h)
 
 -- ---- the calls
 
@@ -473,8 +495,8 @@ unpack-call file taps taps′ claim claim′ code h =
     let d = digest (claimIn file) in
     digest-says code ns (UnpackResult file taps′ claim′) ((taps′ ≡ taps) × (claim′ ≡ claim)) t d (h .four .coded)
     (bits.unpack-bits file (length taps) (length claim))
-    (ends.unpack-call-ends (OneOf ns) file (one-of 12 ns refl) (one-of 8 ns refl) (λ j l. one-of 13 ns refl)
-    (λ j l. one-of 14 ns refl) (length taps) (length claim))
+    (ends.unpack-call-ends (OneOf ns) file (one-of 12 ns refl) (λ j l. one-of 13 ns refl) (λ j l. one-of 14 ns refl)
+    (length taps) (length claim) (one-of 8 ns refl))
     (λ e. record {
       none = refl;
       taps-are = h .list ∙ ap (λ x. leaves x (tapsIn file) taps) e;
@@ -508,14 +530,38 @@ unpack-short-call file taps taps′ claim claim′ code h =
     let left : Answer → List ℕ = λ x. leaves x (shortTapsIn file) taps in
     digest-says code ns (UnpackShortResult file taps′ claim′) ((taps′ ≡ taps) × (claim′ ≡ claim)) t d (h .four .coded)
     (bits.unpack-short-bits file (length taps) (length claim))
-    (ends.unpack-short-call-ends (OneOf ns) file (one-of 12 ns refl) (one-of 8 ns refl) (λ j l. one-of 13 ns refl)
-    (λ j l. one-of 14 ns refl) (λ j l. one-of 18 ns refl) (length taps) (length claim))
+    (ends.unpack-short-call-ends (OneOf ns) file (one-of 12 ns refl) (λ j l. one-of 13 ns refl)
+    (λ j l. one-of 14 ns refl) (λ j l. one-of 18 ns refl) (length taps) (length claim) (one-of 8 ns refl))
     (λ e. record {
       none = refl;
       taps-are = h .list ∙ ap left e;
       claim-is = output-new t d code claim claim′ (h .four) e ∙ sym (short.claim-is file d refl);
     })
     (λ r. (h .list ∙ ap left (r .1), output-old t d code claim claim′ (h .four) r))
+
+to-short-call : (file short short′ : List ℕ) (code : ℕ) → ToShortCall file short code short′
+    → Answered code (callNumbers to-short) (ToShortResult file short′) (short′ ≡ short)
+unfolding toShortLeaves
+to-short-call file short short′ code h =
+    let left : Answer → List ℕ = λ x. leaves x (packedShort (tapsIn file) (claimIn file)) short in
+    answer-says code (callNumbers to-short) (ToShortResult file short′) (short′ ≡ short)
+    (toShortTest file (length short)) (h .coded)
+    (bits.to-short-bits file (length short))
+    (to-short-numbers file (length short))
+    (λ e. record { none = refl; short-is = h .short ∙ ap left e })
+    (λ r. h .short ∙ ap left (r .1))
+
+to-full-call : (short file file′ : List ℕ) (code : ℕ) → ToFullCall short file code file′
+    → Answered code (callNumbers to-full) (ToFullResult short file′) (file′ ≡ file)
+unfolding toFullLeaves
+to-full-call short file file′ code h =
+    let left : Answer → List ℕ = λ x. leaves x (packed (shortTapsIn short) (shortClaimIn short)) file in
+    answer-says code (callNumbers to-full) (ToFullResult short file′) (file′ ≡ file)
+    (toFullTest short (length file)) (h .coded)
+    (bits.to-full-bits short (length file))
+    (to-full-numbers short (length file))
+    (λ e. record { none = refl; file-is = h .file ∙ ap left e })
+    (λ r. h .file ∙ ap left (r .1))
 
 -- ---- the demand
 
@@ -525,7 +571,7 @@ kept-old a r e new old = ap (λ x. leaves x new old) e
 
 pub demand-1 : Demand1
 unfolding buildAnswer buildLeaves readOffAnswer readOffLeaves editAnswer editLeaves packLeaves unpackAnswer unpackLeaves
-    packShortLeaves unpackShortAnswer unpackShortLeaves
+    packShortLeaves unpackShortAnswer unpackShortLeaves toShortLeaves toFullLeaves
 demand-1 = record {
   numbered = numbered;
   prepare-never-4 = never-4;
@@ -542,6 +588,8 @@ demand-1 = record {
   pack-short-keeps = λ w claim old r e. kept-old _ r e _ old;
   unpack-short-keeps = λ file old r e.
       kept-old _ r (digest-refused (unpackShortTest file (length old)) _ r e) _ old;
+  to-short-keeps = λ file old r e. kept-old _ r e _ old;
+  to-full-keeps = λ short old r e. kept-old _ r e _ old;
   prepare-call = prepare-call;
   hash-call = hash-call;
   chain-call = chain-call;
@@ -554,4 +602,6 @@ demand-1 = record {
   unpack-call = unpack-call;
   pack-short-call = pack-short-call;
   unpack-short-call = unpack-short-call;
+  to-short-call = to-short-call;
+  to-full-call = to-full-call;
 }

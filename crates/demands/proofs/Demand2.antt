@@ -22,11 +22,13 @@ use Rattle.refusals.proofs.Laws.{digest-accepted, tests-accepted}
 use Rattle.table.specs.Table.{tableTest, IsTable}
 use Rattle.table.proofs.Theorems.{test-sound}
 use Rattle.hash.specs.Hash.{finalState, input, hash, chain, firstTaps}
-use Rattle.hash.specs.Answers.{hashAnswer, chainAnswer}
-use Rattle.hash.proofs.Answers.{ChainInputs, hash-passes, chain-passes}
+use Rattle.hash.specs.Answers.{hashAnswer}
+use Rattle.hash.proofs.Answers.{hash-passes}
 use Rattle.hash.proofs.States.{finalState-state}
 use Rattle.hash.proofs.Inputs.{IsTap, output-tap}
-use Rattle.hash.proofs.FirstTaps.{chain-first}
+use Rattle.chain.specs.Answers.{chainAnswer}
+use Rattle.chain.proofs.Answers.{ChainInputs, chain-passes}
+use Rattle.chain.proofs.FirstTaps.{chain-first}
 use Rattle.trace.specs.Trace.{traceRow, trace, row}
 use Rattle.trace.specs.Answers.{buildTest, buildAnswer, buildLeaves}
 use Rattle.trace.proofs.Answers.{build-inputs}

@@ -8,3 +8,4 @@ pub mod Request4
 pub mod Request5
 pub mod Request6
 pub mod Request7
+pub mod Request8

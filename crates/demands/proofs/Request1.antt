@@ -17,7 +17,7 @@ use Rattle.refusals.proofs.Laws.{digest-accepted, leaves-new}
 use Rattle.table.specs.Table.{IsTable}
 use Rattle.table.proofs.Theorems.{test-complete}
 use Rattle.hash.specs.Hash.{outputAt, chain, firstTaps}
-use Rattle.hash.proofs.FirstTaps.{chain-first}
+use Rattle.chain.proofs.FirstTaps.{chain-first}
 use Rattle.trace.specs.Trace.{trace, row}
 use Rattle.trace.specs.Answers.{buildAnswer, buildLeaves}
 use Rattle.trace.proofs.TraceCells.{length-trace, output-is-tap}

@@ -23,10 +23,12 @@ use Rattle.refusals.proofs.Laws.{digest-accepted, state-accepted}
 use Rattle.table.specs.Table.{tableTest, IsTable}
 use Rattle.table.proofs.Theorems.{test-sound, test-complete}
 use Rattle.hash.specs.Hash.{finalState, input, hash, tap, outputAt, chain}
-use Rattle.hash.specs.Answers.{hashTest, hashAnswer, chainTest, chainAnswer}
+use Rattle.hash.specs.Answers.{hashTest, hashAnswer}
 use Rattle.hash.proofs.States.{finalState-state}
-use Rattle.hash.proofs.FirstTaps.{chain-first}
-use Rattle.hash.proofs.Answers.{hash-inputs, hash-passes, chain-inputs}
+use Rattle.hash.proofs.Answers.{hash-inputs, hash-passes}
+use Rattle.chain.specs.Answers.{chainTest, chainAnswer}
+use Rattle.chain.proofs.FirstTaps.{chain-first}
+use Rattle.chain.proofs.Answers.{chain-inputs}
 use Rattle.trace.specs.Trace.{hashInput, trace, row}
 use Rattle.trace.specs.Answers.{buildTest, buildAnswer, buildLeaves}
 use Rattle.trace.proofs.Answers.{build-inputs}
@@ -36,8 +38,8 @@ use Rattle.exact.specs.Exact.{IsListFor}
 use Rattle.exact.proofs.Built.{end-row}
 use Rattle.rewriting.specs.Edit.{altered}
 use Rattle.edit.specs.Answers.{editAnswer, editLeaves}
-use Rattle.export.specs.Calls.{hashNoRoom, hashCall}
-use Rattle.export.proofs.Answers.{hash-without, hash-answer}
+use Rattle.calls.specs.Calls.{hashNoRoom, hashCall}
+use Rattle.calls.proofs.Answers.{hash-without, hash-answer}
 use Rattle.demands.specs.Request3.{Hashed, HasState, HasOutput, Ends, Request3}
 use Rattle.refusals.proofs.Returned.{four-words, twelve-words}
 use Rattle.demands.proofs.Demand2.{demand-2}

@@ -1,5 +1,5 @@
 -- Request 4: the count in refusal 11 is the failing test's place. From what is known of the lent words where an order
--- of tests ends with 11 (crate `export`, proofs/Endings.antt), from the walk and the places of the tests (crate
+-- of tests ends with 11 (crate `calls`, proofs/Endings.antt), from the walk and the places of the tests (crate
 -- `constraints`, proofs/WalkLaws.antt and TestPlace.antt), and that a word loses nothing of its answer.
 -- Assumes nothing.
 use mathlib.Core.Path.{_≡_, refl, sym, ap, _∙_, subst, subst₃}
@@ -38,12 +38,12 @@ use Rattle.readoff.proofs.Theorems.{same-answer}
 use Rattle.edit.specs.Answers.{editTest, editAnswer}
 use Rattle.edit.proofs.Answers.{same-test}
 use Rattle.handover.specs.Code.{code as code-of, testsCode, numberIn, constraintIn, rowIn, valueIn, Says}
-use Rattle.export.specs.Calls.{ReadOffCall, editCallTest, editCall, EditCall}
-use Rattle.export.proofs.Answers.{edit-room}
+use Rattle.calls.specs.Calls.{ReadOffCall, editCallTest, editCall, EditCall}
+use Rattle.calls.proofs.Answers.{edit-room}
 use Rattle.handover.proofs.Bits.{RefusalInBits, says}
-use Rattle.export.proofs.Endings as ends
-use Rattle.export.proofs.Endings.{TableCauses}
-use Rattle.export.proofs.Theorems as bits
+use Rattle.calls.proofs.Endings as ends
+use Rattle.calls.proofs.Endings.{TableCauses}
+use Rattle.calls.proofs.Theorems as bits
 use Rattle.demands.specs.Request4.{eleven, Reached, Counted, Request4}
 use Rattle.demands.proofs.Demand1.{digest-none}
 

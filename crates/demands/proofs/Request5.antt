@@ -48,11 +48,11 @@ use Rattle.unhash.specs.Unhash.{inputBefore, tapsBefore, endsInZeros}
 use Rattle.unhash.specs.Answers.{unhashTest, unhashAnswer}
 use Rattle.unhash.proofs.Theorems.{taps-size, answered-hash, hash-answered, answered-or-16, other-input}
 use Rattle.handover.specs.Code.{refusalCode, answerCode}
-use Rattle.export.specs.Calls.{hashNoRoom, unhashCallTest, UnhashCall}
-use Rattle.export.proofs.Answers.{hash-no-room-refuses, unhash-room, unhash-without}
+use Rattle.calls.specs.Calls.{hashNoRoom, unhashCallTest, UnhashCall}
+use Rattle.calls.proofs.Answers.{hash-no-room-refuses, unhash-room, unhash-without}
 use Rattle.handover.proofs.Bits.{zero-accepts}
-use Rattle.export.proofs.Endings as ends
-use Rattle.export.proofs.Theorems.{unhash-bits}
+use Rattle.calls.proofs.Endings as ends
+use Rattle.calls.proofs.Theorems.{unhash-bits}
 use Rattle.demands.specs.Request3.{Ends}
 use Rattle.demands.specs.Request5.{EndsIn, GivesBack, Request5}
 use Rattle.demands.proofs.Demand2.{demand-2}

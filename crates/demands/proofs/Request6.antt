@@ -1,5 +1,5 @@
 -- Request 6: claims that end before the rows do. From the order of the tests for every c (crate `constraints`,
--- proofs/ClaimRow.antt), what is known where an order of tests ends with 17 (crate `export`, proofs/Endings.antt), and
+-- proofs/ClaimRow.antt), what is known where an order of tests ends with 17 (crate `calls`, proofs/Endings.antt), and
 -- demands 2 and 3.
 -- Assumes nothing.
 use mathlib.Core.Path.{_≡_, refl, sym, ap, _∙_, subst}
@@ -28,7 +28,7 @@ use Rattle.refusals.proofs.Laws.{AnswerEnds, digest-refused, tests-refused, tes
 use Rattle.table.specs.Table.{tableTest}
 use Rattle.table.proofs.Theorems.{test-complete}
 use Rattle.hash.specs.Hash.{chain, firstTaps}
-use Rattle.hash.proofs.FirstTaps.{chain-first}
+use Rattle.chain.proofs.FirstTaps.{chain-first}
 use Rattle.trace.specs.Trace.{row}
 use Rattle.constraints.specs.Constraints.{tests, constraintTest}
 use Rattle.constraints.specs.ReadOff.{readTaps}
@@ -44,11 +44,11 @@ use Rattle.edit.specs.Answers.{editTest, editAnswer}
 use Rattle.exact.specs.Exact.{IsListFor}
 use Rattle.exact.proofs.Exactness.{reads-that-list}
 use Rattle.handover.specs.Code.{code as code-of, testsCode, numberIn, Says}
-use Rattle.export.specs.Calls.{ReadOffCall, editCallTest, editCall, EditCall}
+use Rattle.calls.specs.Calls.{ReadOffCall, editCallTest, editCall, EditCall}
 use Rattle.handover.proofs.Bits.{RefusalInBits, says}
-use Rattle.export.proofs.Endings as ends
-use Rattle.export.proofs.Endings.{TableCauses}
-use Rattle.export.proofs.Theorems as bits
+use Rattle.calls.proofs.Endings as ends
+use Rattle.calls.proofs.Endings.{TableCauses}
+use Rattle.calls.proofs.Theorems as bits
 use Rattle.demands.specs.Request6.{row31, claimPlace, OutOfRange, Request6}
 use Rattle.demands.proofs.Demand1.{digest-none}
 use Rattle.demands.proofs.Demand2.{output-is-tap, shown}

@@ -27,10 +27,10 @@ use Rattle.shortboard.proofs.Theorems as short
 use Rattle.handover.specs.Code.{refusalCode, answerCode, digestCode}
 use Rattle.handover.specs.HandsOver.{written}
 use Rattle.handover.proofs.Bits.{zero-accepts, zero-returns}
-use Rattle.export.specs.Calls.{PackShortCall, unpackShortCallTest, unpackShortCall, UnpackShortCall}
-use Rattle.export.proofs.Answers.{unpack-short-room, unpack-short-without, no-short-list-refuses}
-use Rattle.export.proofs.Answers.{unpack-short-answer, unpack-short-left}
-use Rattle.export.proofs.Theorems as bits
+use Rattle.calls.specs.Calls.{PackShortCall, unpackShortCallTest, unpackShortCall, UnpackShortCall}
+use Rattle.calls.proofs.Answers.{unpack-short-room, unpack-short-without, no-short-list-refuses}
+use Rattle.calls.proofs.Answers.{unpack-short-answer, unpack-short-left}
+use Rattle.calls.proofs.Theorems as bits
 use Rattle.demands.specs.Request7.{IsShortDay, Request7}
 
 -- ---- there and back
@@ -65,7 +65,7 @@ packed-left : (taps claim old : List ℕ) → packShortTest taps claim (length o
 unfolding packShortLeaves
 packed-left taps claim old e = ap (λ a. leaves a (packedShort taps claim) old) e
 
-taps-left : (file old : List ℕ) (d : Digest) → unpackShortAnswer file (length old) ≡ Accepted d
+pub taps-left : (file old : List ℕ) (d : Digest) → unpackShortAnswer file (length old) ≡ Accepted d
     → unpackShortLeaves file old ≡ shortTapsIn file
 unfolding unpackShortAnswer unpackShortLeaves
 taps-left file old d e =
@@ -175,7 +175,7 @@ module _ (file taps taps′ claim claim′ : List ℕ) (code : ℕ) (called : Un
     asked = unpackShortCallTest file (length taps) (length claim)
 
     -- what it hands over where it has room for the claim and accepts with d
-    reader-hands : (d : Digest) → length claim ≡ 4 → unpackShortAnswer file (length taps) ≡ Accepted d
+    pub reader-hands : (d : Digest) → length claim ≡ 4 → unpackShortAnswer file (length taps) ≡ Accepted d
         → (code ≡ 0) × (taps′ ≡ unpackShortLeaves file taps) × (claim′ ≡ digestWords d)
     unfolding digestCode
     reader-hands d four e =
@@ -194,7 +194,7 @@ module _ (file taps taps′ claim claim′ : List ℕ) (code : ℕ) (called : Un
     )
 
     -- where its word is 0, both had room
-    reader-accepts : code ≡ 0
+    pub reader-accepts : code ≡ 0
         → (length claim ≡ 4) × (unpackShortAnswer file (length taps) ≡ Accepted (digest (shortClaimIn file)))
     unfolding unpackShortCall
     reader-accepts zero = go (ℕ-discrete (length claim) 4)

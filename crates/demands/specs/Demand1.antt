@@ -18,7 +18,8 @@ use Rattle.refusals.specs.declared.PairAnswer.the-variants as pair
 use Rattle.refusals.specs.declared.TestsAnswer.the-variants as tests
 use Rattle.table.specs.Table.{Prepares}
 use Rattle.hash.specs.Hash as rescue
-use Rattle.hash.specs.Answers.{hashAnswer, chainAnswer}
+use Rattle.hash.specs.Answers.{hashAnswer}
+use Rattle.chain.specs.Answers.{chainAnswer}
 use Rattle.trace.specs.Trace.{trace}
 use Rattle.trace.specs.Answers.{buildAnswer, buildLeaves}
 use Rattle.constraints.specs.ReadOff.{readTaps}
@@ -30,13 +31,16 @@ use Rattle.unhash.specs.Answers.{unhashAnswer}
 use Rattle.board.specs.Board.{packTest, packed, packLeaves, unpackAnswer, tapsIn, claimIn, unpackLeaves}
 use Rattle.shortboard.specs.ShortBoard.{packShortTest, packedShort, packShortLeaves, unpackShortAnswer, shortTapsIn}
 use Rattle.shortboard.specs.ShortBoard.{shortClaimIn, unpackShortLeaves}
+use Rattle.toshort.specs.ToShort.{toShortTest, toShortLeaves}
+use Rattle.tofull.specs.ToFull.{toFullTest, toFullLeaves}
 use Rattle.handover.specs.Code.{Says, testsCode}
 use Rattle.handover.specs.HandsOver.{HandsOver, HandsOverState}
-use Rattle.export.specs.Calls.{PrepareCall, hashCall, chainCall, BuildCall, ReadOffCall}
-use Rattle.export.specs.Calls.{EditCall, UnhashCall, PackCall, UnpackCall, PackShortCall, UnpackShortCall}
+use Rattle.calls.specs.Calls.{PrepareCall, hashCall, chainCall, BuildCall, ReadOffCall}
+use Rattle.calls.specs.Calls.{EditCall, UnhashCall, PackCall, UnpackCall, PackShortCall, UnpackShortCall}
+use Rattle.calls.specs.Calls.{ToShortCall, ToFullCall}
 
 -- ---- the operations, and the numbers that each can return, in the order of their tests (document 01, "What is
--- turned back"; document 02 for Edit, Unhash, 17 and the short edition)
+-- turned back"; document 02 for Edit, Unhash, 17, the short edition and the converters)
 
 pub data Operation : Type 0 where
   prepare : Operation
@@ -51,6 +55,8 @@ pub data Operation : Type 0 where
   unpack : Operation
   pack-short : Operation
   unpack-short : Operation
+  to-short : Operation
+  to-full : Operation
 
 abbrev pub numbers : Operation → List ℕ
 numbers prepare = 1 ∷ 8 ∷ 2 ∷ 3 ∷ []
@@ -65,6 +71,8 @@ numbers pack = 5 ∷ 8 ∷ 9 ∷ 6 ∷ []
 numbers unpack = 12 ∷ 13 ∷ 14 ∷ 8 ∷ []
 numbers pack-short = 5 ∷ 8 ∷ 9 ∷ 6 ∷ []
 numbers unpack-short = 12 ∷ 13 ∷ 14 ∷ 8 ∷ 18 ∷ []
+numbers to-short = 12 ∷ 13 ∷ 19 ∷ 14 ∷ 8 ∷ []
+numbers to-full = 12 ∷ 13 ∷ 19 ∷ 14 ∷ 18 ∷ 8 ∷ []
 
 -- from another language four words, Unhash's eight and Hash's twelve go to a destination too, whose length is tested
 -- where 8 stands
@@ -81,6 +89,8 @@ callNumbers pack = numbers pack
 callNumbers unpack = numbers unpack
 callNumbers pack-short = numbers pack-short
 callNumbers unpack-short = numbers unpack-short
+callNumbers to-short = numbers to-short
+callNumbers to-full = numbers to-full
 
 -- the refusal's number is one of these
 abbrev pub OneOf : List ℕ → Refusal → Type 0
@@ -106,6 +116,10 @@ pub data Refuses : Operation → Refusal → Type 0 where
       → Refuses pack-short r
   unpack-short-refuses : (file : List ℕ) (size : ℕ) (r : Refusal) → unpackShortAnswer file size ≡ digest.Refused r
       → Refuses unpack-short r
+  to-short-refuses : (file : List ℕ) (size : ℕ) (r : Refusal) → toShortTest file size ≡ answer.Refused r
+      → Refuses to-short r
+  to-full-refuses : (file : List ℕ) (size : ℕ) (r : Refusal) → toFullTest file size ≡ answer.Refused r
+      → Refuses to-full r
 
 -- ---- a call from another language: what the word says that it returns
 
@@ -185,6 +199,14 @@ pub record UnpackShortResult (file taps claim : List ℕ) (tests : ℕ) : Type 0
   pub taps-are : taps ≡ shortTapsIn file
   pub claim-is : claim ≡ shortClaimIn file
 
+pub record ToShortResult (file short : List ℕ) (tests : ℕ) : Type 0 where
+  pub none : tests ≡ 0
+  pub short-is : short ≡ packedShort (tapsIn file) (claimIn file)
+
+pub record ToFullResult (short file : List ℕ) (tests : ℕ) : Type 0 where
+  pub none : tests ≡ 0
+  pub file-is : file ≡ packed (shortTapsIn short) (shortClaimIn short)
+
 -- ---- the demand
 
 pub record Demand1 : Type 0 where
@@ -213,6 +235,10 @@ pub record Demand1 : Type 0 where
       → packShortLeaves w claim old ≡ old
   pub unpack-short-keeps : (file old : List ℕ) (r : Refusal) → unpackShortAnswer file (length old) ≡ digest.Refused r
       → unpackShortLeaves file old ≡ old
+  pub to-short-keeps : (file old : List ℕ) (r : Refusal) → toShortTest file (length old) ≡ answer.Refused r
+      → toShortLeaves file old ≡ old
+  pub to-full-keeps : (short old : List ℕ) (r : Refusal) → toFullTest short (length old) ≡ answer.Refused r
+      → toFullLeaves short old ≡ old
   -- the calls: whatever words and lengths are lent, with `′` on what a buffer holds afterwards
   pub prepare-call : (raw table table′ : List ℕ) (code : ℕ) → PrepareCall raw table code table′
       → Answered code (callNumbers prepare) (PrepareResult raw table table′) (table′ ≡ table)
@@ -249,3 +275,7 @@ pub record Demand1 : Type 0 where
       → UnpackShortCall file code taps taps′ claim claim′
       → Answered code (callNumbers unpack-short) (UnpackShortResult file taps′ claim′)
       ((taps′ ≡ taps) × (claim′ ≡ claim))
+  pub to-short-call : (file short short′ : List ℕ) (code : ℕ) → ToShortCall file short code short′
+      → Answered code (callNumbers to-short) (ToShortResult file short′) (short′ ≡ short)
+  pub to-full-call : (short file file′ : List ℕ) (code : ℕ) → ToFullCall short file code file′
+      → Answered code (callNumbers to-full) (ToFullResult short file′) (file′ ≡ file)

@@ -18,7 +18,8 @@ use Rattle.refusals.specs.declared.StateAnswer.the-variants as final
 use Rattle.refusals.specs.declared.TestsAnswer.the-variants as tests
 use Rattle.table.specs.Table.{tableTest}
 use Rattle.hash.specs.Hash.{finalState, input, hash, chain, firstTaps}
-use Rattle.hash.specs.Answers.{hashAnswer, chainAnswer}
+use Rattle.hash.specs.Answers.{hashAnswer}
+use Rattle.chain.specs.Answers.{chainAnswer}
 use Rattle.trace.specs.Trace.{trace, row}
 use Rattle.trace.specs.Answers.{buildAnswer, buildLeaves}
 use Rattle.readoff.specs.Answers.{readOffAnswer, readOffLeaves}

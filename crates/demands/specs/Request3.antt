@@ -19,13 +19,14 @@ use Rattle.refusals.specs.declared.StateAnswer.{StateAnswer}
 use Rattle.refusals.specs.declared.StateAnswer.the-variants as final
 use Rattle.table.specs.Table.{tableTest}
 use Rattle.hash.specs.Hash.{finalState, input, hash, tap, outputAt}
-use Rattle.hash.specs.Answers.{hashAnswer, chainAnswer}
+use Rattle.hash.specs.Answers.{hashAnswer}
+use Rattle.chain.specs.Answers.{chainAnswer}
 use Rattle.trace.specs.Trace.{row}
 use Rattle.trace.specs.Answers.{buildAnswer, buildLeaves}
 use Rattle.exact.specs.Exact.{IsListFor}
 use Rattle.rewriting.specs.Edit.{altered}
 use Rattle.edit.specs.Answers.{editAnswer, editLeaves}
-use Rattle.export.specs.Calls.{hashCall}
+use Rattle.calls.specs.Calls.{hashCall}
 
 -- what is promised of the state s that Hash returns for the taps a and b
 pub record Hashed (T a b : List ℕ) (s : State) : Type 0 where

@@ -21,7 +21,7 @@ use Rattle.checker.specs.Answers.{checkAnswer}
 use Rattle.readoff.specs.Answers.{readOffAnswer}
 use Rattle.edit.specs.Answers.{editAnswer}
 use Rattle.handover.specs.Code.{Says, testsCode}
-use Rattle.export.specs.Calls.{ReadOffCall, EditCall}
+use Rattle.calls.specs.Calls.{ReadOffCall, EditCall}
 
 -- refusal 11 with row i, constraint q and the count n
 abbrev pub eleven : ℕ → ℕ → ℕ → Refusal

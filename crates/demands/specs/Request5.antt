@@ -32,7 +32,7 @@ use Rattle.checker.specs.Answers.{checkAnswer}
 use Rattle.exact.specs.Exact.{IsListFor}
 use Rattle.unhash.specs.Answers.{unhashAnswer}
 use Rattle.handover.specs.Code.{refusalCode, answerCode}
-use Rattle.export.specs.Calls.{UnhashCall}
+use Rattle.calls.specs.Calls.{UnhashCall}
 
 -- Hash of these eight words, two taps, ends in the state s, in all twelve cells: so it accepts them, and the taps are
 -- canonical

@@ -26,7 +26,7 @@ use Rattle.checker.specs.Answers.{checkAnswer}
 use Rattle.readoff.specs.Answers.{readOffAnswer}
 use Rattle.edit.specs.Answers.{editAnswer}
 use Rattle.handover.specs.Code.{Says, testsCode}
-use Rattle.export.specs.Calls.{ReadOffCall, EditCall}
+use Rattle.calls.specs.Calls.{ReadOffCall, EditCall}
 
 -- row 31 of batch b
 abbrev pub row31 : ℕ → ℕ

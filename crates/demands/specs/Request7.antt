@@ -23,7 +23,7 @@ use Rattle.shortboard.specs.ShortBoard.{mostShortBatches, shortFileSize, packSh
 use Rattle.shortboard.specs.ShortBoard.{markIn, shortSpareIn, unpackShortAnswer, unpackShortLeaves, ThreeForOne}
 use Rattle.shortboard.specs.ShortBoard.{FirstFault}
 use Rattle.handover.specs.Code.{refusalCode, digestCode}
-use Rattle.export.specs.Calls.{PackShortCall, UnpackShortCall}
+use Rattle.calls.specs.Calls.{PackShortCall, UnpackShortCall}
 
 -- taps of k batches, k permitted, and a claim, of words below p: what a short file is of
 pub record IsShortDay (taps claim : List ℕ) (k : ℕ) : Type 0 where

@@ -12,7 +12,7 @@ use lib.Pow.{shr-shr}
 use lib.Seq.{sets, length-take-le}
 use Rattle.lists.specs.Lists.{cell, each}
 use Rattle.lists.proofs.Each.{each-append, each-next, length-each, cell-each}
-use Rattle.lists.proofs.Stores.{sets-append}
+use Rattle.lists.proofs.Stores.{sets-append, sets-all}
 use Rattle.elements.specs.Words.{joined, kindOf, payloadOf, wordBytes, wordAt, bytesOf}
 use Rattle.elements.specs.Elements.{elementWords, wordsOf, elementOf, elementAt}
 use Rattle.elements.proofs.Shifts.{above}
@@ -63,6 +63,13 @@ pub write-one : (l l₁ : List ℕ) (j a b : ℕ) → a ≡ b → l₁ ≡ sets 
     → l₁ ≡ sets l (4 * j) (bytesOf (b ∷ []))
 unfolding each
 write-one l l₁ j a b e p = p ∙ rw e
+
+-- word 0 and all words after it, in a destination that they fill
+pub write-file : (l l₁ l₂ ws : List ℕ) (v w : ℕ) → length l ≡ 4 * (1 + length ws) → v ≡ w
+    → l₁ ≡ sets l 0 (wordBytes v) → l₂ ≡ sets l₁ 4 (bytesOf ws) → l₂ ≡ bytesOf (w ∷ ws)
+write-file l l₁ l₂ ws v w size e p q =
+    write-on l l₁ l₂ (w ∷ []) ws 0 1 refl (write-one l l₁ 0 v w e p) q
+    ∙ sets-all l (bytesOf (w ∷ ws)) (length-bytes (w ∷ ws) ∙ omega (arith, size))
 
 -- ---- lists of elements
 three-words : (x : ℕ) → length (elementWords x) ≡ 3

@@ -78,26 +78,29 @@ module _ (file : List ℕ) (j : ℕ) (xs : List ℕ) (all : AllCanonical xs)
   unfolding elementsAt
   read-back = sym (tab-unique (length xs) xs (λ i. elementAt file (j + 3 * i)) refl (λ i h. sym (element i h .1)))
 
+-- n elements that are read, and each of them
+pub length-elements : (file : List ℕ) (j n : ℕ) → length (elementsAt file j n) ≡ n
+unfolding elementsAt
+length-elements file j n = length-tab n (λ i. elementAt file (j + 3 * i))
+
+pub cell-elements : (file : List ℕ) (j n i : ℕ) → i < n → cell (elementsAt file j n) i ≡ elementAt file (j + 3 * i)
+unfolding elementsAt
+cell-elements file j n i h = cell-tab n (λ i. elementAt file (j + 3 * i)) i h
+
 -- where n elements from word j on are accepted, their words are the file's
 pub words-back : (file : List ℕ) (j n : ℕ) → ((i : ℕ) → i < n → IsElement file (j + 3 * i)) → (m : ℕ) → m < 3 * n
     → cell (wordsOf (elementsAt file j n)) m ≡ wordAt file (j + m)
-unfolding elementsAt
 words-back file j n h m l =
     let i : ℕ = m / 3 in
     let t : ℕ = m % 3 in
     let e : m ≡ 3 * i + t = omega arith in
     let f : j + 3 * i + t ≡ j + m = omega arith in
     let b : t < 3 = mod-lt m (omega arith) in
-    let s = length-tab n (λ i. elementAt file (j + 3 * i)) in
     ap (cell (wordsOf (elementsAt file j n))) e
-    ∙ cell-words (elementsAt file j n) i t (omega (arith, s)) b
-    ∙ ap (λ x. cell (elementWords x) t) (cell-tab n (λ i. elementAt file (j + 3 * i)) i (omega arith))
+    ∙ cell-words (elementsAt file j n) i t (omega (arith, length-elements file j n)) b
+    ∙ ap (λ x. cell (elementWords x) t) (cell-elements file j n i (omega arith))
     ∙ three-words file (j + 3 * i) (h i (omega arith)) t b
     ∙ ap (wordAt file) f
-
-pub length-elements : (file : List ℕ) (j n : ℕ) → length (elementsAt file j n) ≡ n
-unfolding elementsAt
-length-elements file j n = length-tab n (λ i. elementAt file (j + 3 * i))
 
 -- n elements, and m more
 pub elements-append : (file : List ℕ) (j n m : ℕ)
@@ -113,7 +116,6 @@ elements-append file j n m =
 -- accepted elements are canonical
 pub elements-canonical : (file : List ℕ) (j n : ℕ) → ((i : ℕ) → i < n → IsElement file (j + 3 * i))
     → AllCanonical (elementsAt file j n)
-unfolding elementsAt
 elements-canonical file j n h i l =
-    let b : i < n = omega (arith, length-tab n (λ i. elementAt file (j + 3 * i))) in
-    rw (cell-tab n (λ i. elementAt file (j + 3 * i)) i b) (h i b .value)
+    let b : i < n = omega (arith, length-elements file j n) in
+    rw (cell-elements file j n i b) (h i b .value)

@@ -16,7 +16,7 @@ use Rattle.refusals.specs.Answers.{testsAfter}
 use Rattle.refusals.proofs.Laws.{tests-accepted}
 use Rattle.table.specs.Table.{IsTable}
 use Rattle.hash.specs.Hash.{chain, firstTaps}
-use Rattle.hash.proofs.FirstTaps.{chain-first}
+use Rattle.chain.proofs.FirstTaps.{chain-first}
 use Rattle.trace.specs.Trace.{trace}
 use Rattle.constraints.specs.Constraints.{tests, constraintTest}
 use Rattle.constraints.specs.FirstFailing.{AllHold, IsFirstFailing}

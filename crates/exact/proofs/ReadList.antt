@@ -17,7 +17,7 @@ use Rattle.table.specs.Table.{IsTable}
 use Rattle.hash.specs.Hash.{outputAt, chain, middleState, finalState}
 use Rattle.hash.proofs.States.{state-cell, same-state, same-cells}
 use Rattle.hash.proofs.Inputs.{by-fours, cell-take, cell-tap, output-zero}
-use Rattle.hash.proofs.FirstTaps.{chain-first}
+use Rattle.chain.proofs.FirstTaps.{chain-first}
 use Rattle.trace.specs.Trace.{hashInput, traceRow, trace}
 use Rattle.trace.proofs.RowKinds.{RowKind, start, middle, end, row-kind, row-start, row-middle, row-end}
 use Rattle.trace.proofs.TraceCells.{length-trace, cell-trace, next-output, output-is-tap, hashInput-state}

@@ -1,23 +1,19 @@
 // The library for other languages: each operation over numbers and slices, its answer in one returned number (crate
-// `handover`). A slice is passed as a pointer and a length. A refusal alters no lent buffer here either.
+// `handover`). What each call answers and leaves is said in crate `calls`. A slice is passed as a pointer and a length.
+// A refusal alters no lent buffer here either.
 ghost use mathlib.Core.Path.{_≡_};
 ghost use mathlib.Core.List.{[], _∷_};
 ghost use lib.ListN.{length};
 ghost use Rattle.checker.specs.Answers.{checkAnswer};
 ghost use Rattle.handover.specs.Code.{testsCode};
 ghost use Rattle.handover.specs.HandsOver.{HandsOver, HandsOverState};
-ghost use Rattle.export.specs.Calls.{interface, PrepareCall, hashNoRoom, hashCall, chainNoRoom, chainCall};
-ghost use Rattle.export.specs.Calls.{BuildCall, ReadOffCall, editNoRoom, EditCall, UnhashCall, PackCall};
-ghost use Rattle.export.specs.Calls.{UnpackCall, PackShortCall, UnpackShortCall};
-use numbers::BATCH_WORDS;
-use numbers::BatchCount;
-use numbers::MOST_BATCHES;
+ghost use Rattle.calls.specs.Calls.{interface, PrepareCall, hashCall, chainCall, BuildCall, ReadOffCall, EditCall};
+ghost use Rattle.calls.specs.Calls.{UnhashCall, PackCall, UnpackCall, PackShortCall, UnpackShortCall, ToShortCall};
+ghost use Rattle.calls.specs.Calls.{ToFullCall};
 use numbers::PAIR_WORDS;
 use numbers::TapNumber;
 use numbers::WIDTH;
-use refusals::Answer;
 use refusals::PairAnswer;
-use refusals::Refusal;
 
 // Raised with LEMONCOLUMN_INTERFACE of include/lemoncolumn.h.
 const INTERFACE: u64 = 3;
@@ -35,18 +31,7 @@ pub extern "C" fn lemoncolumn_interface() -> u64
 pub extern "C" fn lemoncolumn_prepare(raw: &[u64], destination: &mut [u64]) -> u64
     ensures { λ r. ⌜ PrepareCall (now (raw .entry)) (now (destination .entry)) r (now (destination .exit)) ⌝ }
 {
-    handover::answer_code(table::prepare(raw, destination))
-}
-
-// What Hash and Unhash refuse where what they return finds no room: 1, 2, 4, 8.
-fn hash_no_room(table: &[u64]) -> Answer
-    ensures { λ r. ⌜ r ≡ hashNoRoom (now (table .entry)) ⌝ }
-{
-    let of_table = table::test(table);
-    let Answer::Accepted = of_table else {
-        return of_table;
-    };
-    Answer::Refused(Refusal::DestinationLength)
+    handover::answer_code(prepare::prepare(raw, destination))
 }
 
 // Hash: 1, 2, 4, 8, 6.
@@ -68,23 +53,9 @@ pub extern "C" fn lemoncolumn_hash(
         (now (output .entry)) (now (output .exit)) ⌝ }
 {
     if output.len() != WIDTH {
-        return handover::answer_code(hash_no_room(table));
+        return handover::answer_code(calls::hash_no_room(table));
     }
     handover::hand_over_state(hash::hash(table, [w0, w1, w2, w3, w4, w5, w6, w7]), output)
-}
-
-// What Chain and Build refuse where their output finds no room: 1, 2, 4, 5, 8.
-fn chain_no_room(table: &[u64], taps: &[u64]) -> Answer
-    ensures { λ r. ⌜ r ≡ chainNoRoom (now (table .entry)) (now (taps .entry)) ⌝ }
-{
-    let of_table = table::test(table);
-    let Answer::Accepted = of_table else {
-        return of_table;
-    };
-    let BatchCount::Permitted(_) = numbers::tap_batches(MOST_BATCHES, taps.len()) else {
-        return Answer::Refused(Refusal::TapLength);
-    };
-    Answer::Refused(Refusal::DestinationLength)
 }
 
 // Chain: 1, 2, 4, 5, 8, 6.
@@ -94,9 +65,9 @@ pub extern "C" fn lemoncolumn_chain(table: &[u64], taps: &[u64], output: &mut [u
         (now (output .entry)) (now (output .exit)) ⌝ }
 {
     if output.len() != 4 {
-        return handover::answer_code(chain_no_room(table, taps));
+        return handover::answer_code(calls::chain_no_room(table, taps));
     }
-    handover::hand_over(hash::chain(table, taps), output)
+    handover::hand_over(chain::chain(table, taps), output)
 }
 
 // Build: 1, 2, 4, 5, 8, 6.
@@ -111,7 +82,7 @@ pub extern "C" fn lemoncolumn_build(
         (now (output .entry)) (now (output .exit)) ⌝ }
 {
     if output.len() != 4 {
-        return handover::answer_code(chain_no_room(table, taps));
+        return handover::answer_code(calls::chain_no_room(table, taps));
     }
     handover::hand_over(trace::build(table, taps, trace), output)
 }
@@ -151,20 +122,6 @@ pub extern "C" fn lemoncolumn_read_off(
     handover::tests_code(readoff::read_off(table, trace, [c0, c1, c2, c3], c, taps))
 }
 
-// What Edit refuses where its output finds no room: 1, 2, 4, 7, 17, 15, 8.
-fn edit_no_room(table: &[u64], trace: &[u64], c: usize, tap: usize) -> Answer
-    ensures { λ r. ⌜ r ≡ editNoRoom (now (table .entry)) (now (trace .entry)) c tap ⌝ }
-{
-    let opening = checker::test_opening(table, trace, c);
-    let Answer::Accepted = opening else {
-        return opening;
-    };
-    if 3 * (trace.len() / BATCH_WORDS) < tap {
-        return Answer::Refused(Refusal::NoSuchTap);
-    }
-    Answer::Refused(Refusal::DestinationLength)
-}
-
 // Edit: 1, 2, 4, 7, 17, 15, 8, 9, 10, 6, 11.
 #[no_mangle]
 pub extern "C" fn lemoncolumn_edit(
@@ -186,7 +143,7 @@ pub extern "C" fn lemoncolumn_edit(
         (w0 ∷ w1 ∷ w2 ∷ w3 ∷ []) r (now (trace .exit)) (now (output .entry)) (now (output .exit)) ⌝ }
 {
     if output.len() != 4 {
-        return handover::answer_code(edit_no_room(table, trace, c, tap));
+        return handover::answer_code(calls::edit_no_room(table, trace, c, tap));
     }
     handover::hand_over(
         edit::edit(
@@ -224,7 +181,7 @@ pub extern "C" fn lemoncolumn_unhash(
         (now (pair .entry)) (now (pair .exit)) ⌝ }
 {
     if pair.len() != PAIR_WORDS {
-        return handover::answer_code(hash_no_room(table));
+        return handover::answer_code(calls::hash_no_room(table));
     }
     match unhash::unhash(table, [s0, s1, s2, s3, s4, s5, s6, s7, s8, s9, s10, s11]) {
         PairAnswer::Accepted(found) => {
@@ -289,4 +246,22 @@ pub extern "C" fn lemoncolumn_unpack_short(file: &[u8], taps: &mut [u64], claim:
         return handover::digest_code(shortboard::unpack_short(file, &mut taps[..0]));
     }
     handover::hand_over(shortboard::unpack_short(file, taps), claim)
+}
+
+// From the full edition to the short one: 12 (below 4), word 0's 13, 19, 14, 12, then each element's 13 and 14, and
+// last 8.
+#[no_mangle]
+pub extern "C" fn lemoncolumn_to_short(file: &[u8], short: &mut [u8]) -> u64
+    ensures { λ r. ⌜ ToShortCall (now (file .entry)) (now (short .entry)) r (now (short .exit)) ⌝ }
+{
+    handover::answer_code(toshort::to_short(file, short))
+}
+
+// From the short edition to the full one: 12 (below 4), word 0's 13, 19, 14, then element by element 12 where the input
+// ends, 13, 14, 18, and 12 for bytes after the last, and last 8.
+#[no_mangle]
+pub extern "C" fn lemoncolumn_to_full(short: &[u8], file: &mut [u8]) -> u64
+    ensures { λ r. ⌜ ToFullCall (now (short .entry)) (now (file .entry)) r (now (file .exit)) ⌝ }
+{
+    handover::answer_code(tofull::to_full(short, file))
 }

@@ -12,7 +12,7 @@ use Rattle.refusals.specs.declared.Refusal.{Refusal}
 use Rattle.refusals.specs.declared.Refusal.the-variants.{TableLength, TableWord, NoInverse, WrongInverse, TapLength}
 use Rattle.refusals.specs.declared.Refusal.the-variants.{TapWord, TraceLength, DestinationLength, ClaimWord, TraceWord}
 use Rattle.refusals.specs.declared.Refusal.the-variants.{Constraint, FileLength, WrongKind, WrongValue, NoSuchTap}
-use Rattle.refusals.specs.declared.Refusal.the-variants.{NoPair, ClaimBatches, LongElement}
+use Rattle.refusals.specs.declared.Refusal.the-variants.{NoPair, ClaimBatches, LongElement, SameEdition}
 use Rattle.refusals.specs.declared.Answer.{Answer}
 use Rattle.refusals.specs.declared.Answer.the-variants as answer
 use Rattle.refusals.specs.declared.Digest.{Digest}
@@ -65,6 +65,7 @@ some-number NoSuchTap = refl
 some-number NoPair = refl
 some-number ClaimBatches = refl
 some-number (LongElement i) = refl
+some-number SameEdition = refl
 
 refusal-some : (r : Refusal) → RefusalInBits r → refusalCode r ≡ 0 → ⊥
 refusal-some r b e = eqb-false _ _ (some-number r) (sym (says (told r) b .number) ∙ ap numberIn e)

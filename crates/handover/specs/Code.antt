@@ -1,7 +1,7 @@
 -- The number that an operation returns to another language: one word with fixed bits for what is told of a refusal,
 -- or for acceptance. Bits 0 to 5 hold the refusal's number, 0 for acceptance; bits 6 to 11 the constraint; bits 12 to
 -- 35 the row; bits 36 to 63 the index, or the tests. Each part is cut to its bits; that no answer loses anything by
--- it is shown in crate `export`, proofs/Theorems.antt.
+-- it is shown in crate `calls`, proofs/Theorems.antt.
 -- Assumes nothing.
 use mathlib.Core.Path.{_≡_}
 use Prim.Native.Nat.{ℕ, _+_, _*_, _/_, _%_, _^_}

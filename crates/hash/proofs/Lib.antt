@@ -1,6 +1,5 @@
 pub mod States
 pub mod Inputs
-pub mod FirstTaps
 pub mod CodeStates
-pub mod CodeChain
+pub mod CodeInput
 pub mod Answers

@@ -13,10 +13,10 @@ use Rattle.lists.proofs.Tab.{length-tab, cell-tab}
 use Rattle.field.specs.Field.{P, Canonical}
 use Rattle.field.proofs.Power.{big}
 use Rattle.words.specs.Words.{AllCanonical}
-use Rattle.matrix.specs.Matrix.{timesColumn, identity, Inverse, Kernel, entry}
+use Rattle.matrix.specs.Matrix.{timesColumn, identity, Inverse, Kernel, entry, IsInverse}
 use Rattle.matrix.proofs.Linear.{identity-same, identity-other, identity-lt, times-ext, product-ext}
 use Rattle.matrix.proofs.Dichotomy.{Invertible, inverse-unique, not-both}
-use Rattle.inverse.specs.Inversion.{IsInverse, Inverts}
+use Rattle.inverse.specs.Inversion.{Inverts}
 use Rattle.inverse.specs.EliminationHelpers.{at, beside, started, rightHalf, Working, Zeros, Reduces, Stuck}
 use Rattle.inverse.specs.EliminationHelpers.{Eliminated}
 use Rattle.inverse.proofs.Elimination.{beside-left, beside-right, finished, stuck}

@@ -5,16 +5,8 @@ use mathlib.Core.Path.{_≡_}
 use mathlib.Core.Bool.{Bool, true, false}
 use mathlib.Core.List.{List}
 use Prim.Native.Nat.{ℕ}
-use lib.ListN.{length}
-use Rattle.words.specs.Words.{AllCanonical}
 use Rattle.numbers.specs.Numbers.{width}
-use Rattle.matrix.specs.Matrix.{matrixWords, entry, Inverse, Kernel}
-
--- n is the inverse of m, which m determines
-pub record IsInverse (m n : List ℕ) : Type 0 where
-  pub size : length n ≡ matrixWords
-  pub canonical : AllCanonical n
-  pub inverse : Inverse width (entry m) (entry n)
+use Rattle.matrix.specs.Matrix.{entry, Kernel, IsInverse}
 
 -- what an inversion answers and leaves in its buffer: yes and the inverse, or no and the buffer as it was, where m
 -- takes some non-zero column to zeros

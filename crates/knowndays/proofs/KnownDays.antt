@@ -31,9 +31,10 @@ use Rattle.table.specs.Table.{tableTest}
 use Rattle.table.proofs.Theorems.{test-sound}
 use Rattle.hash.specs.Hash.{roots, cubes, plus, mix, firstStep, secondStep, stateAt, finalState, input, hash, tap}
 use Rattle.hash.specs.Hash.{outputAt, chain}
-use Rattle.hash.specs.Answers.{hashTest, hashAnswer, chainTest, chainAnswer}
+use Rattle.hash.specs.Answers.{hashTest, hashAnswer}
 use Rattle.hash.proofs.Answers.{hash-passes}
 use Rattle.hash.proofs.Inputs.{IsTap}
+use Rattle.chain.specs.Answers.{chainTest, chainAnswer}
 use Rattle.trace.specs.Trace.{row}
 use Rattle.constraints.specs.Constraints.{plusFirst, forward, minus, backStep, back, families, ofFamily, applies, holds}
 use Rattle.constraints.specs.Constraints.{between, rowTests, testsFrom, tests, walk, constraintTest}

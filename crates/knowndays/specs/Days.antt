@@ -17,7 +17,8 @@ use Rattle.refusals.specs.declared.StateAnswer.the-variants as final
 use Rattle.refusals.specs.declared.TestsAnswer.the-variants as tests
 use Rattle.table.specs.Table.{rawWords, tableWords, tableTest, Prepares}
 use Rattle.hash.specs.Hash.{tap}
-use Rattle.hash.specs.Answers.{hashAnswer, chainAnswer}
+use Rattle.hash.specs.Answers.{hashAnswer}
+use Rattle.chain.specs.Answers.{chainAnswer}
 use Rattle.constraints.specs.FirstFailing.{placeOf}
 use Rattle.checker.specs.Answers.{checkAnswer}
 use Rattle.readoff.specs.Answers.{readOffAnswer, readOffLeaves}

@@ -4,8 +4,10 @@ use mathlib.Core.Path.{_≡_}
 use mathlib.Core.List.{List}
 use Prim.Native.Nat.{ℕ, _+_, _*_, _%_, _<_}
 use lib.Dec.{eqb}
+use lib.ListN.{length}
 use Rattle.lists.specs.Lists.{choose, cell, tab, sum}
 use Rattle.field.specs.Field.{P, Canonical}
+use Rattle.words.specs.Words.{AllCanonical}
 use Rattle.numbers.specs.Numbers.{width}
 
 -- cell i of a matrix of n columns times a column
@@ -42,3 +44,9 @@ entry m i j = cell m (width * i + j)
 
 unfoldable pub times : List ℕ → List ℕ → List ℕ
 times m s = tab width (timesColumn width (entry m) (cell s))
+
+-- n is the inverse of m, which m determines
+pub record IsInverse (m n : List ℕ) : Type 0 where
+  pub size : length n ≡ matrixWords
+  pub canonical : AllCanonical n
+  pub inverse : Inverse width (entry m) (entry n)

@@ -65,10 +65,16 @@ pub tests-refused : (a : Answer) (n : ℕ) (r : Refusal) → testsAfter a n ≡ 
 tests-refused Accepted n r q = absurd (let z : _≡_ {A = ℕ} 0 1 = cc in omega arith)
 tests-refused (Refused s) n r q = cc
 
+-- ---- tests, and then more of them
+pub after-unless : (b : Bool) (r : Refusal) (a rest : Answer) → after (unless b r a) rest ≡ unless b r (after a rest)
+after-unless true r a rest = refl
+after-unless false r a rest = refl
+
+pub after-after : (a b rest : Answer) → after (after a b) rest ≡ after a (after b rest)
+after-after Accepted b rest = refl
+after-after (Refused r) b rest = refl
+
 -- ---- what a function answers, from what it found: an answer o is that of the tests, one after the other
-one-test : (b : Bool) (r : Refusal) (rest : Answer) → after (unless b r Accepted) rest ≡ unless b r rest
-one-test true r rest = refl
-one-test false r rest = refl
 
 module _ {o : Answer} where
   pub unless-refused : {b : Bool} {r : Refusal} (rest : Answer) → b ≡ false → o ≡ Refused r → o ≡ unless b r rest
@@ -87,10 +93,10 @@ module _ {o : Answer} where
   -- a is what one test alone answered
   module _ (b : Bool) (r : Refusal) {a : Answer} (e : a ≡ unless b r Accepted) where
     pub one-test-refused : {s : Refusal} (rest : Answer) → a ≡ Refused s → o ≡ Refused s → o ≡ unless b r rest
-    one-test-refused rest q p = after-refused rest (p ∙ sym q ∙ e) p ∙ one-test b r rest
+    one-test-refused rest q p = after-refused rest (p ∙ sym q ∙ e) p ∙ after-unless b r Accepted rest
 
     pub one-test-passed : {rest : Answer} → a ≡ Accepted → o ≡ rest → o ≡ unless b r rest
-    one-test-passed {rest} q p = after-accepted e q p ∙ one-test b r rest
+    one-test-passed {rest} q p = after-accepted e q p ∙ after-unless b r Accepted rest
 
 -- and what follows from a, which is what the tests t answered
 module _ {a t : Answer} (e : a ≡ t) where

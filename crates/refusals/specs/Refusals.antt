@@ -8,7 +8,7 @@ use Rattle.refusals.specs.declared.Refusal.the-variants.{TableLength, Ta
 use Rattle.refusals.specs.declared.Refusal.the-variants.{TapLength, TapWord, TraceLength, DestinationLength}
 use Rattle.refusals.specs.declared.Refusal.the-variants.{ClaimWord, TraceWord, Constraint, FileLength}
 use Rattle.refusals.specs.declared.Refusal.the-variants.{WrongKind, WrongValue, NoSuchTap, NoPair}
-use Rattle.refusals.specs.declared.Refusal.the-variants.{ClaimBatches, LongElement}
+use Rattle.refusals.specs.declared.Refusal.the-variants.{ClaimBatches, LongElement, SameEdition}
 use Rattle.refusals.specs.declared.Particulars.{Particulars}
 use Rattle.refusals.specs.declared.Digest.{Digest}
 use Rattle.refusals.specs.declared.State.{State}
@@ -43,6 +43,7 @@ told NoSuchTap = alone 15
 told NoPair = alone 16
 told ClaimBatches = alone 17
 told (LongElement i) = indexed 18 i
+told SameEdition = alone 19
 
 -- the first four cells of a list, as an output, a claim or a tap is returned
 abbrev pub digest : List ℕ → Digest

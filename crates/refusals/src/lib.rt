@@ -30,6 +30,7 @@ pub enum Refusal {
     NoPair,
     ClaimBatches,
     LongElement(usize),
+    SameEdition,
 }
 
 // What is told of a refusal: its number, and how many values come with it: none, an index (`value`), or row, constraint
@@ -100,10 +101,11 @@ pub fn told(refusal: Refusal) -> Particulars
         Refusal::NoPair => alone(16),
         Refusal::ClaimBatches => alone(17),
         Refusal::LongElement(i) => indexed(18, i),
+        Refusal::SameEdition => alone(19),
     }
 }
 
-// The answer of the tests that an operation begins with, and of Prepare and the writers of board files.
+// The answer of the tests that an operation begins with, and of Prepare, the writers of board files and the converters.
 pub enum Answer {
     Accepted,
     Refused(Refusal),

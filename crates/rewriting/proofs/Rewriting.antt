@@ -16,8 +16,8 @@ use Rattle.refusals.specs.Refusals.{digest}
 use Rattle.hash.specs.Hash.{input, tap, outputAt, chain, firstTaps}
 use Rattle.hash.proofs.States.{same-cells}
 use Rattle.hash.proofs.Inputs.{cell-tap, tap-is-tap, output-zero, output-tap}
-use Rattle.hash.proofs.FirstTaps.{chain-first}
-use Rattle.hash.proofs.Answers.{digest-take}
+use Rattle.chain.proofs.FirstTaps.{chain-first}
+use Rattle.chain.proofs.Answers.{digest-take}
 use Rattle.trace.specs.Trace.{row, hashInput, traceRow, trace}
 use Rattle.trace.specs.RowHelpers.{withRows, rowsBefore}
 use Rattle.trace.proofs.TraceCells.{traceRow-state, length-trace, trace-canonical, last-row-output}

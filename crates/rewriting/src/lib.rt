@@ -44,7 +44,7 @@ fn last_before(
     ensures { λ r. ⌜ r ≡ lastBefore (now (table .entry)) (now (trace .entry)) (tap .0) words ⌝ }
 {
     if tap.0 == 0 {
-        return hash::chain_start(&words);
+        return chain::chain_start(&words);
     }
     readoff::read_input(inverse, table, trace, tap.hash())
 }
@@ -70,7 +70,7 @@ pub fn rewrite(
     for h in start..hashes {
         let hash = HashNumber(h);
         let next = next_tap(inverse, table, trace, hash, tap, words);
-        let input = hash::next_input(state, next);
+        let input = chain::next_input(state, next);
         let last = trace::write_hash(table, hash, input, trace);
         state = last;
     }

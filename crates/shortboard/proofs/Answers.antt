@@ -204,6 +204,15 @@ unpack-complete file k h =
     unpack-elements file (tapWords k) k (reads-on file k h)
     ∙ all-accepted file 1 (elementCount k) (record { elements = h .elements; ends = h .ends })
 
+-- a short file is refused with 8 where the destination has another length than its taps
+pub unpack-no-room : (file : List ℕ) (size k : ℕ) → IsShortBoard file k → (size ≡ tapWords k → ⊥)
+    → unpackShortTest file size ≡ Refused DestinationLength
+unfolding unpackShortTest
+unpack-no-room file size k h n =
+    let b = batches-is file k h in
+    let count = ap shortCountTest (h .word) ∙ count-complete k (h .permitted) .1 in
+    rw (le-leb 4 (length file) (h .four), count, b, ne-eqb _ _ n)
+
 -- what is returned: the claim, or the refusal
 pub unpack-returns : (file : List ℕ) (size : ℕ) → unpackShortTest file size ≡ Accepted
     → unpackShortAnswer file size ≡ digest-answer.Accepted (digest (shortClaimIn file))

@@ -2,8 +2,8 @@
 ghost use mathlib.Core.Path.{_≡_};
 ghost use Prim.Native.Nat.{_≤_};
 ghost use lib.ListN.{length};
-ghost use Rattle.shortboard.specs.ShortBoard.{mostShortBatches, shortFileOf, shortFileSize, packShortTest};
-ghost use Rattle.shortboard.specs.ShortBoard.{packShortLeaves, shortCountTest, unpackShortTest};
+ghost use Rattle.shortboard.specs.ShortBoard.{mostShortBatches, shortCountWord, shortFileOf, shortFileSize};
+ghost use Rattle.shortboard.specs.ShortBoard.{packShortTest, packShortLeaves, shortCountTest, unpackShortTest};
 ghost use Rattle.shortboard.specs.ShortBoard.{unpackShortAnswer, unpackShortLeaves};
 use board::EXTRA_ELEMENTS;
 use elements::Word;
@@ -42,12 +42,20 @@ fn test_pack(taps: &[u64], claim: [u64; 4], size: usize) -> Answer
     Answer::Accepted
 }
 
+// Word 0: the mark beside k.
+pub fn count_word(k: usize) -> Word
+    requires { ⌜ k ≤ mostShortBatches ⌝ }
+    ensures { λ r. ⌜ r .0 ≡ shortCountWord k ⌝ }
+{
+    Word::join(0, MARK | (k as u32))
+}
+
 // Word 0, then claim and taps.
 fn write_file(taps: &[u64], claim: [u64; 4], k: usize, destination: &mut [u8])
     requires { ⌜ (k ≤ mostShortBatches) × (length (now destination) ≡ shortFileSize (now taps) claim) ⌝ }
     ensures { λ _. ⌜ now (destination .exit) ≡ shortFileOf (now (taps .entry)) claim k ⌝ }
 {
-    Word::join(0, MARK | (k as u32)).write(0, destination);
+    count_word(k).write(0, destination);
     let after_claim = shortwords::write_all(&claim, 1, destination);
     shortwords::write_all(taps, after_claim, destination);
 }
@@ -67,7 +75,7 @@ pub fn pack_short(taps: &[u64], claim: [u64; 4], destination: &mut [u8]) -> Answ
 }
 
 // What reading word 0 finds: 13, then 14. Bits 16 to 29 are the mark alone.
-fn test_count(word: Word) -> Answer
+pub fn test_count(word: Word) -> Answer
     ensures { λ r. ⌜ r ≡ shortCountTest (word .0) ⌝ }
 {
     if word.kind() != 0 {

@@ -204,13 +204,21 @@ stands-read-all file j (x ∷ xs) all s =
       ends = rest .ends ∙ omega (arith, first .next, length-append (shortWords x) (shortWordsOf xs));
     }
 
+-- n elements that are read, and each of them
+pub length-shorts : (file : List ℕ) (j n : ℕ) → length (shortsAt file j n) ≡ n
+unfolding shortsAt
+length-shorts file j n = length-tab n (λ i. shortAt file (firstWord file j i))
+
+pub cell-shorts : (file : List ℕ) (j n i : ℕ) → i < n → cell (shortsAt file j n) i ≡ shortAt file (firstWord file j i)
+unfolding shortsAt
+cell-shorts file j n i h = cell-tab n (λ i. shortAt file (firstWord file j i)) i h
+
 -- where n elements from word j on are accepted, they are canonical
 pub shorts-canonical : (file : List ℕ) (j n : ℕ) → ((i : ℕ) → i < n → IsShortElement file (firstWord file j i))
     → AllCanonical (shortsAt file j n)
-unfolding shortsAt
 shorts-canonical file j n h i l =
-    let b : i < n = omega (arith, length-tab n (λ i. shortAt file (firstWord file j i))) in
-    rw (cell-tab n (λ i. shortAt file (firstWord file j i)) i b) (written file (firstWord file j i) (h i b) .canonical)
+    let b : i < n = omega (arith, length-shorts file j n) in
+    rw (cell-shorts file j n i b) (written file (firstWord file j i) (h i b) .canonical)
 
 -- and their words are the file's
 pub record WrittenAll (file : List ℕ) (j n : ℕ) : Type 0 where
@@ -235,11 +243,7 @@ written-all file j (suc n) h is =
       ends = later .ends ∙ omega (arith, first .next, length-append (shortWords (shortAt file j)) ws);
     }
 
--- ---- n elements, and m more
-pub length-shorts : (file : List ℕ) (j n : ℕ) → length (shortsAt file j n) ≡ n
-unfolding shortsAt
-length-shorts file j n = length-tab n (λ i. shortAt file (firstWord file j i))
-
+-- n elements, and m more
 pub shorts-append : (file : List ℕ) (j n m : ℕ)
     → shortsAt file j (n + m) ≡ shortsAt file j n ++ shortsAt file (firstWord file j n) m
 unfolding shortsAt

@@ -36,11 +36,11 @@ fn test_whole(file: &[u8], index: usize) -> Answer
     requires { ⌜ (4 * index + 12 ≤ length (now file)) × (eqb (kindOf (wordAt (now file) index)) 3 ≡ false) ⌝ }
     ensures { λ r. ⌜ r ≡ shortTest (now (file .entry)) index ⌝ }
 {
-    let of_element = elements::test(file, index);
+    let of_element = reading::test(file, index);
     let Answer::Accepted = of_element else {
         return of_element;
     };
-    if shortwords::is_small(elements::read(file, index)) {
+    if shortwords::is_small(reading::read(file, index)) {
         return Answer::Refused(Refusal::LongElement(index));
     }
     Answer::Accepted
@@ -65,13 +65,13 @@ fn test(file: &[u8], index: usize) -> Answer
 }
 
 // An element that was read, and the word after it.
-struct Element {
-    value: u64,
-    next: usize,
+pub struct Element {
+    pub value: u64,
+    pub next: usize,
 }
 
 // The element whose first word is word `index`, once its test has accepted it. Both passes over a file go on by this.
-fn read(file: &[u8], index: usize) -> Element
+pub fn read(file: &[u8], index: usize) -> Element
     requires { ⌜ shortTest (now file) index ≡ answer.Accepted ⌝ }
     ensures { λ r. ⌜ (r .value ≡ shortAt (now (file .entry)) index) × (r .next ≡ nextWord (now (file .entry)) index) ⌝ }
 {
@@ -83,7 +83,7 @@ fn read(file: &[u8], index: usize) -> Element
         };
     }
     Element {
-        value: elements::read(file, index),
+        value: reading::read(file, index),
         next: index + 3,
     }
 }

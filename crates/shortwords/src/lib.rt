@@ -28,7 +28,7 @@ const MOST_UPPER: u64 = (1 << UPPER_BITS) - 1;
 
 // 0 where one word holds the element, else 1: its upper bits are not all zero, so that the most that they can be, added
 // to them, carries. With sums in the place of comparisons the compiler takes several elements at a time.
-fn takes_three(element: u64) -> u64
+pub fn takes_three(element: u64) -> u64
     ensures { λ r. ⌜ r ≡ choose (isSmall element) 0 1 ⌝ }
 {
     ((element >> Word::PAYLOAD_BITS) + MOST_UPPER) >> UPPER_BITS
@@ -62,7 +62,7 @@ fn write_first(element: u64, index: usize, destination: &mut [u8]) -> usize
 }
 
 // The element becomes the words from `index` on. Answers the word after it. One word or three, the last is the same.
-fn write(element: u64, index: usize, destination: &mut [u8]) -> usize
+pub fn write(element: u64, index: usize, destination: &mut [u8]) -> usize
     requires { ⌜ 4 * (index + length (shortWords element)) ≤ length (now destination) ⌝ }
     ensures { λ r. ⌜ r ≡ index + length (shortWords element) ⌝ }
     ensures { λ _. ⌜ now (destination .exit)

@@ -1,4 +1,3 @@
 pub mod Parts
 pub mod Tested
-pub mod Prepared
 pub mod Theorems

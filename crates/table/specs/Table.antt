@@ -9,8 +9,7 @@ use lib.ListN.{length, take, drop}
 use Rattle.lists.specs.Lists.{first}
 use Rattle.words.specs.Words.{AllCanonical, firstBad}
 use Rattle.numbers.specs.Numbers.{width}
-use Rattle.matrix.specs.Matrix.{matrixWords, entry, product, identity, Inverse, Kernel}
-use Rattle.inverse.specs.Inversion.{IsInverse}
+use Rattle.matrix.specs.Matrix.{matrixWords, entry, product, identity, Inverse, Kernel, IsInverse}
 use Rattle.refusals.specs.declared.Refusal.{Refusal}
 use Rattle.refusals.specs.declared.Refusal.the-variants.{TableLength, TableWord, NoInverse, WrongInverse}
 use Rattle.refusals.specs.declared.Refusal.the-variants.{DestinationLength}

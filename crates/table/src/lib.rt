@@ -1,4 +1,4 @@
-// The table: its test and Prepare (document 01, "The table").
+// The table and its test (document 01, "The table").
 ghost use mathlib.Core.Path.{_≡_};
 ghost use Prim.Native.Nat.{_/_, _%_, _<_};
 ghost use lib.ListN.{length};
@@ -7,9 +7,9 @@ ghost use Rattle.field.specs.Field.{Canonical};
 ghost use Rattle.words.specs.Words.{AllCanonical};
 ghost use Rattle.numbers.specs.Numbers.{width};
 ghost use Rattle.matrix.specs.Matrix.{matrixWords, entry, product, identity};
-ghost use Rattle.table.specs.Table.{rawWords, tableWords, matrixOf, inverseOf};
+ghost use Rattle.table.specs.Table.{tableWords, matrixOf, inverseOf};
 ghost use Rattle.table.specs.Table.{constant, initialConstant, firstStepConstant, secondStepConstant};
-ghost use Rattle.table.specs.Table.{firstUnlike, tableTest, IsTable, prepared, Prepares};
+ghost use Rattle.table.specs.Table.{firstUnlike, tableTest, IsTable};
 use matrix::MATRIX_WORDS;
 use numbers::WIDTH;
 use refusals::Answer;
@@ -24,7 +24,7 @@ pub const WORDS: usize = RAW_WORDS + MATRIX_WORDS;
 // Where K_0 stands in a prepared table.
 const CONSTANTS: usize = 2 * MATRIX_WORDS;
 
-// M. Where the parts of a prepared table stand, only this and the functions down to `second_step_constant` know.
+// M. Where the parts of a prepared table stand, only Prepare and the functions down to `second_step_constant` know.
 pub fn matrix(table: &[u64]) -> &[u64]
     requires { ⌜ length (now table) ≡ tableWords ⌝ }
     ensures { λ r. ⌜ now r ≡ matrixOf (now (table .entry)) ⌝ }
@@ -143,51 +143,5 @@ pub fn test(table: &[u64]) -> Answer
     if cell != MATRIX_WORDS {
         return Answer::Refused(Refusal::WrongInverse(cell));
     }
-    Answer::Accepted
-}
-
-// Word t of the prepared table: M, its inverse n, then K.
-fn prepared_word(raw: &[u64], n: &[u64; MATRIX_WORDS], t: usize) -> u64
-    requires { ⌜ (length (now raw) ≡ rawWords) × (length (now n) ≡ matrixWords) × (t < tableWords) ⌝ }
-    ensures { λ r. ⌜ r ≡ cell (prepared (now (raw .entry)) (now (n .entry))) t ⌝ }
-{
-    if t < MATRIX_WORDS {
-        return raw[t];
-    }
-    let u = t - MATRIX_WORDS;
-    if u < MATRIX_WORDS { n[u] } else { raw[u] }
-}
-
-// The prepared table into the destination.
-fn write(raw: &[u64], n: &[u64; MATRIX_WORDS], destination: &mut [u64])
-    requires { ⌜
-        (length (now raw) ≡ rawWords) × (length (now n) ≡ matrixWords)
-        × (length (now destination) ≡ tableWords) ⌝ }
-    ensures { λ _. ⌜ now (destination .exit) ≡ prepared (now (raw .entry)) (now (n .entry)) ⌝ }
-{
-    for t in 0..WORDS {
-        destination[t] = prepared_word(raw, n, t);
-    }
-}
-
-// Prepare: 1, 8, 2, 3. The inverse is found in an array of its own, so that a refusal leaves the destination as it was.
-pub fn prepare(raw: &[u64], destination: &mut [u64]) -> Answer
-    ensures { λ r. ⌜ Prepares (now (raw .entry)) (now (destination .entry)) r (now (destination .exit)) ⌝ }
-{
-    if raw.len() != RAW_WORDS {
-        return Answer::Refused(Refusal::TableLength);
-    }
-    if destination.len() != WORDS {
-        return Answer::Refused(Refusal::DestinationLength);
-    }
-    let bad = words::first_bad(raw);
-    if bad != RAW_WORDS {
-        return Answer::Refused(Refusal::TableWord(bad));
-    }
-    let mut n = [0u64; MATRIX_WORDS];
-    if !inverse::invert(&raw[..MATRIX_WORDS], &mut n) {
-        return Answer::Refused(Refusal::NoInverse);
-    }
-    write(raw, &n, destination);
     Answer::Accepted
 }

@@ -127,10 +127,10 @@ fn write_hashes(table: &[u64], taps: &[u64], k: usize, destination: &mut [u64]) 
         × (now (destination .exit) ≡ trace (now (table .entry)) (now (taps .entry)) k) ⌝ }
 {
     let hashes = 3 * k;
-    let mut state = hash::chain_start(taps);
+    let mut state = chain::chain_start(taps);
     for h in 0..hashes {
         let hash = HashNumber(h);
-        let input = hash::input_of(hash, state, taps);
+        let input = chain::input_of(hash, state, taps);
         let next = write_hash(table, hash, input, destination);
         state = next;
     }

@@ -23,7 +23,7 @@ use Rattle.hash.specs.Hash.{finalState, input}
 use Rattle.hash.specs.Answers.{hashTest, hashAnswer}
 use Rattle.hash.proofs.States.{IsState, cell-lt, finalState-state}
 use Rattle.hash.proofs.Answers.{hash-inputs, hash-passes}
-use Rattle.hash.proofs.CodeChain.{two-taps-state}
+use Rattle.hash.proofs.CodeInput.{two-taps-state}
 use Rattle.unhash.specs.Unhash.{inputBefore, tapsBefore, endsInZeros}
 use Rattle.unhash.specs.Answers.{unhashTest, unhashAnswer}
 use Rattle.unhash.proofs.Rounds.{inputBefore-state, input-back, final-back}

@@ -7,14 +7,17 @@
 //! prints the tables of README.md, "Speed". A further operation gets its row, with
 //! its goal, in the list of `operations` or in `field`; one that alters what is
 //! lent to it, as Edit does, in `edits`. Unhash, whose goal goes by Hash, is in
-//! `unhash`, claims that end before the rows do in `claims`, and the short edition of
-//! the board file, whose goals go by the full one, in `short`.
+//! `unhash`, claims that end before the rows do in `claims`, the short edition of the
+//! board file, whose goals go by the full one, in `short`, and the converters between the
+//! two, whose goals go by unpacking and packing, in `converters`.
 //!
 //! The implementations take turns, many times over, and the shortest time of
 //! each counts, in the thread's own time: what else the machine does lengthens
 //! some turns of each.
 
 mod claims;
+mod converters;
+mod editions;
 mod edits;
 mod field;
 mod operations;
@@ -22,6 +25,7 @@ mod short;
 mod timing;
 mod unhash;
 
+use editions::Editions;
 use operations::Day;
 use timing::Table;
 
@@ -33,7 +37,9 @@ fn main() {
     let unhash = unhash::measure(&days[0]);
     let edits = edits::measure(&days[2]);
     let claims = claims::measure(&days[2]);
-    let short = short::measure();
+    let editions = Editions::new();
+    let short = short::measure(&editions);
+    let converters = converters::measure(&editions);
     table.print();
     let growth: Vec<String> = growth
         .iter()
@@ -48,4 +54,6 @@ fn main() {
     claims.print();
     println!();
     short.print();
+    println!();
+    converters.print();
 }

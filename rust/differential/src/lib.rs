@@ -1,5 +1,7 @@
-//! What the comparisons share: seeds, guarded buffers, and one enum of
-//! refusals for both implementations.
+//! What the comparisons share: seeds, guarded buffers, one enum of refusals for
+//! both implementations, and board files with something wrong.
+
+pub mod files;
 
 use std::collections::BTreeSet;
 use std::ops::{Deref, DerefMut};
@@ -129,6 +131,7 @@ pub fn named(refusal: lemoncolumn::Refusal) -> second::Refusal {
         Proved::NoPair => Second::NoPair,
         Proved::ClaimBatches => Second::ClaimBatches,
         Proved::LongElement { word } => Second::LongElement { word },
+        Proved::SameEdition => Second::SameEdition,
     }
 }
 

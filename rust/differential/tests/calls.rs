@@ -1,12 +1,12 @@
 //! The calls as C sees them: a digest's destination that has not four words, a final
 //! state's that has not twelve, or a pair's that has not eight, is refused with 8, in
 //! 8's place of the order, and nothing is written. Check, and Read-off, Hash, Edit,
-//! Unhash and the short edition's pair with room, what they write between guards; c
-//! stands where the header has it.
+//! Unhash, the short edition's pair and the converters with room, what they write
+//! between guards; c stands where the header has it.
 
 use differential::{bytes, holding, named, words, Lent};
 use inputs::files::{
-    element_words, not_an_element, short_element, short_words_of, widths, KIND, MARK, NO_K,
+    damage_word_0, element_words, not_an_element, short_words_of, widths, Damaged, Edition, KIND,
 };
 use inputs::pairs::end_of;
 use inputs::tables::{dense, first_unlike_identity};
@@ -652,12 +652,12 @@ fn pack_short() {
     }
 }
 
-/// Lengths other than the exact one of a short file: a byte off, one to three words off,
-/// those of no elements, and the full file's.
-fn other_file_lengths(exact: usize, full: usize) -> Vec<usize> {
+/// Lengths other than the exact one of a file: a byte off, one to three words off, those
+/// of no elements, and the other edition's.
+fn other_file_lengths(exact: usize, other_edition: usize) -> Vec<usize> {
     let near = [1, 4, 8, 12].map(|off| [exact - off, exact + off]);
     let mut others = near.concat();
-    others.extend([0, 4, full]);
+    others.extend([0, 4, other_edition]);
     others.retain(|&length| length != exact);
     others
 }
@@ -770,17 +770,18 @@ fn unpack_short_with_room() {
 
 /// An element one of whose kinds is wrong, and which of its words that is. Its value may
 /// be wrong too, or need fewer words: the kinds come first.
-fn wrong_kind(random: &mut Random, honest: u64) -> (Vec<u32>, u64) {
+fn wrong_kind(random: &mut Random, edition: Edition, honest: u64) -> (Vec<u32>, u64) {
     let small = random.small();
     let no_element = not_an_element(random);
     let mut words = match random.below(3) {
-        0 => short_element(honest),
+        0 => edition.element(honest),
         1 => element_words(small as u128).to_vec(),
         _ => element_words(no_element).to_vec(),
     };
     let place = random.below(words.len());
-    // A first word of kind 1 or 3 begins an element.
+    // A first word of kind 1 begins an element, in the short edition one of kind 3 too.
     let kind = match place {
+        0 if edition == Edition::Full => random.pick(&[0, 2, 3]),
         0 => random.pick(&[0, 2]),
         1 => random.pick(&[0, 1, 3]),
         _ => random.pick(&[0, 1, 2]),
@@ -794,10 +795,11 @@ fn wrong_kind(random: &mut Random, honest: u64) -> (Vec<u32>, u64) {
 /// refusal is that of the first.
 fn elements_with(
     random: &mut Random,
+    edition: Edition,
     elements: &[u64],
     [kind, value, long]: [bool; 3],
 ) -> (Vec<u32>, Option<Refusal>) {
-    let mut written: Vec<Vec<u32>> = elements.iter().map(|&e| short_element(e)).collect();
+    let mut written: Vec<Vec<u32>> = elements.iter().map(|&e| edition.element(e)).collect();
     let mut refusals = vec![];
     // Distinct places in any order: thirds of the list, turned.
     let third = (elements.len() - 1) / 3;
@@ -805,7 +807,7 @@ fn elements_with(
     let places = [0, 1, 2].map(|part| (part + turn) % 3 * third);
     let places = places.map(|start| start + random.below(third));
     if kind {
-        let (words, wrong) = wrong_kind(random, elements[places[0]]);
+        let (words, wrong) = wrong_kind(random, edition, elements[places[0]]);
         written[places[0]] = words;
         refusals.push((places[0], Refusal::Kind { word: wrong }));
     }
@@ -832,21 +834,32 @@ fn elements_with(
     (written.concat(), refusal)
 }
 
-/// Word 0 with some of its two faults: its kind; then a spare bit, a k that is not
-/// permitted, or no mark.
-fn head_with(random: &mut Random, k: usize, [kind, value]: [bool; 2]) -> (u32, Option<Refusal>) {
-    let mut word = MARK + k as u32;
-    if value {
-        let spare = word + (1 << (16 + random.below(13)));
-        let no_k = MARK + random.pick(&NO_K);
-        word = random.pick(&[spare, no_k, k as u32]);
+/// The bytes of a file with some of five faults: below 4 bytes; word 0's kind; the other
+/// edition's mark there; a spare bit, or a k that is not permitted; an end before the last
+/// element is whole or after it.
+fn file_with(
+    random: &mut Random,
+    mut word_0: u32,
+    elements: &[u32],
+    [below_4, kind, mark, head, end]: [bool; 5],
+) -> Vec<u8> {
+    let damaged = Damaged {
+        kind,
+        mark,
+        head,
+        ..Damaged::default()
+    };
+    damage_word_0(random, &mut word_0, damaged);
+    let mut file = inputs::files::bytes(&[&[word_0], elements].concat());
+    if end {
+        let length = file.len();
+        let others = [length - 4, length - 1, length + 1, length + 4];
+        file.resize(random.pick(&others), 0xc0);
     }
-    let value = value.then_some(Refusal::Value { word: 0 });
-    let kind = kind.then(|| {
-        word += KIND * random.pick(&[1, 2, 3]);
-        Refusal::Kind { word: 0 }
-    });
-    (word, first_of(&[kind, value]))
+    if below_4 {
+        file.truncate(random.below(4));
+    }
+    file
 }
 
 /// Each choice of the reader's nine faults at once, for files of all widths: the first in
@@ -877,24 +890,18 @@ fn unpacks_or_refuses(
     honest: &[u64],
     [below_4, kind, value, taps, claim, wrong_kind, no_element, long, end]: [bool; 9],
 ) {
-    let (head, of_head) = head_with(random, k, [kind, value]);
-    let (elements, of_element) = elements_with(random, honest, [wrong_kind, no_element, long]);
-    let mut file = inputs::files::bytes(&[&[head], &elements[..]].concat());
-    if end {
-        let length = file.len();
-        file.resize(
-            random.pick(&[length - 4, length - 1, length + 1, length + 4]),
-            0xc0,
-        );
-    }
-    if below_4 {
-        file.truncate(random.below(4));
-    }
+    let edition = Edition::Short;
+    let faults = [wrong_kind, no_element, long];
+    let (elements, of_element) = elements_with(random, edition, honest, faults);
+    let no_mark = value && random.one_in(3);
+    let faults = [below_4, kind, no_mark, value && !no_mark, end];
+    let file = file_with(random, edition.word_0(k), &elements, faults);
     let (tap_words, no_room) = lent_destination(random, 12 * k + 4, taps);
     let claim_words = if claim { random.pick(&LENGTHS) } else { 4 };
     let refusal = first_of(&[
         below_4.then_some(Refusal::FileLength),
-        of_head,
+        kind.then_some(Refusal::Kind { word: 0 }),
+        value.then_some(Refusal::Value { word: 0 }),
         no_room,
         claim.then_some(Refusal::DestinationLength),
         of_element,
@@ -910,4 +917,132 @@ fn unpacks_or_refuses(
     }
     assert!(taps.is_guarded() && claim.is_guarded(), "{about}");
     assert_eq!([&claim[..], &taps[..]].concat(), honest, "{about}");
+}
+
+/// The converter that starts from this edition.
+fn call_converter(from: Edition, file: &[u8], converted: &mut [u8]) -> u64 {
+    let call = match from {
+        Edition::Full => calls::lemoncolumn_to_short,
+        Edition::Short => calls::lemoncolumn_to_full,
+    };
+    unsafe {
+        call(
+            file.as_ptr(),
+            file.len(),
+            converted.as_mut_ptr(),
+            converted.len(),
+        )
+    }
+}
+
+/// What is answered and written into so many bytes.
+fn converts(about: &str, from: Edition, case: &ConvertCase) {
+    let mut converted = bytes(case.destination);
+    let code = call_converter(from, &case.file, &mut converted);
+    says(about, code, case.refusal);
+    if case.refusal.is_some() {
+        assert!(converted.is_untouched(), "{about}");
+        return;
+    }
+    assert!(converted.is_guarded(), "{about}");
+    assert_eq!(converted[..], case.converted[..], "{about}");
+}
+
+#[test]
+fn to_short() {
+    for seed in seeds("calls, to_short") {
+        for case in to_short_cases(seed, 4000) {
+            let about = format!("seed {seed}: {}", case.name);
+            converts(&about, Edition::Full, &case);
+        }
+    }
+}
+
+#[test]
+fn to_full() {
+    for seed in seeds("calls, to_full") {
+        for case in to_full_cases(seed, 4000) {
+            let about = format!("seed {seed}: {}", case.name);
+            converts(&about, Edition::Short, &case);
+        }
+    }
+}
+
+/// Each choice of the converter's eight faults at once, for files of all widths: the first
+/// in the order is answered, and nothing is written.
+#[test]
+fn to_short_with_faults_together() {
+    for seed in seeds("calls, to_short with faults together") {
+        converters_faults_together(seed, Edition::Full, 8);
+    }
+}
+
+/// The same of nine: a short file can have three words for a small element.
+#[test]
+fn to_full_with_faults_together() {
+    for seed in seeds("calls, to_full with faults together") {
+        converters_faults_together(seed, Edition::Short, 9);
+    }
+}
+
+fn converters_faults_together(seed: u64, from: Edition, count: usize) {
+    let mut random = Random::new(seed);
+    for k in [1, 2, 4] {
+        for (name, elements) in widths(&mut random, k) {
+            for choice in 0..1 << count {
+                let faults: [bool; 9] = std::array::from_fn(|fault| choice >> fault & 1 == 1);
+                let about = format!("seed {seed}: k = {k}, {name}, {faults:?}");
+                converts_or_refuses(&about, &mut random, from, &elements, faults);
+            }
+        }
+    }
+}
+
+/// The file of these elements with some of the faults: below 4 bytes, kind, mark and value
+/// of word 0, its end; kinds, values and widths of elements, room. The end of a full file
+/// is looked at before the elements, that of a short one after them.
+fn converts_or_refuses(
+    about: &str,
+    random: &mut Random,
+    from: Edition,
+    honest: &[u64],
+    [below_4, kind, mark, value, end, wrong_kind, no_element, room, long]: [bool; 9],
+) {
+    let faults = [wrong_kind, no_element, long];
+    let (elements, of_element) = elements_with(random, from, honest, faults);
+    let faults = [below_4, kind, mark, value, end];
+    let word_0 = from.word_0(honest.len() / 12);
+    let file = file_with(random, word_0, &elements, faults);
+    let of_end = end.then_some(Refusal::FileLength);
+    let of_elements = match from {
+        Edition::Full => [of_end, of_element],
+        Edition::Short => [of_element, of_end],
+    };
+    let refusal = first_of(&[
+        below_4.then_some(Refusal::FileLength),
+        kind.then_some(Refusal::Kind { word: 0 }),
+        mark.then_some(Refusal::SameEdition),
+        value.then_some(Refusal::Value { word: 0 }),
+        of_elements[0],
+        of_elements[1],
+        room.then_some(Refusal::DestinationLength),
+    ]);
+    let converted = from.other().file(honest);
+    let lengths = match room {
+        true => other_file_lengths(converted.len(), from.file(honest).len()),
+        false => vec![converted.len()],
+    };
+    let mut case = ConvertCase {
+        name: String::from(about),
+        file,
+        destination: 0,
+        refusal,
+        converted,
+        claim: [0; 4],
+        taps: vec![],
+    };
+    for length in lengths {
+        case.destination = length;
+        converts(&format!("{about}, into {length}"), from, &case);
+    }
 }

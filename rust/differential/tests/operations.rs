@@ -243,3 +243,47 @@ fn unpack_short() {
         }
     }
 }
+
+/// A converter of the proved library beside that of the second implementation.
+fn convert(
+    test: &str,
+    cases: fn(u64, usize) -> Vec<ConvertCase>,
+    proved_converter: fn(&[u8], &mut [u8]) -> Result<(), lemoncolumn::Refusal>,
+    second_converter: fn(&[u8], &mut [u8]) -> Result<(), second::Refusal>,
+) {
+    for seed in seeds(test) {
+        for case in cases(seed, 8000) {
+            let about = format!("seed {seed}: {}", case.name);
+            let mut proved = bytes(case.destination);
+            let mut other = bytes(case.destination);
+            let file = case.file.clone();
+            let answer = proved_converter(&file, &mut proved);
+            assert_eq!(file, case.file, "{about}");
+            let second = second_converter(&case.file, &mut other);
+            agree(&about, (answer, &proved), (second, &other), case.refusal);
+            if case.refusal.is_none() {
+                assert_eq!(proved[..], case.converted[..], "{about}");
+            }
+        }
+    }
+}
+
+#[test]
+fn to_short() {
+    convert(
+        "to_short",
+        to_short_cases,
+        lemoncolumn::to_short,
+        second::to_short,
+    );
+}
+
+#[test]
+fn to_full() {
+    convert(
+        "to_full",
+        to_full_cases,
+        lemoncolumn::to_full,
+        second::to_full,
+    );
+}

@@ -4,17 +4,14 @@
 //! claim with its list has one short file. Claim and taps are one list of elements here,
 //! the claim first.
 
+use differential::files::{any_file, tails, Day, ENDS};
 use differential::{bytes, named, same_verdict, seeds, words};
-use inputs::files::{any_widths, element_words, short_element, widths, KIND, MARK, PERMITTED};
+use inputs::files::{any_widths, claim_of, element_words, Edition, KIND, MARK, PERMITTED};
 use inputs::*;
 use lemoncolumn::{file_bytes, short_batches, short_file_bytes, tap_words};
 use second::field::P;
 use second::Refusal;
 use std::collections::BTreeMap;
-
-fn claim_of(elements: &[u64]) -> [u64; 4] {
-    elements[..4].try_into().expect("four words")
-}
 
 /// What both write, into the length that `short_file_bytes` says.
 fn written(elements: &[u64], about: &str) -> Result<Vec<u8>, Refusal> {
@@ -50,53 +47,9 @@ fn read(file: &[u8], about: &str) -> Result<Vec<u64>, Refusal> {
     read_into(file, short_batches(file).map_or(0, tap_words), about)
 }
 
-/// A short file, its elements, and the first word of each, with where the next one would
-/// begin.
-struct Day {
-    name: String,
-    k: usize,
-    elements: Vec<u64>,
-    words: Vec<u32>,
-    firsts: Vec<usize>,
-}
-
-impl Day {
-    fn new(seed: u64, k: usize, (name, elements): (&str, Vec<u64>)) -> Day {
-        let mut words = vec![MARK + k as u32];
-        let mut firsts = vec![1];
-        for &element in &elements {
-            words.extend(short_element(element));
-            firsts.push(words.len());
-        }
-        Day {
-            name: format!("seed {seed}: k = {k}, {name}"),
-            k,
-            elements,
-            words,
-            firsts,
-        }
-    }
-
-    fn file(&self) -> Vec<u8> {
-        inputs::files::bytes(&self.words)
-    }
-
-    /// The bytes with the element at `place` written as given.
-    fn with_words(&self, place: usize, element: &[u32]) -> Vec<u8> {
-        let (before, after) = (self.firsts[place], self.firsts[place + 1]);
-        let words = [&self.words[..before], element, &self.words[after..]];
-        inputs::files::bytes(&words.concat())
-    }
-}
-
-/// All small, all large, in turn and any, for each of these k.
+/// Short files for each of these k.
 fn days(seed: u64, ks: &[usize]) -> Vec<Day> {
-    let mut random = Random::new(seed);
-    let mut days = vec![];
-    for &k in ks {
-        days.extend(widths(&mut random, k).map(|day| Day::new(seed, k, day)));
-    }
-    days
+    differential::files::days(seed, Edition::Short, ks)
 }
 
 #[test]
@@ -200,70 +153,31 @@ fn every_cut() {
     }
 }
 
-/// Bytes and whole words, small elements and large ones among them.
 #[test]
 fn bytes_after_the_last_element() {
-    let further = inputs::files::bytes(&[3 * KIND, KIND + 2, 2 * KIND + 80, 3 * KIND]);
     for seed in seeds("short files, bytes after the last element") {
         for day in days(seed, &PERMITTED) {
-            for more in 1..=further.len() {
-                let about = format!("{}, {more} bytes more", day.name);
-                for tail in [&vec![0; more], &vec![0xff; more], &further[..more]] {
-                    let file = [&day.file(), tail].concat();
-                    let refused = Err(Refusal::FileLength);
-                    assert_eq!(read(&file, &about), refused, "{about}");
-                }
+            for tail in tails() {
+                let about = format!("{}, then {tail:?}", day.name);
+                let file = [day.file(), tail].concat();
+                let refused = Err(Refusal::FileLength);
+                assert_eq!(read(&file, &about), refused, "{about}");
             }
         }
     }
-}
-
-/// What is answered where a word of the file has another kind. A first word of kind 1 in
-/// place of 3, or 3 in place of 1, makes its element longer or shorter, and the word after
-/// is wrong, or the length where there is none; any other word is wrong itself.
-fn refusal_of_kind(day: &Day, word: usize, kind: u32) -> Refusal {
-    let other_width = kind % 2 == 1 && day.firsts.contains(&word);
-    if other_width && word == day.firsts[day.elements.len() - 1] {
-        return Refusal::FileLength;
-    }
-    let wrong = if other_width { word + 1 } else { word };
-    Refusal::Kind { word: wrong as u64 }
 }
 
 #[test]
 fn every_kind_of_every_word() {
     for seed in seeds("short files, every kind of every word") {
         for day in days(seed, &[1, 2, 4]) {
-            for (word, turn) in (0..day.words.len()).flat_map(|word| [1, 2, 3].map(|t| (word, t))) {
-                let mut words = day.words.clone();
-                words[word] = words[word].wrapping_add(turn * KIND);
-                let kind = words[word] / KIND;
-                let about = format!("{}, word {word} of kind {kind}", day.name);
-                let file = inputs::files::bytes(&words);
+            for (about, file, refusal) in day.of_other_kinds() {
                 let answer = read_into(&file, tap_words(day.k), &about);
-                let refusal = refusal_of_kind(&day, word, kind);
                 assert_eq!(answer, Err(refusal), "{about}");
             }
         }
     }
 }
-
-/// Where one word ends and three begin, where the field ends, and where 64 bits and three
-/// payloads do.
-const ENDS: [u128; 12] = [
-    0,
-    1,
-    (1 << 30) - 1,
-    1 << 30,
-    (1 << 60) - 1,
-    1 << 60,
-    P as u128 - 1,
-    P as u128,
-    (1 << 64) - 1,
-    1 << 64,
-    (1 << 64) + (1 << 30),
-    (1 << 90) - 1,
-];
 
 /// Each element in turn at those ends, in three words, and in one where it fits.
 #[test]
@@ -317,7 +231,8 @@ fn element_at_an_end(day: &Day, place: usize, end: u128) {
 fn every_word_0() {
     for seed in seeds("short files, every word 0") {
         let mut random = Random::new(seed);
-        let day = Day::new(seed, 1, ("any widths", any_widths(&mut random, 1)));
+        let elements = any_widths(&mut random, 1);
+        let day = Day::new(seed, Edition::Short, 1, ("any widths", elements));
         let mut file = day.file();
         let lower = (0..1 << 16).map(|half: u32| MARK + half);
         let upper = (0..1 << 16).map(|half: u32| (half << 16) + 1);
@@ -418,40 +333,6 @@ fn every_length_of_list() {
     }
 }
 
-/// Words of a file whose elements are honest but for a few: words of any kind, small ones
-/// in three words, and those of any 64 bits or more.
-fn any_words(random: &mut Random, k: usize) -> Vec<u32> {
-    let mut words = vec![MARK + k as u32];
-    let rare = random.pick(&[10, 40, 160, 640]);
-    for _ in 0..12 * k + 8 {
-        let wrong = random.one_in(rare);
-        match random.below(3) {
-            0 if wrong => words.push(random.word() as u32),
-            1 if wrong => words.extend(element_words(random.small() as u128)),
-            _ if wrong => words.extend(element_words(random.word() as u128 * 3)),
-            _ => words.extend(short_element(random.small_or_large())),
-        }
-    }
-    words
-}
-
-/// Bytes, by turns any, any after a word 0 that says a k, words as above, and such words
-/// cut or with more bytes.
-fn any_file(random: &mut Random, number: usize, k: usize) -> Vec<u8> {
-    if number % 4 < 2 {
-        let length = random.below(300);
-        let any: Vec<u8> = (0..length).map(|_| random.word() as u8).collect();
-        let head = (MARK + k as u32).to_le_bytes();
-        return [&head[..4 * (number % 4)], &any].concat();
-    }
-    let mut file = inputs::files::bytes(&any_words(random, k));
-    if number % 4 == 3 {
-        let length = file.len() - 12 + random.below(24);
-        file.resize(length, random.word() as u8);
-    }
-    file
-}
-
 /// Each answer has come many times, so that all of them were compared.
 #[test]
 fn random_bytes() {
@@ -460,7 +341,7 @@ fn random_bytes() {
         let mut seen = BTreeMap::new();
         for number in 0..40_000 {
             let k = random.pick(&[1, 1, 2, 4]);
-            let file = any_file(&mut random, number, k);
+            let file = any_file(&mut random, Edition::Short, number, k);
             let about = format!("seed {seed}: file {number}");
             let answer = match random.one_in(20) {
                 true => read_into(&file, tap_words(k) + 1, &about),

@@ -114,6 +114,19 @@ pub struct UnpackCase {
     pub taps: Vec<u64>,
 }
 
+/// For either converter.
+#[derive(Clone, Debug)]
+pub struct ConvertCase {
+    pub name: String,
+    pub file: Vec<u8>,
+    pub destination: usize,
+    pub refusal: Option<Refusal>,
+    /// The bytes to be written when nothing is refused, and what is in both files.
+    pub converted: Vec<u8>,
+    pub claim: [u64; 4],
+    pub taps: Vec<u64>,
+}
+
 #[derive(Clone, Debug)]
 pub struct ClearCase {
     pub name: String,

@@ -1,5 +1,5 @@
 //! Board files (document 01, "The board file"; the short edition: document 02, U7),
-//! and the cases of Pack and Unpack of the full edition.
+//! what of them is damaged, and the cases of Pack and Unpack of the full edition.
 
 use crate::cases::{
     claim_word, damage, first_of, join, lent_claim, lent_destination, tap_word, PackCase,
@@ -66,6 +66,67 @@ pub fn short_words_of(k: usize, elements: &[u64]) -> Vec<u32> {
     words
 }
 
+/// The two editions of the file; claim and taps are one list here.
+#[derive(Clone, Copy, Debug, PartialEq, Eq)]
+pub enum Edition {
+    Full,
+    Short,
+}
+
+impl Edition {
+    pub fn other(self) -> Edition {
+        match self {
+            Edition::Full => Edition::Short,
+            Edition::Short => Edition::Full,
+        }
+    }
+
+    /// What word 0 has beside k.
+    pub fn mark(self) -> u32 {
+        match self {
+            Edition::Full => 0,
+            Edition::Short => MARK,
+        }
+    }
+
+    /// Word 0 of k batches.
+    pub fn word_0(self, k: usize) -> u32 {
+        self.mark() + k as u32
+    }
+
+    /// Whether word 0 is there and bit 29 of it says this edition.
+    pub fn is_marked(self, file: &[u8]) -> bool {
+        let word = file.first_chunk().copied().map(u32::from_le_bytes);
+        word.is_some_and(|word| word & MARK == self.mark())
+    }
+
+    /// The words of an element.
+    pub fn element(self, element: u64) -> Vec<u32> {
+        match self {
+            Edition::Full => element_words(element as u128).to_vec(),
+            Edition::Short => short_element(element),
+        }
+    }
+
+    /// The words of a file.
+    pub fn words(self, k: usize, elements: &[u64]) -> Vec<u32> {
+        match self {
+            Edition::Full => words_of(k, &elements[..4], &elements[4..]),
+            Edition::Short => short_words_of(k, elements),
+        }
+    }
+
+    /// The bytes of the file of these elements.
+    pub fn file(self, elements: &[u64]) -> Vec<u8> {
+        bytes(&self.words(elements.len() / 12, elements))
+    }
+}
+
+/// The claim of a list that begins with it.
+pub fn claim_of(elements: &[u64]) -> [u64; 4] {
+    elements[..4].try_into().expect("four words")
+}
+
 /// Claim and taps as the elements of one list, which need one word in the short edition
 /// or three: all of them small, all large, in turn from either on, and any.
 pub fn widths(random: &mut Random, k: usize) -> [(&'static str, Vec<u64>); 5] {
@@ -115,13 +176,15 @@ pub fn not_an_element(random: &mut Random) -> u128 {
     ])
 }
 
-/// What of a file is damaged, in the order of Unpack's refusals.
+/// What of a file is damaged.
 #[derive(Clone, Copy, Default)]
 pub struct Damaged {
     /// Cut below 4 bytes.
     pub cut: bool,
     /// Word 0's kind.
     pub kind: bool,
+    /// Word 0's mark, so that it says the other edition.
+    pub mark: bool,
     /// Word 0's spare bits or k.
     pub head: bool,
     /// Another length than k's, or a k that is not the length's.
@@ -130,50 +193,87 @@ pub struct Damaged {
     pub kinds: bool,
     /// Values of elements.
     pub values: bool,
+    /// Three words for small elements, which a full file always has.
+    pub long: bool,
 }
 
-/// A file as lent, with the refusals before and after the destination's.
+/// A file as lent, with the refusals in the order of the reader of its edition.
 pub struct LentFile {
     pub name: String,
     pub bytes: Vec<u8>,
-    pub before: Option<Refusal>,
-    pub after: Option<Refusal>,
+    /// In word 0, but for what is damaged there.
+    pub k: usize,
+    /// 12 below 4 bytes, or word 0's 13.
+    pub start: Option<Refusal>,
+    pub other_edition: bool,
+    /// Word 0's 14, or 12 for a full file's length.
+    pub head: Option<Refusal>,
+    /// From word 1 on.
+    pub elements: Option<Refusal>,
+}
+
+impl LentFile {
+    /// What the reader answers, whose destination stands before the elements.
+    pub fn read_into(&self, no_room: Option<Refusal>) -> Option<Refusal> {
+        let mark = self.other_edition.then_some(Refusal::Value { word: 0 });
+        first_of(&[self.start, mark, self.head, no_room, self.elements])
+    }
+}
+
+/// The refusal of the start of a file, which is damaged like this.
+pub fn refused_start(damaged: Damaged) -> Option<Refusal> {
+    let cut = damaged.cut.then_some(Refusal::FileLength);
+    let kind = damaged.kind.then_some(Refusal::Kind { word: 0 });
+    first_of(&[cut, kind])
 }
 
 pub fn lent_file(random: &mut Random, honest: &[u32], damaged: Damaged) -> LentFile {
     let mut words = honest.to_vec();
     let mut names = vec![];
-    let after = damage_elements(random, &mut words, damaged, &mut names);
-    let mut order = [None; 4];
+    let elements = damage_elements(random, &mut words, damaged, &mut names);
     let mut more = 0;
     if damaged.length {
-        order[3] = Some(Refusal::FileLength);
         more = damage_length(random, &mut words[0]);
         names.push(format!("k = {}, {more} bytes more", words[0]));
     }
-    if damaged.head {
-        order[2] = Some(Refusal::Value { word: 0 });
-        damage_head(random, &mut words[0]);
+    let k = words[0] as usize;
+    damage_word_0(random, &mut words[0], damaged);
+    if words[0] != k as u32 {
         names.push(format!("word 0 is {:08x}", words[0]));
-    }
-    if damaged.kind {
-        order[1] = Some(Refusal::Kind { word: 0 });
-        words[0] |= KIND * random.pick(&[1, 2, 3]);
-        names.push(String::from("word 0 of another kind"));
     }
     let mut bytes = bytes(&words);
     let length = bytes.len().wrapping_add_signed(more);
     bytes.resize(length, random.word() as u8);
     if damaged.cut {
-        order[0] = Some(Refusal::FileLength);
         bytes.truncate(random.below(4));
         names.push(format!("cut to {} bytes", bytes.len()));
     }
+    let value = damaged.head.then_some(Refusal::Value { word: 0 });
+    let length = damaged.length.then_some(Refusal::FileLength);
     LentFile {
         name: names.join(", "),
         bytes,
-        before: first_of(&order),
-        after,
+        k,
+        start: refused_start(damaged),
+        other_edition: damaged.mark,
+        head: first_of(&[value, length]),
+        elements,
+    }
+}
+
+/// Word 0 of either edition: a spare bit, or a k that is not permitted; the other
+/// edition's mark; another kind.
+pub fn damage_word_0(random: &mut Random, word: &mut u32, damaged: Damaged) {
+    if damaged.head && random.one_in(2) {
+        *word |= 1 << (16 + random.below(13));
+    } else if damaged.head {
+        *word = *word & MARK | random.pick(&NO_K);
+    }
+    if damaged.mark {
+        *word ^= MARK;
+    }
+    if damaged.kind {
+        *word += KIND * random.pick(&[1, 2, 3]);
     }
 }
 
@@ -185,15 +285,6 @@ fn damage_length(random: &mut Random, head: &mut u32) -> isize {
         0
     } else {
         random.pick(&[-144, -12, -4, -3, -2, -1, 1, 2, 3, 4, 12, 144])
-    }
-}
-
-/// A spare bit, or a k that is not permitted.
-fn damage_head(random: &mut Random, head: &mut u32) {
-    if random.one_in(2) {
-        *head |= 1 << (16 + random.below(14));
-    } else {
-        *head = random.pick(&NO_K);
     }
 }
 
@@ -461,10 +552,12 @@ pub fn unpack_cases(seed: u64, n: usize) -> Vec<UnpackCase> {
         let damaged = Damaged {
             cut: early && flags[0],
             kind: early && flags[1],
+            mark: early && flags[7],
             head: early && flags[2],
             length: early && flags[3],
             kinds: flags[5],
-            values: flags[6] || flags[7],
+            values: flags[6],
+            long: false,
         };
         let k = random.pick(&[1, 1, 1, 2, 2, 4, 8, 16, 128]);
         let taps = list(&mut random, k);
@@ -476,9 +569,9 @@ pub fn unpack_cases(seed: u64, n: usize) -> Vec<UnpackCase> {
         let lengths = format!("{} bytes into {destination}", file.bytes.len());
         UnpackCase {
             name: join(&[&format!("k = {k}"), &file.name, &lengths]),
-            file: file.bytes,
             destination,
-            refusal: first_of(&[file.before, not_exact, file.after]),
+            refusal: file.read_into(not_exact),
+            file: file.bytes,
             claim,
             taps,
         }

@@ -13,6 +13,7 @@
 //! 9. `edits`: Edit (document 02, U1 and U6)
 //! 10. `pairs`: Unhash (document 02, U5)
 //! 11. `short_files`: Pack and Unpack of the short edition (document 02, U7)
+//! 12. `converters`: from the full edition to the short one and back (document 02, U8)
 //!
 //! For each operation there is a kind of case and a function that makes its
 //! corner cases and `n` random ones from a seed; the same seed makes the same
@@ -28,6 +29,7 @@
 
 pub mod cases;
 pub mod checks;
+pub mod converters;
 pub mod edits;
 pub mod files;
 pub mod pairs;
@@ -40,6 +42,7 @@ pub mod traces;
 
 pub use cases::*;
 pub use checks::{check_cases, fault_cases, read_off_cases};
+pub use converters::{to_full_cases, to_short_cases};
 pub use edits::edit_cases;
 pub use files::{pack_cases, unpack_cases};
 pub use pairs::unhash_cases;

@@ -131,10 +131,12 @@ pub fn clear_cases(seed: u64, n: usize) -> Vec<ClearCase> {
         let damaged = Damaged {
             cut: flags[3],
             kind: flags[3] && random.one_in(2),
+            mark: flags[4] && random.one_in(4),
             head: flags[4],
             length: flags[5],
             kinds: flags[6],
             values: flags[7],
+            long: false,
         };
         let k = random.pick(&[1, 1, 1, 1, 2, 2, 4, 8, 16]);
         let good = good(&mut random);
@@ -144,7 +146,7 @@ pub fn clear_cases(seed: u64, n: usize) -> Vec<ClearCase> {
         let wrong = flags[1] || flags[2];
         let fails = wrong.then(|| wrong_claim(&mut random, k, &mut claim));
         let file = lent_file(&mut random, &words_of(k, &claim, &taps), damaged);
-        let refusal = first_of(&[table.refusal, file.before, file.after, fails]);
+        let refusal = first_of(&[table.refusal, file.read_into(None), fails]);
         let mut input = input_of(&table.words, &file.bytes);
         if number % 16 == 15 {
             let length = outer_length(&mut random);

@@ -6,8 +6,9 @@ use crate::cases::{
     PackCase, UnpackCase,
 };
 use crate::files::{
-    any_widths, bytes, element_words, not_an_element, short_element, short_words_of, widths,
-    words_of, SmallFile, KIND, MARK, NO_K, PERMITTED,
+    any_widths, bytes, claim_of, damage_word_0, element_words, not_an_element, refused_start,
+    short_element, short_words_of, widths, words_of, Damaged, LentFile, SmallFile, KIND, MARK,
+    NO_K, PERMITTED,
 };
 use crate::random::Random;
 use crate::taps::{lent_words, some_k, LENGTHS};
@@ -15,8 +16,8 @@ use second::field::P;
 use second::Refusal;
 
 /// Elements that need one word, and that need three.
-const SMALL: [u64; 4] = [0, 1, (1 << 29) + 1, (1 << 30) - 1];
-const LARGE: [u64; 7] = [
+pub const SMALL: [u64; 4] = [0, 1, (1 << 29) + 1, (1 << 30) - 1];
+pub const LARGE: [u64; 7] = [
     1 << 30,
     (1 << 30) + 1,
     (1 << 32) + 1,
@@ -42,12 +43,8 @@ const NO_ELEMENTS: [u128; 11] = [
     (1 << 90) - 1,
 ];
 
-fn claim_of(elements: &[u64]) -> [u64; 4] {
-    elements[..4].try_into().expect("four words")
-}
-
 /// The list with one element replaced.
-fn with(elements: &[u64], place: usize, element: u64) -> Vec<u64> {
+pub fn with(elements: &[u64], place: usize, element: u64) -> Vec<u64> {
     let mut altered = elements.to_vec();
     altered[place] = element;
     altered
@@ -318,7 +315,7 @@ fn unpack_corners(seed: u64) -> Vec<UnpackCase> {
     }
     cases.extend(other_ks(&mut random));
     // Every choice of what is damaged, each several times.
-    for choice in 0..1 << 10 {
+    for choice in 0..1 << 11 {
         let damaged = std::array::from_fn(|thing| choice >> thing & 1 == 1);
         cases.push(lent_unpack_case(&mut random, damaged));
     }
@@ -569,28 +566,9 @@ fn lent_elements(
     (written, first)
 }
 
-/// Word 0 as lent: a spare bit, a k that is not permitted, or no mark; then its kind.
-fn lent_head(random: &mut Random, k: usize, kind: bool, head: bool) -> (u32, Option<Refusal>) {
-    let mut word = MARK + k as u32;
-    let mut order = [None; 2];
-    if head {
-        order[1] = Some(Refusal::Value { word: 0 });
-        word = match random.below(3) {
-            0 => word + (1 << (16 + random.below(13))),
-            1 => MARK + random.pick(&NO_K),
-            _ => word - MARK,
-        };
-    }
-    if kind {
-        order[0] = Some(Refusal::Kind { word: 0 });
-        word += KIND * random.pick(&[1, 2, 3]);
-    }
-    (word, first_of(&order))
-}
-
-/// What comes after the destination's refusal in a file of so many bytes with this k: the
-/// first refused element, where the words that show it are there, or 12.
-fn after_destination(
+/// What is refused from word 1 on in a file of so many bytes with this k: the first
+/// refused element, where the words that show it are there, or 12.
+fn after_word_0(
     written: &[Vec<u32>],
     refused: Option<(usize, Refused)>,
     k: usize,
@@ -611,38 +589,64 @@ fn after_destination(
     }
 }
 
+/// A short file of these elements as lent. Its length is damaged by another end, or by a
+/// k in word 0 that is not that of the elements.
+pub fn lent_short_file(random: &mut Random, elements: &[u64], damaged: Damaged) -> LentFile {
+    let wrong = [damaged.kinds, damaged.values, damaged.long];
+    let (written, refused) = lent_elements(random, elements, wrong);
+    let other_k = damaged.length && random.one_in(3);
+    let k = match (elements.len() / 12, random.pick(&PERMITTED)) {
+        (k, other) if other_k && other != k => other,
+        (k, _) if other_k => 2 * k,
+        (k, _) => k,
+    };
+    let mut word = MARK + k as u32;
+    damage_word_0(random, &mut word, damaged);
+    let mut bytes = bytes(&[&[word], &written.concat()[..]].concat());
+    if damaged.length && !other_k {
+        let more = bytes.len() + 1 + random.below(12);
+        let fewer = 4 + random.place(bytes.len() - 4);
+        bytes.resize(random.pick(&[more, fewer]), random.word() as u8);
+    }
+    let after = after_word_0(&written, refused, k, bytes.len());
+    if damaged.cut {
+        bytes.truncate(random.below(4));
+    }
+    LentFile {
+        name: format!("word 0 is {word:08x}"),
+        bytes,
+        k,
+        start: refused_start(damaged),
+        other_edition: damaged.mark,
+        head: damaged.head.then_some(Refusal::Value { word: 0 }),
+        elements: after,
+    }
+}
+
 /// A call of the reader with these things damaged: cut below 4 bytes, word 0's kind, its
-/// other bits, the destination; then kinds, values and small elements in three words; and
-/// the length, or a k that is not that of the elements.
-fn lent_unpack_case(random: &mut Random, damaged: [bool; 8]) -> UnpackCase {
-    let [cut, kind, head, destination, kinds, values, long, length] = damaged;
+/// mark, its other bits, the destination; then kinds, values and small elements in three
+/// words; and the length.
+fn lent_unpack_case(random: &mut Random, damaged: [bool; 9]) -> UnpackCase {
+    let [cut, kind, mark, head, destination, kinds, values, long, length] = damaged;
+    let damaged = Damaged {
+        cut,
+        kind,
+        mark,
+        head,
+        length,
+        kinds,
+        values,
+        long,
+    };
     let k = random.pick(&[1, 1, 1, 2, 2, 4, 8, 16, 128]);
     let elements = any_widths(random, k);
-    let (written, refused) = lent_elements(random, &elements, [kinds, values, long]);
-    let other_k = length && random.one_in(3);
-    let lent_k = match random.pick(&PERMITTED) {
-        other if other_k && other != k => other,
-        _ if other_k => 2 * k,
-        _ => k,
-    };
-    let (word, before) = lent_head(random, lent_k, kind, head);
-    let mut file = bytes(&[&[word], &written.concat()[..]].concat());
-    if length && !other_k {
-        let more = file.len() + 1 + random.below(12);
-        let fewer = 4 + random.place(file.len() - 4);
-        file.resize(random.pick(&[more, fewer]), random.word() as u8);
-    }
-    let after = after_destination(&written, refused, lent_k, file.len());
-    if cut {
-        file.truncate(random.below(4));
-    }
-    let (destination, no_room) = lent_destination(random, 12 * lent_k + 4, destination);
-    let order = [cut.then_some(Refusal::FileLength), before, no_room, after];
-    let refusal = first_of(&order);
-    let lengths = format!("{} bytes into {destination}", file.len());
+    let file = lent_short_file(random, &elements, damaged);
+    let (destination, no_room) = lent_destination(random, 12 * file.k + 4, destination);
+    let refusal = file.read_into(no_room);
+    let lengths = format!("{} bytes into {destination}", file.bytes.len());
     UnpackCase {
-        name: format!("k = {k}, word 0 is {word:08x}, {lengths}, {refusal:?}"),
-        file,
+        name: format!("k = {k}, {}, {lengths}, {refusal:?}", file.name),
+        file: file.bytes,
         destination,
         refusal,
         claim: claim_of(&elements),
@@ -659,7 +663,7 @@ pub fn unpack_short_cases(seed: u64, n: usize) -> Vec<UnpackCase> {
         let mut damaged = damage(&mut random, number);
         // Most of the combinations shall reach the elements.
         if number % 8 >= 4 && random.one_in(2) {
-            damaged[..4].fill(false);
+            damaged[..5].fill(false);
         }
         lent_unpack_case(&mut random, damaged)
     };

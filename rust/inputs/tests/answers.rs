@@ -16,8 +16,8 @@ const OLD: u64 = 0x0123456789abcdef;
 
 /// Counts refusals by number, 0 for accepted, and checks that each has come.
 struct Seen([usize; NUMBERS]);
-/// 0 to 18.
-const NUMBERS: usize = 19;
+/// 0 to 19.
+const NUMBERS: usize = 20;
 
 impl Seen {
     fn new() -> Seen {
@@ -331,6 +331,57 @@ fn unpack_short() {
         seen.note(case.refusal);
     }
     seen.each(&[0, 8, 12, 13, 14, 18], 40);
+}
+
+type Converter = fn(&[u8], &mut [u8]) -> Result<(), Refusal>;
+type Reader = fn(&[u8], &mut [u64]) -> Result<[u64; 4], Refusal>;
+
+/// A file that is accepted converts back to the same bytes, and it and what was written
+/// unpack to the same claim and taps, each by the reader of its edition.
+fn convert(
+    cases: Vec<ConvertCase>,
+    [there, back]: [Converter; 2],
+    readers: [Reader; 2],
+    refusals: &[usize],
+) {
+    let mut seen = Seen::new();
+    for case in cases {
+        let about = format!("seed {SEED}: {}", case.name);
+        let mut destination = vec![0xab; case.destination];
+        let answer = there(&case.file, &mut destination);
+        assert_eq!(answer.err(), case.refusal, "{about}");
+        seen.note(case.refusal);
+        if case.refusal.is_some() {
+            assert_eq!(destination, vec![0xab; case.destination], "{about}");
+            continue;
+        }
+        assert_eq!(destination, case.converted, "{about}");
+        let mut file = vec![0xab; case.file.len()];
+        assert_eq!(back(&destination, &mut file), Ok(()), "{about}");
+        assert_eq!(file, case.file, "{about}");
+        for (read, file) in readers.into_iter().zip([file, destination]) {
+            let mut taps = vec![OLD; case.taps.len()];
+            assert_eq!(read(&file, &mut taps), Ok(case.claim), "{about}");
+            assert_eq!(taps, case.taps, "{about}");
+        }
+    }
+    seen.each(refusals, 40);
+}
+
+#[test]
+fn to_short() {
+    let converters: [Converter; 2] = [second::to_short, second::to_full];
+    let readers: [Reader; 2] = [second::unpack, second::unpack_short];
+    let refusals = [0, 8, 12, 13, 14, 19];
+    convert(to_short_cases(SEED, 1600), converters, readers, &refusals);
+}
+
+#[test]
+fn to_full() {
+    let converters: [Converter; 2] = [second::to_full, second::to_short];
+    let readers: [Reader; 2] = [second::unpack_short, second::unpack];
+    let refusals = [0, 8, 12, 13, 14, 18, 19];
+    convert(to_full_cases(SEED, 1600), converters, readers, &refusals);
 }
 
 #[test]

@@ -155,4 +155,18 @@ extern "C" {
         claim: *mut u64,
         claim_words: usize,
     ) -> u64;
+
+    pub fn lemoncolumn_to_short(
+        file: *const u8,
+        file_bytes: usize,
+        short_file: *mut u8,
+        short_file_bytes: usize,
+    ) -> u64;
+
+    pub fn lemoncolumn_to_full(
+        short_file: *const u8,
+        short_file_bytes: usize,
+        file: *mut u8,
+        file_bytes: usize,
+    ) -> u64;
 }

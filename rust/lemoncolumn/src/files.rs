@@ -1,5 +1,6 @@
 //! What a caller needs to lend files to the calls: the words of a raw table, the
-//! batches of a board file of some length, and length and batches of a short file.
+//! batches of a board file of some length, length and batches of a short file, and the
+//! lengths that the converters ask for.
 
 use crate::{file_bytes, Refusal, RAW_WORDS};
 
@@ -15,6 +16,11 @@ const WORD_BYTES: usize = 4;
 const ONE_WORD_BITS: u32 = 30;
 /// What word 0 of a short file has beside k.
 const SHORT_MARK: u32 = 1 << 29;
+/// Bytes of an element of a full file.
+const ELEMENT_BYTES: usize = 3 * WORD_BYTES;
+/// The first two words of such an element without their kinds: what it has above its
+/// low 30 bits.
+const UPPER_PAYLOADS: u64 = 0x3fff_ffff_3fff_ffff;
 
 /// Whether this is a permitted number of batches.
 fn is_permitted(k: usize) -> bool {
@@ -61,4 +67,28 @@ pub fn short_batches(file: &[u8]) -> Option<usize> {
     // Too large where the mark is not set, or any bit above k.
     let k = (word ^ SHORT_MARK) as usize;
     is_permitted(k).then_some(k)
+}
+
+/// Bytes of the short file of a full one, which [`to_short`](crate::to_short) asks for:
+/// [`short_file_bytes`] of its taps and claim. It answers for any bytes of the length of
+/// a full file, by the payloads of their words. A file of any other length is refused
+/// before the converter looks at its destination.
+pub fn to_short_bytes(file: &[u8]) -> Option<usize> {
+    batches(file.len())?;
+    let words = |element: &[u8]| {
+        let upper = element.first_chunk().expect("the first two words");
+        match u64::from_le_bytes(*upper) & UPPER_PAYLOADS {
+            0 => 1,
+            _ => 3,
+        }
+    };
+    let elements = file[WORD_BYTES..].chunks_exact(ELEMENT_BYTES);
+    Some(WORD_BYTES * (1 + elements.map(words).sum::<usize>()))
+}
+
+/// Bytes of the full file of a short one, which [`to_full`](crate::to_full) asks for:
+/// those of the k that [`short_batches`] finds. Any other file is refused before the
+/// converter looks at its destination.
+pub fn to_full_bytes(short_file: &[u8]) -> Option<usize> {
+    short_batches(short_file).map(file_bytes)
 }

@@ -17,7 +17,10 @@ mod files;
 mod interface;
 mod refusal;
 
-pub use files::{batches, raw_table, short_batches, short_file_bytes, MOST_BATCHES, RAW_BYTES};
+pub use files::{
+    batches, raw_table, short_batches, short_file_bytes, to_full_bytes, to_short_bytes,
+    MOST_BATCHES, RAW_BYTES,
+};
 pub use interface::INTERFACE;
 pub use refusal::{decode, Refusal};
 
@@ -392,4 +395,63 @@ pub fn unpack_short(file: &[u8], taps: &mut [u64]) -> Result<[u64; 4], Refusal> 
         )
     });
     accepted(code).map(|()| claim)
+}
+
+/// Writes the short edition of a full file: the same claim, the same taps.
+/// [`to_short_bytes`] says how many bytes that takes. The file is tested as [`unpack`]
+/// tests it; where it is a short one already, the answer is [`Refusal::SameEdition`].
+/// The length of the destination is tested last.
+///
+/// ```
+/// use lemoncolumn::*;
+///
+/// let k = 1;
+/// let mut taps = vec![290; tap_words(k)]; // 16 words, one of them a card's number
+/// taps[7] = 1 << 40;
+/// let mut file = vec![0; file_bytes(k)];
+/// pack(&taps, [0, 1, 2, 3], &mut file)?;
+///
+/// // For the radio link, and there for an older cradle, which reads only full files.
+/// let mut short_file = vec![0; to_short_bytes(&file).expect("the length of a full file")];
+/// to_short(&file, &mut short_file)?;
+/// assert_eq!((file.len(), short_file.len()), (244, 92));
+/// let mut back = vec![0; to_full_bytes(&short_file).expect("a short file")];
+/// to_full(&short_file, &mut back)?;
+/// assert_eq!(back, file);
+///
+/// // A file that is in the wanted edition already, and another length than its own.
+/// let converted = to_short(&short_file, &mut back);
+/// assert_eq!(converted, Err(Refusal::SameEdition));
+/// assert_eq!(to_full(&file, &mut back), Err(Refusal::SameEdition));
+/// back.push(0);
+/// let converted = to_full(&short_file, &mut back);
+/// assert_eq!(converted, Err(Refusal::DestinationLength));
+/// # Ok::<(), Refusal>(())
+/// ```
+pub fn to_short(file: &[u8], short_file: &mut [u8]) -> Result<(), Refusal> {
+    let code = call(|| unsafe {
+        lemoncolumn_to_short(
+            file.as_ptr(),
+            file.len(),
+            short_file.as_mut_ptr(),
+            short_file.len(),
+        )
+    });
+    accepted(code)
+}
+
+/// Writes the full edition of a short file, from which [`to_short`] makes the same
+/// bytes again. [`to_full_bytes`] says how many bytes it takes. The file is tested as
+/// [`unpack_short`] tests it; where it is a full one already, the answer is
+/// [`Refusal::SameEdition`]. The length of the destination is tested last.
+pub fn to_full(short_file: &[u8], file: &mut [u8]) -> Result<(), Refusal> {
+    let code = call(|| unsafe {
+        lemoncolumn_to_full(
+            short_file.as_ptr(),
+            short_file.len(),
+            file.as_mut_ptr(),
+            file.len(),
+        )
+    });
+    accepted(code)
 }

@@ -52,6 +52,8 @@ pub enum Refusal {
     ClaimBatches,
     /// 18: an element below 2^30 has three words in a short file; its first word.
     LongElement { word: u64 },
+    /// 19: the file to convert is already in the wanted edition.
+    SameEdition,
 }
 
 /// Reads the number that a call returns: the tests walked, 0 for a call that
@@ -61,7 +63,7 @@ pub enum Refusal {
 ///
 /// # Panics
 ///
-/// Where bits 0 to 5 are above 18, as in no number that a call returns.
+/// Where bits 0 to 5 are above 19, as in no number that a call returns.
 pub fn decode(code: u64) -> Result<u64, Refusal> {
     let constraint = code >> 6 & 0x3f;
     let row = code >> 12 & 0xff_ffff;
@@ -90,6 +92,7 @@ pub fn decode(code: u64) -> Result<u64, Refusal> {
         16 => Refusal::NoPair,
         17 => Refusal::ClaimBatches,
         18 => Refusal::LongElement { word: value },
+        19 => Refusal::SameEdition,
         _ => unreachable!("no refusal has this number"),
     })
 }
@@ -121,6 +124,7 @@ impl Refusal {
             Refusal::NoPair => 16,
             Refusal::ClaimBatches => 17,
             Refusal::LongElement { .. } => 18,
+            Refusal::SameEdition => 19,
         }
     }
 
@@ -145,7 +149,8 @@ impl Refusal {
             | Refusal::FileLength
             | Refusal::NoSuchTap
             | Refusal::NoPair
-            | Refusal::ClaimBatches => None,
+            | Refusal::ClaimBatches
+            | Refusal::SameEdition => None,
         }
     }
 }

@@ -1,13 +1,14 @@
-//! Lengths and words of files (document 01, "The board file"; the short edition:
-//! document 02, U7).
+//! Lengths and words of files (document 01, "The board file"; the short edition and the
+//! converters: document 02, U7 and U8).
 
 use lemoncolumn::*;
 
+const PERMITTED: [usize; 11] = [1, 2, 4, 8, 16, 32, 64, 128, 256, 512, 1024];
+
 #[test]
 fn batches_of_every_length() {
-    let permitted = [1, 2, 4, 8, 16, 32, 64, 128, 256, 512, 1024];
     for bytes in 0..144 * 2048 + 200 {
-        let k = permitted.into_iter().find(|k| 144 * k + 100 == bytes);
+        let k = PERMITTED.into_iter().find(|k| 144 * k + 100 == bytes);
         assert_eq!(batches(bytes), k, "{bytes} bytes");
     }
     assert_eq!(batches(usize::MAX), None);
@@ -62,11 +63,10 @@ fn lengths_of_short_files() {
 /// `short_batches` answers none, `unpack_short` refuses whatever the destination.
 #[test]
 fn batches_of_short_files() {
-    let permitted = [1, 2, 4, 8, 16, 32, 64, 128, 256, 512, 1024];
     let lower = (0..1 << 16).map(|half: u32| 0x2000_0000 + half);
     let upper = (0..1 << 16).map(|half: u32| (half << 16) + 1);
     for word in lower.chain(upper) {
-        let k = permitted
+        let k = PERMITTED
             .into_iter()
             .find(|&k| 0x2000_0000 + k as u32 == word);
         let refusal = match k {
@@ -85,6 +85,145 @@ fn batches_of_short_files() {
         let file = &[1, 0, 0, 0x20][..bytes];
         assert_eq!(short_batches(file), None, "{bytes} bytes");
         assert_eq!(unpack_short(file, &mut []), Err(Refusal::FileLength));
+    }
+}
+
+/// The full file of k batches, and the short one, of these elements over and over.
+fn files_of(k: usize, elements: &[u64]) -> [Vec<u8>; 2] {
+    let all: Vec<u64> = elements.iter().copied().cycle().take(12 * k + 8).collect();
+    let (claim, taps) = ([all[0], all[1], all[2], all[3]], &all[4..]);
+    let mut full = vec![0; 144 * k + 100];
+    assert_eq!(pack(taps, claim, &mut full), Ok(()));
+    let mut short = vec![0; short_file_bytes(taps, claim)];
+    assert_eq!(pack_short(taps, claim, &mut short), Ok(()));
+    [full, short]
+}
+
+/// Of every k: 4 bytes, and 4 or 12 for each of 12k + 8 elements, a multiple of four.
+#[test]
+fn lengths_of_converted_files() {
+    let (small, large) = ((1 << 30) - 1, 1 << 30);
+    for k in PERMITTED {
+        for (elements, bytes_of_four) in [
+            ([0; 4], 16),
+            ([small; 4], 16),
+            ([small, large, small, large], 32),
+            ([P - 1, 0, 7, 1 << 60], 32),
+            ([large, large, 0, 1 << 60], 40),
+            ([large; 4], 48),
+            ([P - 1; 4], 48),
+        ] {
+            let [full, short] = files_of(k, &elements);
+            let length = 4 + (3 * k + 2) * bytes_of_four;
+            assert_eq!(to_short_bytes(&full), Some(length), "{k}, {elements:?}");
+            assert_eq!(to_full_bytes(&short), Some(144 * k + 100), "{k}");
+            let mut taps = vec![7; 12 * k + 4];
+            let claim = unpack(&full, &mut taps).expect("unpacked");
+            assert_eq!(short_file_bytes(&taps, claim), length, "{k}, {elements:?}");
+        }
+    }
+}
+
+/// The payloads of the first two words decide, whatever the kinds and the third.
+#[test]
+fn lengths_by_the_payloads() {
+    for (words, bytes) in [
+        ([0x4000_0000_u32, 0x8000_0000, 0xc000_0000], 4),
+        ([0x4000_0000, 0x8000_0000, 0xffff_ffff], 4),
+        ([0, 0, 0], 4),
+        ([0xc000_0000, 0x4000_0000, 0xffff_ffff], 4),
+        ([0x4000_0000, 0x8000_0001, 0xc000_0000], 12),
+        ([0x4000_0000, 0xa000_0000, 0xc000_0000], 12),
+        ([0x4000_0001, 0x8000_0000, 0xc000_0000], 12),
+        ([0x6000_0000, 0x8000_0000, 0xc000_0000], 12),
+        ([0x4000_0000, 0x8000_0100, 0xc000_0000], 12),
+        ([0x4001_0000, 0x8000_0000, 0xc000_0000], 12),
+        ([0xffff_ffff, 0xffff_ffff, 0xffff_ffff], 12),
+    ] {
+        for element in [0, 7, 19] {
+            let mut file = [0; 244];
+            for (i, word) in words.into_iter().enumerate() {
+                let place = 4 + 12 * element + 4 * i;
+                file[place..place + 4].copy_from_slice(&word.to_le_bytes());
+            }
+            let length = 4 + 19 * 4 + bytes;
+            assert_eq!(to_short_bytes(&file), Some(length), "{words:x?}");
+        }
+    }
+}
+
+/// Where there is no length, the converter refuses whatever the room: with word 0's 13,
+/// 19 and 14, then with 12.
+#[test]
+fn what_has_no_other_edition() {
+    let zeros = vec![0; 144 * 2048 + 200];
+    for bytes in 0..zeros.len() {
+        let k = PERMITTED.into_iter().find(|k| 144 * k + 100 == bytes);
+        let length = k.map(|k| 48 * k + 36);
+        assert_eq!(to_short_bytes(&zeros[..bytes]), length, "{bytes} bytes");
+    }
+    let (kind, value) = (
+        Refusal::WrongKind { word: 0 },
+        Refusal::WrongValue { word: 0 },
+    );
+    let (same, length) = (Refusal::SameEdition, Refusal::FileLength);
+    for (word, of_short, of_full) in [
+        (0x4000_0001_u32, kind, kind),
+        (0xe000_0001, kind, kind),
+        (0x2000_0000, same, value),
+        (0x2000_0003, same, value),
+        (0x2001_0001, same, value),
+        (0, value, same),
+        (0x0001_0001, value, same),
+        (1, length, same),
+    ] {
+        for bytes in [4, 243, 245, 144 * 3 + 100] {
+            let mut file = vec![0; bytes];
+            file[..4].copy_from_slice(&word.to_le_bytes());
+            assert_eq!(to_short_bytes(&file), None, "{bytes} bytes");
+            assert_eq!(to_short(&file, &mut []), Err(of_short), "{word:x}");
+            assert_eq!(to_full_bytes(&file), None, "{word:x}");
+            assert_eq!(to_full(&file, &mut []), Err(of_full), "{word:x}");
+        }
+    }
+    for bytes in 0..4 {
+        let file = &[1, 0, 0, 0x20][..bytes];
+        assert_eq!([to_short_bytes(file), to_full_bytes(file)], [None; 2]);
+        assert_eq!(to_short(file, &mut []), Err(length), "{bytes} bytes");
+        assert_eq!(to_full(file, &mut []), Err(length), "{bytes} bytes");
+    }
+}
+
+/// With any bit changed, a file is refused by something else than 8, or converted into
+/// the length that is said and no other. Files are left where of 0, 2^30 and 290 a bit below
+/// 2^62 changes, and of p - 1 one of its three bits is cleared. In a short file 0 and 290 have
+/// only the low 30, and the one bit of 2^30 may not be cleared.
+#[test]
+fn lengths_of_damaged_files() {
+    let [full, short] = files_of(1, &[0, 1 << 30, 290, P - 1]);
+    let of_short = to_short_bytes as fn(&[u8]) -> Option<usize>;
+    let to_short = to_short as fn(&[u8], &mut [u8]) -> Result<(), Refusal>;
+    for (file, said, convert, left) in [
+        (full, of_short, to_short, 5 * (62 + 62 + 62 + 3)),
+        (short, to_full_bytes, to_full, 5 * (30 + 61 + 30 + 3)),
+    ] {
+        let mut files = 0;
+        for bit in 0..8 * file.len() {
+            let mut damaged = file.clone();
+            damaged[bit / 8] ^= 1 << (bit % 8);
+            let mut room = [0; 256];
+            let lengths = 0..=room.len();
+            let taken: Vec<usize> = lengths
+                .filter(|&length| convert(&damaged, &mut room[..length]).is_ok())
+                .collect();
+            if convert(&damaged, &mut []) == Err(Refusal::DestinationLength) {
+                assert_eq!(Some(taken), said(&damaged).map(|length| vec![length]));
+                files += 1;
+            } else {
+                assert_eq!(taken, [], "bit {bit}");
+            }
+        }
+        assert_eq!(files, left);
     }
 }
 

@@ -1,6 +1,7 @@
 //! Document 01's known days, with cells 4 to 11 of the hashes (document 02, U3), the
 //! counts of refusal 11 (U4), edits, pairs found again (U5), claims that end before the
-//! rows do (U6), and short files (U7), worked out by hand, through the safe calls.
+//! rows do (U6), short files (U7), and files converted (U8), worked out by hand, through
+//! the safe calls.
 
 use lemoncolumn::*;
 
@@ -500,6 +501,22 @@ fn read_short(file: &[u8]) -> [Result<[u64; 4], Refusal>; 2] {
     [exact, other]
 }
 
+/// A converter.
+type Converter = fn(&[u8], &mut [u8]) -> Result<(), Refusal>;
+
+/// What a converter refuses of these bytes, the same into every length: 8 comes last.
+/// Nothing is written.
+fn refused(convert: Converter, file: &[u8]) -> Refusal {
+    let refusals = [0, 4, 84, 85, 92, 243, 244, 245].map(|length| {
+        let mut room = vec![7; length];
+        let refusal = convert(file, &mut room).expect_err("a refusal");
+        assert_eq!(room, vec![7; length], "{file:x?}");
+        refusal
+    });
+    assert_eq!(refusals, [refusals[0]; 8], "{file:x?}");
+    refusals[0]
+}
+
 /// 8 comes right after word 0.
 #[test]
 fn word_0_of_a_short_file() {
@@ -533,8 +550,9 @@ fn word_0_of_a_short_file() {
     }
 }
 
-/// Elements 0 and 19, whose first words are 1 and 20, refused alike: small ones in three
-/// words, those of p, 2^64 and 2^90 - 1, and wrong kinds, the third before the value.
+/// Elements 0 and 19, whose first words are 1 and 20, refused alike, by the converter too:
+/// small ones in three words, those of p, 2^64 and 2^90 - 1, and wrong kinds, the third
+/// before the value.
 #[test]
 fn damaged_short_files() {
     let no_room = Err(Refusal::DestinationLength);
@@ -566,9 +584,11 @@ fn damaged_short_files() {
         ] {
             let mut file = short_zeros_with(element, &words);
             assert_eq!(read_short(&file), [Err(refusal), no_room], "{words:x?}");
+            assert_eq!(refused(to_full, &file), refusal, "{words:x?}");
             // Bytes after the last element are looked at last.
             file.push(0);
             assert_eq!(read_short(&file), [Err(refusal), no_room], "{words:x?}");
+            assert_eq!(refused(to_full, &file), refusal, "{words:x?}");
         }
         let whole = [0x4000_0000, 0x8000_0001, 0xc000_0000];
         let file = short_zeros_with(element, &whole);
@@ -577,17 +597,15 @@ fn damaged_short_files() {
 }
 
 /// A short file of k = 1 ends where its twentieth element does. Of p - 1 in place of the
-/// last zero, one or two words alone are 12, whatever they would be with the third.
+/// last zero, one or two words alone are 12, whatever they would be with the third. The
+/// converter refuses the same.
 #[test]
 fn cut_short_files() {
-    let refused = [Err(Refusal::FileLength), Err(Refusal::DestinationLength)];
+    let answers = [Err(Refusal::FileLength), Err(Refusal::DestinationLength)];
     let honest = bytes(&short_zeros());
-    for length in 4..84 {
-        assert_eq!(read_short(&honest[..length]), refused, "{length} bytes");
-    }
+    let mut files: Vec<Vec<u8>> = (4..84).map(|length| honest[..length].to_vec()).collect();
     for more in [&[0][..], &[0, 0, 0, 0xc0], &[0; 160]] {
-        let longer = [&honest, more].concat();
-        assert_eq!(read_short(&longer), refused, "{more:?}");
+        files.push([&honest, more].concat());
     }
     for words in [
         &[0x4000_0002][..],
@@ -596,8 +614,12 @@ fn cut_short_files() {
         &[0x4000_0010, 0x8000_0000],
     ] {
         let cut = short_zeros_with(19, words);
-        assert_eq!(read_short(&cut), refused, "{words:x?}");
-        assert_eq!(read_short(&[&cut, &[0; 3][..]].concat()), refused);
+        files.push([&cut, &[0; 3][..]].concat());
+        files.push(cut);
+    }
+    for file in files {
+        assert_eq!(read_short(&file), answers, "{file:x?}");
+        assert_eq!(refused(to_full, &file), Refusal::FileLength, "{file:x?}");
     }
 }
 
@@ -616,5 +638,196 @@ fn the_other_edition() {
     for file in [&full[..], &bytes(&short_zeros())] {
         assert_eq!(unpack(file, &mut taps), Err(other_edition));
         assert_eq!(taps, [7; 16]);
+    }
+}
+
+/// The words of an element in the full edition, from those in the short one: of a small
+/// one the first two are empty.
+fn full_words(words: &[u32]) -> Vec<u32> {
+    match words {
+        [low] => vec![0x4000_0000, 0x8000_0000, *low],
+        _ => words.to_vec(),
+    }
+}
+
+/// The elements of a day of zeros, k = 1, in the short edition.
+const ZEROS: [&[u32]; 20] = [&[0xc000_0000]; 20];
+
+/// The full file and the short one of elements that have these words in the short one.
+fn editions(k: u32, elements: &[&[u32]]) -> [Vec<u8>; 2] {
+    let mut full = vec![k];
+    full.extend(elements.iter().flat_map(|words| full_words(words)));
+    let mut short = vec![0x2000_0000 + k];
+    short.extend(elements.concat());
+    [bytes(&full), bytes(&short)]
+}
+
+/// What a converter writes into so many bytes.
+fn converted(convert: Converter, file: &[u8], length: usize) -> Vec<u8> {
+    let mut other = vec![7; length];
+    assert_eq!(convert(file, &mut other), Ok(()), "{length} bytes");
+    other
+}
+
+/// Zeros, p - 1, and both in turn. Where all elements have three words, the mark is all
+/// that differs.
+#[test]
+fn converted_files() {
+    let small: &[u32] = &[0xc000_0000];
+    let large: &[u32] = &[0x4000_0002, 0x8000_0050, 0xc000_0000];
+    for (k, lengths) in [
+        (1, [84, 164, 244]),
+        (2, [132, 260, 388]),
+        (16, [804, 1604, 2404]),
+        (1024, [49_188, 98_372, 147_556]),
+    ] {
+        for (pair, length) in [
+            ([small, small], lengths[0]),
+            ([small, large], lengths[1]),
+            ([large, small], lengths[1]),
+            ([large, large], lengths[2]),
+        ] {
+            let [full, short] = editions(k, &pair.repeat(6 * k as usize + 4));
+            assert_eq!((full.len(), short.len()), (lengths[2], length));
+            assert_eq!(converted(to_short, &full, length), short, "k = {k}");
+            assert_eq!(converted(to_full, &short, lengths[2]), full, "k = {k}");
+            if length == lengths[2] {
+                assert_eq!((full[3], short[3]), (0, 0x20));
+                assert_eq!(full[4..], short[4..], "k = {k}");
+            }
+        }
+    }
+}
+
+/// The day of `a_short_file_of_both_widths`, whose fifth element is 4711, into every length
+/// but its own.
+#[test]
+fn a_converted_file_of_both_widths() {
+    let [full, short] = editions(1, &BOTH_WIDTHS.map(|(_, words)| words));
+    assert_eq!((full.len(), short.len()), (244, 156));
+    let fifth = bytes(&[0x4000_0000, 0x8000_0000, 0xc000_1267]);
+    assert_eq!(full[4 + 4 * 12..4 + 5 * 12], fifth);
+    for (convert, file, other) in [
+        (to_short as Converter, &full, &short),
+        (to_full, &short, &full),
+    ] {
+        assert_eq!(converted(convert, file, other.len()), *other);
+        for length in (0..300).filter(|&length| length != other.len()) {
+            let mut room = vec![7; length];
+            let answer = convert(file, &mut room);
+            assert_eq!(answer, Err(Refusal::DestinationLength), "{length}");
+            assert_eq!(room, vec![7; length]);
+        }
+    }
+}
+
+/// 13 comes before 19, and 19, which goes by the mark alone, before 14 and 12: word 0 of a
+/// full file of zeros, of a short one, and by itself.
+#[test]
+fn word_0_of_a_file_to_convert() {
+    let (kind, value) = (
+        Refusal::WrongKind { word: 0 },
+        Refusal::WrongValue { word: 0 },
+    );
+    let same = Refusal::SameEdition;
+    let [full, short] = editions(1, &ZEROS);
+    for (head, of_short, of_full) in [
+        (0x4000_0001, kind, kind),
+        (0x6000_0001, kind, kind),
+        (0x8000_0000, kind, kind),
+        (0xe000_0001, kind, kind),
+        (0xffff_ffff, kind, kind),
+        (0x2000_0000, same, value),
+        (0x2000_0003, same, value),
+        (0x2000_0800, same, value),
+        (0x2001_0001, same, value),
+        (0x3000_0001, same, value),
+        (0x3fff_ffff, same, value),
+        (0x0000_0000, value, same),
+        (0x0000_0003, value, same),
+        (0x0000_0800, value, same),
+        (0x0001_0001, value, same),
+        (0x1000_0001, value, same),
+        (0x1fff_ffff, value, same),
+    ] {
+        let head = bytes(&[head]);
+        for rest in [&full[4..], &short[4..], &[]] {
+            let file = [&head, rest].concat();
+            assert_eq!(refused(to_short, &file), of_short, "{head:x?}");
+            assert_eq!(refused(to_full, &file), of_full, "{head:x?}");
+        }
+    }
+    for length in 0..4 {
+        for file in [&full, &short] {
+            let file = &file[..length];
+            assert_eq!(refused(to_short, file), Refusal::FileLength, "{length}");
+            assert_eq!(refused(to_full, file), Refusal::FileLength, "{length}");
+        }
+    }
+}
+
+/// Files of zeros in the wanted edition, whole, cut anywhere after word 0, and with a byte
+/// after the last element; and each with the mark of the other, which is then read as such.
+#[test]
+fn already_in_the_wanted_edition() {
+    let [mut full, mut short] = editions(1, &ZEROS);
+    for (convert, file) in [(to_full as Converter, &full), (to_short, &short)] {
+        let longer = [&file[..], &[0]].concat();
+        for length in 4..=longer.len() {
+            let refusal = refused(convert, &longer[..length]);
+            assert_eq!(refusal, Refusal::SameEdition, "{length} bytes");
+        }
+    }
+    full[3] = 0x20;
+    assert_eq!(refused(to_short, &full), Refusal::SameEdition);
+    assert_eq!(refused(to_full, &full), Refusal::LongElement { word: 1 });
+    short[3] = 0;
+    assert_eq!(refused(to_full, &short), Refusal::SameEdition);
+    assert_eq!(refused(to_short, &short), Refusal::FileLength);
+}
+
+/// Elements 0 and 19 of a full file, whose first words are 1 and 58: those of p, 2^64 and
+/// 2^90 - 1, and wrong kinds, also that of a small element of a short file, the third before
+/// the value. Another length comes before them, and 8 after them.
+#[test]
+fn damaged_full_files_to_convert() {
+    let [honest, _] = editions(1, &ZEROS);
+    for (element, word) in [(0, 1), (19, 58)] {
+        let value = Refusal::WrongValue { word };
+        for (words, refusal) in [
+            ([0x4000_0002, 0x8000_0050, 0xc000_0001], value),
+            ([0x4000_0003, 0x8000_0000, 0xc000_0005], value),
+            ([0x4000_0010, 0x8000_0000, 0xc000_0000], value),
+            ([0x7fff_ffff, 0xbfff_ffff, 0xffff_ffff], value),
+            (
+                [0xc000_0000, 0x8000_0000, 0xc000_0000],
+                Refusal::WrongKind { word },
+            ),
+            (
+                [0x0000_0000, 0x0000_0000, 0x0000_0000],
+                Refusal::WrongKind { word },
+            ),
+            (
+                [0x4000_0000, 0x4000_0000, 0x4000_0000],
+                Refusal::WrongKind { word: word + 1 },
+            ),
+            (
+                [0x4000_0010, 0x8000_0000, 0x8000_0000],
+                Refusal::WrongKind { word: word + 2 },
+            ),
+        ] {
+            let place = 4 + 12 * element;
+            let mut file = honest.clone();
+            file[place..place + 12].copy_from_slice(&bytes(&words));
+            assert_eq!(refused(to_short, &file), refusal, "{words:x?}");
+            file.push(0);
+            assert_eq!(refused(to_short, &file), Refusal::FileLength);
+            file.truncate(243);
+            assert_eq!(refused(to_short, &file), Refusal::FileLength);
+        }
+    }
+    for length in 4..244 {
+        let cut = &honest[..length];
+        assert_eq!(refused(to_short, cut), Refusal::FileLength, "{length}");
     }
 }

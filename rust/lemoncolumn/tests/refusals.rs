@@ -5,7 +5,7 @@ use lemoncolumn::*;
 use std::panic::catch_unwind;
 
 /// Each number, and whether an index or a cell is named with it there.
-const TABLE: [(u64, bool); 18] = [
+const TABLE: [(u64, bool); 19] = [
     (1, false),
     (2, true),
     (3, false),
@@ -24,6 +24,7 @@ const TABLE: [(u64, bool); 18] = [
     (16, false),
     (17, false),
     (18, true),
+    (19, false),
 ];
 
 /// The word that a call returns, with something in each of its parts.

@@ -9,6 +9,7 @@
 
 pub mod board;
 pub mod constraints;
+pub mod convert;
 pub mod edit;
 pub mod field;
 pub mod hash;
@@ -21,6 +22,7 @@ pub mod unhash;
 
 pub use board::{pack, unpack};
 pub use constraints::{check, read_off};
+pub use convert::{to_full, to_short};
 pub use edit::edit;
 pub use hash::{chain, hash};
 pub use program::clear;

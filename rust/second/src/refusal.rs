@@ -50,6 +50,8 @@ pub enum Refusal {
     ClaimBatches,
     /// 18: an element below 2^30 has three words in a short file; its first word.
     LongElement { word: u64 },
+    /// 19: the file to convert is already in the wanted edition.
+    SameEdition,
 }
 
 impl Refusal {
@@ -74,6 +76,7 @@ impl Refusal {
             Refusal::NoPair => 16,
             Refusal::ClaimBatches => 17,
             Refusal::LongElement { .. } => 18,
+            Refusal::SameEdition => 19,
         }
     }
 
@@ -89,7 +92,8 @@ impl Refusal {
             | Refusal::FileLength
             | Refusal::NoSuchTap
             | Refusal::NoPair
-            | Refusal::ClaimBatches => vec![],
+            | Refusal::ClaimBatches
+            | Refusal::SameEdition => vec![],
             Refusal::TableWord { index }
             | Refusal::TapWord { index }
             | Refusal::ClaimWord { index }

@@ -9,7 +9,7 @@ use crate::hash::{k_of_list, list_words, test_tap_words, TAP};
 use crate::refusal::Refusal;
 
 /// Bit 29 of word 0.
-const MARK: u32 = 1 << 29;
+pub const MARK: u32 = 1 << 29;
 
 /// Bytes of the file: word 0, then what the elements need. One that is not canonical is
 /// above 2^30, so that it counts as three words.
@@ -40,7 +40,7 @@ pub fn pack_short(taps: &[u64], claim: [u64; TAP], destination: &mut [u8]) -> Re
 /// Writes the taps and returns the claim.
 pub fn unpack_short(file: &[u8], destination: &mut [u64]) -> Result<[u64; TAP], Refusal> {
     let head = read_payload(file, 0, 0)?;
-    if head & MARK == 0 {
+    if !is_marked(head) {
         return Err(Refusal::Value { word: 0 });
     }
     let k = test_k(head & !MARK)?;
@@ -59,6 +59,11 @@ pub fn unpack_short(file: &[u8], destination: &mut [u64]) -> Result<[u64; TAP], 
     }
     destination.copy_from_slice(&elements[TAP..]);
     Ok([elements[0], elements[1], elements[2], elements[3]])
+}
+
+/// Is word 0 that of a short file?
+pub fn is_marked(head: u32) -> bool {
+    head & MARK != 0
 }
 
 /// Is it an element of one word?

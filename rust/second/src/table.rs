@@ -21,7 +21,7 @@ pub struct Table<'a> {
 }
 
 impl<'a> Table<'a> {
-    /// The table test: 1, 2, 4. Every operation but Prepare, Pack and Unpack
+    /// The table test: 1, 2, 4. Every operation but Prepare and those on board files
     /// begins with it.
     pub fn test(words: &'a [u64]) -> Result<Table<'a>, Refusal> {
         if words.len() != PREPARED {

@@ -1,15 +1,15 @@
 //! The operations against document 01's definitions, 004's Algorithm 1 and
 //! document 02, written here a second time in another manner: products by
 //! doubling, powers by halving, the hash column by column, the file by division, the
-//! short file also from the full one.
+//! short file also from the full one, and back.
 
 mod common;
 use common::*;
 use second::constraints::{tests, Test};
 use second::field::{self, P};
 use second::{
-    build, chain, check, edit, hash, pack, pack_short, prepare, read_off, unhash, unpack,
-    unpack_short, Refusal,
+    build, chain, check, edit, hash, pack, pack_short, prepare, read_off, to_full, to_short,
+    unhash, unpack, unpack_short, Refusal,
 };
 
 /// a times b by doubling and adding; nothing exceeds 2p.
@@ -577,36 +577,64 @@ fn short_files_there_and_back() {
     }
 }
 
-/// The short file is the full one with the mark, less the pairs of words of kinds 1 and
-/// 2 that are empty both. Back: a word of kind 3 that follows none of kind 2 gets them
-/// again.
+const PERMITTED: [usize; 11] = [1, 2, 4, 8, 16, 32, 64, 128, 256, 512, 1024];
+
+/// Words of kinds 1 and 2 that are empty.
+const EMPTY: [u8; 8] = [0, 0, 0, 0x40, 0, 0, 0, 0x80];
+
+/// The short file of a full one: with the mark, less the pairs of words of kinds 1 and 2
+/// that are empty both.
+fn less_empty_words(full: &[u8]) -> Vec<u8> {
+    let mut short = full[..4].to_vec();
+    short[3] += 0x20;
+    for element in full[4..].chunks(12) {
+        let from = if element.starts_with(&EMPTY) { 8 } else { 0 };
+        short.extend(&element[from..]);
+    }
+    short
+}
+
+/// Back: a word of kind 3 that follows none of kind 2 gets them again.
+fn with_empty_words(short: &[u8]) -> Vec<u8> {
+    let mut full = short[..4].to_vec();
+    full[3] -= 0x20;
+    for pair in short.chunks(4).collect::<Vec<_>>().windows(2) {
+        if pair[1][3] / 64 == 3 && pair[0][3] / 64 != 2 {
+            full.extend(&EMPTY);
+        }
+        full.extend(pair[1]);
+    }
+    full
+}
+
+/// The full file of a day.
+fn full_file(taps: &[u64], claim: [u64; 4]) -> Vec<u8> {
+    let mut file = vec![7; 12 * taps.len() + 52];
+    pack(taps, claim, &mut file).expect("packs");
+    file
+}
+
+/// Its short file.
+fn short_file(taps: &[u64], claim: [u64; 4]) -> Vec<u8> {
+    let mut file = vec![7; 12 * taps.len() + 52 - 8 * small_elements(taps, claim)];
+    pack_short(taps, claim, &mut file).expect("packs");
+    file
+}
+
+fn small_elements(taps: &[u64], claim: [u64; 4]) -> usize {
+    let elements = claim.iter().chain(taps);
+    elements.filter(|&&element| element < 1 << 30).count()
+}
+
 #[test]
 fn short_files_from_full_ones_and_back() {
-    let empty = [0x40000000_u32.to_le_bytes(), 0x80000000_u32.to_le_bytes()].concat();
     let mut random = Random(21);
-    for k in [1, 2, 4, 8, 16, 32, 64, 128, 256, 512, 1024] {
+    for k in PERMITTED {
         let (taps, claim) = day_of_any_widths(&mut random, k);
-        let mut full = vec![7; 144 * k + 100];
-        pack(&taps, claim, &mut full).expect("packs");
-        let mut short = full[..4].to_vec();
-        short[3] += 0x20;
-        for element in full[4..].chunks(12) {
-            let from = if element.starts_with(&empty) { 8 } else { 0 };
-            short.extend(&element[from..]);
-        }
-        let mut file = vec![7; short.len()];
-        assert_eq!(pack_short(&taps, claim, &mut file), Ok(()), "k = {k}");
-        assert_eq!(file, short, "k = {k}");
-
-        let mut back = file[..4].to_vec();
-        back[3] -= 0x20;
-        for pair in file.chunks(4).collect::<Vec<_>>().windows(2) {
-            if pair[1][3] / 64 == 3 && pair[0][3] / 64 != 2 {
-                back.extend(&empty);
-            }
-            back.extend(pair[1]);
-        }
-        assert_eq!(back, full, "k = {k}");
+        let (full, short) = (full_file(&taps, claim), short_file(&taps, claim));
+        assert_eq!(full.len(), 144 * k + 100);
+        assert_eq!(short, less_empty_words(&full), "k = {k}");
+        assert_eq!(full, with_empty_words(&short), "k = {k}");
     }
 }
 
@@ -629,6 +657,26 @@ fn lengths_of_short_files() {
     }
 }
 
+/// The file with each of its bits changed.
+fn changed_bits(file: &[u8]) -> impl Iterator<Item = Vec<u8>> + '_ {
+    (0..8 * file.len()).map(|bit| {
+        let mut other = file.to_vec();
+        other[bit / 8] ^= 1 << (bit % 8);
+        other
+    })
+}
+
+/// The file with each of its words left out, and with each word twice.
+fn changed_words(file: &[u8]) -> Vec<Vec<u8>> {
+    let words = file.chunks(4).enumerate();
+    words
+        .flat_map(|(number, word)| {
+            let (before, from) = file.split_at(4 * number);
+            [[before, &from[4..]].concat(), [before, word, from].concat()]
+        })
+        .collect()
+}
+
 /// What is accepted is what the writer makes of it, so that a claim with its list has
 /// one short file: honest files with each bit changed, each word left out, and each
 /// word twice.
@@ -636,22 +684,9 @@ fn lengths_of_short_files() {
 fn one_short_file_for_each_claim_and_list() {
     let mut random = Random(23);
     let (taps, claim) = day_of_any_widths(&mut random, 1);
-    let small = |&&element: &&u64| element < 1 << 30;
-    let small = claim.iter().chain(&taps).filter(small).count();
-    let mut file = vec![7; 244 - 8 * small];
-    pack_short(&taps, claim, &mut file).expect("packs");
-    let words = file.chunks(4).enumerate();
-    let mut others: Vec<Vec<u8>> = words
-        .flat_map(|(number, word)| {
-            let (before, from) = file.split_at(4 * number);
-            [[before, &from[4..]].concat(), [before, word, from].concat()]
-        })
-        .collect();
-    others.extend((0..8 * file.len()).map(|bit| {
-        let mut other = file.clone();
-        other[bit / 8] ^= 1 << (bit % 8);
-        other
-    }));
+    let small = small_elements(&taps, claim);
+    let file = short_file(&taps, claim);
+    let others = changed_words(&file).into_iter().chain(changed_bits(&file));
     let mut accepted = 0;
     for other in others {
         let mut read = vec![7; 16];
@@ -667,4 +702,215 @@ fn one_short_file_for_each_claim_and_list() {
     }
     // Each bit of a one-word element below its kind.
     assert!(accepted >= 30 * small, "{accepted}");
+}
+
+/// Days of every permitted k: both converters against what is done to the words.
+#[test]
+fn conversions_on_words() {
+    let mut random = Random(24);
+    for k in PERMITTED {
+        for _ in 0..4 {
+            let (taps, claim) = day_of_any_widths(&mut random, k);
+            let elements = claim.iter().chain(&taps);
+            let mut words = vec![k as u64];
+            words.extend(elements.flat_map(|&element| three_words(element)));
+            let full = low_byte_first(&words);
+            let short = less_empty_words(&full);
+            let there = converted(to_short, &full, short.len());
+            assert_eq!(there, Ok(short.clone()), "k = {k}");
+            let back = converted(to_full, &short, full.len());
+            assert_eq!(back, Ok(with_empty_words(&short)), "k = {k}");
+        }
+    }
+}
+
+/// "Same claim, same taps, other edition, and there and back gives the starting bytes."
+#[test]
+fn conversions_there_and_back() {
+    let mut random = Random(25);
+    for k in PERMITTED {
+        let (taps, claim) = day_of_any_widths(&mut random, k);
+        let (full, short) = (full_file(&taps, claim), short_file(&taps, claim));
+        let mut read = vec![7; 12 * k + 4];
+
+        let there = converted(to_short, &full, short.len()).expect("converts");
+        assert_eq!(unpack_short(&there, &mut read), Ok(claim), "k = {k}");
+        assert_eq!(read, taps, "k = {k}");
+        assert_eq!(there, short, "k = {k}");
+        let back = converted(to_full, &there, full.len());
+        assert_eq!(back, Ok(full.clone()), "k = {k}");
+
+        read.fill(7);
+        let there = converted(to_full, &short, full.len()).expect("converts");
+        assert_eq!(unpack(&there, &mut read), Ok(claim), "k = {k}");
+        assert_eq!(read, taps, "k = {k}");
+        assert_eq!(there, full, "k = {k}");
+        let back = converted(to_short, &there, short.len());
+        assert_eq!(back, Ok(short), "k = {k}");
+    }
+}
+
+/// Of all lengths up to the full file's and beyond, each converter takes one: that of
+/// the other edition's file of the same day, however long its own input is.
+#[test]
+fn lengths_of_conversions() {
+    let mut random = Random(26);
+    for small in 0..=20 {
+        let mut elements = vec![(1 << 30) - 1; small];
+        elements.resize(20, 1 << 30);
+        elements.rotate_left(random.word() as usize % 20);
+        let claim = elements[..4].try_into().expect("four words");
+        let full = full_file(&elements[4..], claim);
+        let short = less_empty_words(&full);
+        let taken = |convert: Converter, file: &[u8]| -> Vec<usize> {
+            let accepted = |&length: &usize| converted(convert, file, length).is_ok();
+            (0..=300).filter(accepted).collect()
+        };
+        assert_eq!(taken(to_short, &full), [244 - 8 * small], "{elements:x?}");
+        assert_eq!(taken(to_full, &short), [244], "{elements:x?}");
+    }
+}
+
+/// Room for as many taps as bits 0 to 15 of word 0 say, so that a reader has no 8 to
+/// give: where these bits are no permitted k, it comes to its 14 before.
+fn room_for_taps(file: &[u8]) -> Vec<u64> {
+    let k = match file {
+        [low, high, _, _, ..] => usize::from(*low) + 256 * usize::from(*high),
+        _ => 0,
+    };
+    vec![7; 12 * k + 4]
+}
+
+/// The full reader's refusal, or the short file of what it reads.
+fn short_by_reader(file: &[u8]) -> Result<Vec<u8>, Refusal> {
+    let mut taps = room_for_taps(file);
+    let claim = unpack(file, &mut taps)?;
+    Ok(short_file(&taps, claim))
+}
+
+/// The short reader's refusal, or the full file of what it reads.
+fn full_by_reader(short_file: &[u8]) -> Result<Vec<u8>, Refusal> {
+    let mut taps = room_for_taps(short_file);
+    let claim = unpack_short(short_file, &mut taps)?;
+    Ok(full_file(&taps, claim))
+}
+
+/// A converter with what must come of each file.
+const CONVERTERS: [(Converter, Expected); 2] =
+    [(to_short, short_by_reader), (to_full, full_by_reader)];
+type Expected = fn(&[u8]) -> Result<Vec<u8>, Refusal>;
+
+/// The converter answers so. Where it accepts, it says 8 to any other length, and where
+/// it does not, the length makes no difference.
+fn answers(convert: Converter, file: &[u8], expected: &Result<Vec<u8>, Refusal>) {
+    let length = expected.as_ref().map_or(file.len(), Vec::len);
+    assert_eq!(converted(convert, file, length), *expected, "{file:x?}");
+    let refusal = match expected {
+        Ok(_) => Refusal::DestinationLength,
+        Err(refusal) => *refusal,
+    };
+    for other in [0, length.saturating_sub(1), length + 1, 2 * length + 4] {
+        if other != length {
+            let answer = converted(convert, file, other);
+            assert_eq!(answer, Err(refusal), "{file:x?}");
+        }
+    }
+}
+
+/// The files of a day, in the order of CONVERTERS.
+fn both_editions(random: &mut Random, k: usize) -> [Vec<u8>; 2] {
+    let (taps, claim) = day_of_any_widths(random, k);
+    [full_file(&taps, claim), short_file(&taps, claim)]
+}
+
+/// Honest files with each bit changed: the reader's answer, but for bit 29 of word 0.
+/// There the reader says 14 and the converter 19.
+#[test]
+fn conversions_with_each_bit_changed() {
+    let mut random = Random(27);
+    for (file, (convert, expected)) in both_editions(&mut random, 1).iter().zip(CONVERTERS) {
+        let mut accepted = 0;
+        for (bit, other) in changed_bits(file).enumerate() {
+            let mut answer = expected(&other);
+            if bit == 29 {
+                assert_eq!(answer, Err(Refusal::Value { word: 0 }));
+                answer = Err(Refusal::SameEdition);
+            }
+            answers(convert, &other, &answer);
+            accepted += usize::from(answer.is_ok());
+        }
+        // The low 30 bits of each element; those of p - 1 make p or more of it.
+        assert!(accepted >= 19 * 30, "{accepted}");
+    }
+}
+
+/// Honest files cut at every byte, with bytes after the last, with each word left out,
+/// and with each word twice: the reader's answer. Where word 0 is left out, the first
+/// element's stands there, which has another kind.
+#[test]
+fn conversions_of_other_lengths() {
+    let mut random = Random(28);
+    for (file, (convert, expected)) in both_editions(&mut random, 2).iter().zip(CONVERTERS) {
+        let mut others = changed_words(file);
+        others.extend((0..file.len()).map(|length| file[..length].to_vec()));
+        others.extend((1..=16).map(|more| [&file[..], &vec![0xC0; more]].concat()));
+        for other in others {
+            let answer = expected(&other);
+            assert!(answer.is_err(), "{other:x?}");
+            answers(convert, &other, &answer);
+        }
+    }
+}
+
+/// A word of any kind and few bits or many, as it may stand in a file.
+fn any_word(random: &mut Random) -> [u8; 4] {
+    let payload = (random.word() as u32 & 0x3FFFFFFF) >> (random.word() % 31);
+    (payload + ((random.word() as u32 % 4) << 30)).to_le_bytes()
+}
+
+/// A word put in place of another, before it or at the end, or the file cut.
+fn damage(random: &mut Random, file: &mut Vec<u8>) {
+    let word = any_word(random);
+    let place = 4 * (random.word() as usize % (file.len() / 4).max(1));
+    match random.word() % 8 {
+        0 => file.truncate(random.word() as usize % (file.len() + 1)),
+        1 => file.extend(word),
+        2 => file.splice(..file.len().min(4), word).for_each(drop),
+        3 => file.splice(place..place, word).for_each(drop),
+        _ => {
+            let end = file.len().min(place + 4);
+            file.splice(place..end, word).for_each(drop);
+        }
+    }
+}
+
+/// Files damaged at random: 19 where word 0 is of kind 0 and has, or lacks, the mark,
+/// else the reader's answer. Every answer comes up.
+#[test]
+fn conversions_of_damaged_files() {
+    let mut random = Random(29);
+    let wanted = [1, 0]; // bits 29 to 31 of a word 0 of the wanted edition
+    for (number, (convert, expected)) in CONVERTERS.into_iter().enumerate() {
+        let mut seen = vec![];
+        for case in 0..6000 {
+            let [full, short] = both_editions(&mut random, 1 << (case % 3));
+            let mut file = if number == 0 { full } else { short };
+            for _ in 0..case % 4 {
+                damage(&mut random, &mut file);
+            }
+            let answer = match file.get(3) {
+                Some(byte) if byte >> 5 == wanted[number] => Err(Refusal::SameEdition),
+                _ => expected(&file),
+            };
+            answers(convert, &file, &answer);
+            seen.push(answer.map_or_else(Refusal::number, |_| 0));
+        }
+        seen.sort();
+        seen.dedup();
+        let every: &[u64] = match number {
+            0 => &[0, 12, 13, 14, 19],
+            _ => &[0, 12, 13, 14, 18, 19],
+        };
+        assert_eq!(seen, every);
+    }
 }

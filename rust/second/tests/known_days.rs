@@ -2,14 +2,15 @@
 //! expected values stand in document 01, and the count 362 in document 02, U4; the
 //! other counts, what edits answer and leave, cells 4 to 11 of the hashes (document
 //! 02, U3), the pairs that end in a state (U5), claims that end before the rows do
-//! (U6), and short files (U7), are worked out by hand from its definitions.
+//! (U6), short files (U7), and their conversion from and to full ones (U8), are worked
+//! out by hand from its definitions.
 
 mod common;
 use common::*;
 use second::field::{mul, root, P};
 use second::{
-    build, chain, check, clear, edit, hash, pack, pack_short, prepare, read_off, unhash, unpack,
-    unpack_short, Refusal,
+    build, chain, check, clear, edit, hash, pack, pack_short, prepare, read_off, to_full, to_short,
+    unhash, unpack, unpack_short, Refusal,
 };
 
 const NO_CLAIM: [u64; 4] = [0; 4];
@@ -514,24 +515,26 @@ fn a_short_file_of_both_widths() {
     assert_eq!(taps, elements[4..]);
 }
 
+/// k, word 0 and the bytes of the short file of zeros.
+const SHORT_DAYS: [(usize, u32, usize); 11] = [
+    (1, 0x20000001, 84),
+    (2, 0x20000002, 132),
+    (4, 0x20000004, 228),
+    (8, 0x20000008, 420),
+    (16, 0x20000010, 804),
+    (32, 0x20000020, 1572),
+    (64, 0x20000040, 3108),
+    (128, 0x20000080, 6180),
+    (256, 0x20000100, 12324),
+    (512, 0x20000200, 24612),
+    (1024, 0x20000400, 49188),
+];
+
 /// Zeros have 4 bytes each, and 48k + 36 with word 0; where each element is p - 1, the
 /// short file is as long as the full one.
 #[test]
 fn short_files_of_every_k() {
-    let days = [
-        (1, 0x20000001, 84),
-        (2, 0x20000002, 132),
-        (4, 0x20000004, 228),
-        (8, 0x20000008, 420),
-        (16, 0x20000010, 804),
-        (32, 0x20000020, 1572),
-        (64, 0x20000040, 3108),
-        (128, 0x20000080, 6180),
-        (256, 0x20000100, 12324),
-        (512, 0x20000200, 24612),
-        (1024, 0x20000400, 49188),
-    ];
-    for (k, head, length) in days {
+    for (k, head, length) in SHORT_DAYS {
         let mut words: Vec<u32> = vec![head];
         words.resize(length / 4, 0xC0000000);
         let mut file = vec![7; length];
@@ -571,4 +574,140 @@ fn the_other_edition() {
     assert_eq!(clear(&input(&z_raw(), &full)), "refused 14 0\n");
     let refused = Err(Refusal::LongElement { word: 1 });
     assert_eq!(unpack_short(&full, &mut [7; 16]), refused);
+}
+
+/// Word 0 gets the mark, and of each zero two words go.
+#[test]
+fn the_files_of_zeros_converted() {
+    let short = bytes(&short_zero_words());
+    assert_eq!(converted(to_short, &zero_file(), 84), Ok(short.clone()));
+    assert_eq!(converted(to_full, &short, 244), Ok(zero_file()));
+}
+
+/// The words of ELEMENTS in the full edition.
+const IN_FULL: [[u32; 3]; 20] = [
+    [0x40000000, 0x80000000, 0xC0000000],
+    [0x40000000, 0x80000000, 0xFFFFFFFF],
+    [0x40000000, 0x80000001, 0xC0000000],
+    [0x40000002, 0x80000050, 0xC0000000],
+    [0x40000000, 0x80000000, 0xC0000001],
+    [0x40000000, 0x80000000, 0xC0001267],
+    [0x40000000, 0x80000000, 0xC0000122],
+    [0x40000000, 0x80000001, 0xC0000001],
+    [0x40000000, 0x80000000, 0xE0000000],
+    [0x40000000, 0x80000001, 0xFFFFFFFF],
+    [0x40000000, 0x80000002, 0xC0000000],
+    [0x40000000, 0x80000004, 0xC0000000],
+    [0x40000000, 0xBFFFFFFF, 0xFFFFFFFF],
+    [0x40000001, 0x80000000, 0xC0000000],
+    [0x40000001, 0x80000000, 0xC0000007],
+    [0x40000002, 0x80000000, 0xC0000000],
+    [0x40000002, 0x8000004F, 0xFFFFFFFF],
+    [0x40000000, 0x80000000, 0xC0000000],
+    [0x40000002, 0x80000050, 0xC0000000],
+    [0x40000000, 0x80000000, 0xC0000002],
+];
+
+/// Each is what a converter makes of the other, so that there and back gives the
+/// starting bytes.
+fn convert_into_each_other(full: &[u32], short: &[u32]) {
+    let (full, short) = (bytes(full), bytes(short));
+    let there = converted(to_short, &full, short.len()).expect("converts");
+    assert_eq!(there, short);
+    let back = converted(to_full, &there, full.len()).expect("converts");
+    assert_eq!(back, full);
+}
+
+/// 244 bytes and 180, with the same claim and the same taps.
+#[test]
+fn a_file_of_both_widths_converted() {
+    let full = [&[0x00000001], IN_FULL.as_flattened()].concat();
+    let mut short = vec![0x20000001];
+    short.extend(ELEMENTS.iter().flat_map(|(_, words)| *words));
+    assert_eq!((full.len(), short.len()), (61, 45));
+    convert_into_each_other(&full, &short);
+    let claim = [0, (1 << 30) - 1, 1 << 30, P - 1];
+    let (mut from_full, mut from_short) = ([7; 16], [7; 16]);
+    assert_eq!(unpack(&bytes(&full), &mut from_full), Ok(claim));
+    assert_eq!(unpack_short(&bytes(&short), &mut from_short), Ok(claim));
+    let elements = ELEMENTS.map(|(element, _)| element);
+    assert_eq!(from_full, elements[4..]);
+    assert_eq!(from_short, elements[4..]);
+}
+
+/// Each of them at each place of a file of zeros, the claim's four among them: 84 bytes
+/// where it has one word, 92 where it has three.
+#[test]
+fn one_element_at_each_place_converted() {
+    for ((element, in_short), in_full) in ELEMENTS.into_iter().zip(IN_FULL) {
+        for place in 0..20 {
+            let mut full = zero_words();
+            full[1 + 3 * place..4 + 3 * place].copy_from_slice(&in_full);
+            let mut short = short_zero_words();
+            short.splice(1 + place..2 + place, in_short.iter().copied());
+            let words = if element < 1 << 30 { 21 } else { 23 };
+            assert_eq!(short.len(), words, "{element}");
+            convert_into_each_other(&full, &short);
+        }
+    }
+}
+
+/// Zeros and p - 1 in the claim and in the taps: each of the claim's four has 8 bytes
+/// more in three words, and each of the 12k + 4 of the taps. Where all are p - 1, the
+/// mark is the only difference.
+#[test]
+fn conversions_of_every_k() {
+    let largest = [0x40000002, 0x80000050, 0xC0000000];
+    let zero = ([0x40000000, 0x80000000, 0xC0000000], &[0xC0000000][..]);
+    let largest = (largest, &largest[..]);
+    for (k, head, length) in SHORT_DAYS {
+        for (claim, taps, short_length) in [
+            (zero, zero, length),
+            (largest, zero, 48 * k + 68),
+            (zero, largest, 144 * k + 68),
+            (largest, largest, 144 * k + 100),
+        ] {
+            let mut full = vec![head - 0x20000000];
+            full.extend(claim.0.repeat(4));
+            full.extend(taps.0.repeat(12 * k + 4));
+            assert_eq!(4 * full.len(), 144 * k + 100, "{k}");
+            let mut short = vec![head];
+            short.extend(claim.1.repeat(4));
+            short.extend(taps.1.repeat(12 * k + 4));
+            assert_eq!(4 * short.len(), short_length, "{k}");
+            convert_into_each_other(&full, &short);
+        }
+    }
+}
+
+/// 19, whatever the destination.
+#[test]
+fn files_of_the_wanted_edition() {
+    let refused = Err(Refusal::SameEdition);
+    let (full, short) = (zero_file(), bytes(&short_zero_words()));
+    for length in [0, 83, 84, 85, 243, 244, 245] {
+        assert_eq!(converted(to_short, &short, length), refused, "{length}");
+        assert_eq!(converted(to_full, &full, length), refused, "{length}");
+    }
+}
+
+/// p at each place of a file of zeros: 14 at its first word.
+#[test]
+fn p_minus_1_passes_and_p_does_not_in_conversions() {
+    for place in 0..20 {
+        let (in_full, in_short) = (1 + 3 * place, 1 + place);
+        let mut full = zero_words();
+        full[in_full..in_full + 3].copy_from_slice(&[0x40000002, 0x80000050, 0xC0000000]);
+        let mut short = short_zero_words();
+        short.splice(in_short..=in_short, [0x40000002, 0x80000050, 0xC0000000]);
+        convert_into_each_other(&full, &short);
+        full[in_full + 2] = 0xC0000001;
+        let word = in_full as u64;
+        let refused = Err(Refusal::Value { word });
+        assert_eq!(converted(to_short, &bytes(&full), 92), refused);
+        short[in_short + 2] = 0xC0000001;
+        let word = in_short as u64;
+        let refused = Err(Refusal::Value { word });
+        assert_eq!(converted(to_full, &bytes(&short), 244), refused);
+    }
 }

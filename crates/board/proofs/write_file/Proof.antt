@@ -6,11 +6,8 @@ use borrow.Author.Needs.{needs}
 use Rattle.board.proofs.write_file.Statement.{statement}
 use Rattle.board.proofs.write_file.Tie as tie
 
-cast-join : tie.Need-cast-join
-cast-join c = search needs
-
-join-requires : tie.Need-join-requires
-join-requires c κs = search needs
+count-word-requires : tie.Need-count-word-requires
+count-word-requires c κs = search needs
 
 write-requires : tie.Need-write-requires
 write-requires c κs = search needs
@@ -33,19 +30,18 @@ returns c =
     let claim = taps .before .before .before .before in
     let lent = claim .before .before .before in
     let word = lent .before .before in
-    let join = word .before .before in
-    let start = join .before .before .before in
+    let count = word .before .before in
+    let start = count .before .before .before in
     let a = start .args in
-    file-written (a .destination .now) _ _ _ (a .taps .now) (a .t2) (a .k) (join .join .result .0)
-    (omega arith) (start .pre .1) (start .pre .2) (join .join .ensures) (word .write .ensures)
+    file-written (a .destination .now) _ _ _ (a .taps .now) (a .t2) (a .k) (count .count-word .result .0)
+    (omega arith) (start .pre .1) (start .pre .2) (count .count-word .ensures) (word .write .ensures)
     (claim .write-all .ensures) (taps .write-all2 .ensures)
 
 pub write-file-spec : {M : Type 1} → statement M
 write-file-spec =
     tie.close
     (tie.spec
-    cast-join
-    join-requires
+    count-word-requires
     write-requires
     slice-aggregate-write-all
     write-all-requires

@@ -2,10 +2,10 @@
 -- Assumes nothing.
 use mathlib.Core.Path.{ap, _∙_}
 use Rattle.handover.specs.Code.{answerCode}
-use Rattle.export.specs.Calls.{buildCall}
+use Rattle.calls.specs.Calls.{buildCall}
 use Rattle.handover.proofs.Handed.{handed-as}
-use Rattle.export.proofs.Answers.{stopped, kept, build-without, chain-no-room-refuses}
-use Rattle.export.proofs.Answers.{build-answer, build-left}
+use Rattle.calls.proofs.Answers.{stopped, kept, build-without, chain-no-room-refuses}
+use Rattle.calls.proofs.Answers.{build-answer, build-left}
 use borrow.Author.Needs.{needs}
 use Rattle.export.proofs.lemoncolumn_build.Statement.{statement}
 use Rattle.export.proofs.lemoncolumn_build.Tie as tie

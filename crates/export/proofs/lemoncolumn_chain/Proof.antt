@@ -2,9 +2,9 @@
 -- Assumes nothing.
 use mathlib.Core.Path.{ap, _∙_}
 use Rattle.handover.specs.Code.{answerCode}
-use Rattle.export.specs.Calls.{chainCall}
+use Rattle.calls.specs.Calls.{chainCall}
 use Rattle.handover.proofs.Handed.{handed-as}
-use Rattle.export.proofs.Answers.{stopped, chain-without, chain-no-room-refuses, chain-answer}
+use Rattle.calls.proofs.Answers.{stopped, chain-without, chain-no-room-refuses, chain-answer}
 use borrow.Author.Needs.{needs}
 use Rattle.export.proofs.lemoncolumn_chain.Statement.{statement}
 use Rattle.export.proofs.lemoncolumn_chain.Tie as tie

@@ -2,10 +2,10 @@
 -- Assumes nothing.
 use mathlib.Core.Path.{ap, _∙_}
 use Rattle.handover.specs.Code.{answerCode}
-use Rattle.export.specs.Calls.{editCall}
+use Rattle.calls.specs.Calls.{editCall}
 use Rattle.handover.proofs.Handed.{handed-as}
-use Rattle.export.proofs.Answers.{stopped, kept, edit-without, edit-no-room-refuses}
-use Rattle.export.proofs.Answers.{edit-answer, edit-left}
+use Rattle.calls.proofs.Answers.{stopped, kept, edit-without, edit-no-room-refuses}
+use Rattle.calls.proofs.Answers.{edit-answer, edit-left}
 use borrow.Author.Needs.{needs}
 use Rattle.export.proofs.lemoncolumn_edit.Statement.{statement}
 use Rattle.export.proofs.lemoncolumn_edit.Tie as tie

@@ -2,9 +2,9 @@
 -- Assumes nothing.
 use mathlib.Core.Path.{ap, _∙_}
 use Rattle.handover.specs.Code.{answerCode}
-use Rattle.export.specs.Calls.{hashCall}
+use Rattle.calls.specs.Calls.{hashCall}
 use Rattle.handover.proofs.Handed.{state-handed-as}
-use Rattle.export.proofs.Answers.{state-stopped, hash-without, hash-no-room-refuses, hash-answer}
+use Rattle.calls.proofs.Answers.{state-stopped, hash-without, hash-no-room-refuses, hash-answer}
 use borrow.Author.Needs.{needs}
 use Rattle.export.proofs.lemoncolumn_hash.Statement.{statement}
 use Rattle.export.proofs.lemoncolumn_hash.Tie as tie

@@ -2,7 +2,7 @@
 -- Assumes nothing.
 use mathlib.Core.Path.{sym, ap, _∙_}
 use Rattle.handover.specs.Code.{answerCode}
-use Rattle.export.proofs.Answers.{unhash-handed, unhash-refused, unhash-stopped}
+use Rattle.calls.proofs.Answers.{unhash-handed, unhash-refused, unhash-stopped}
 use borrow.Author.Needs.{needs}
 use Rattle.export.proofs.lemoncolumn_unhash.Statement.{statement}
 use Rattle.export.proofs.lemoncolumn_unhash.Tie as tie

@@ -4,8 +4,8 @@
 use mathlib.Core.Path.{ap, _∙_}
 use Rattle.handover.specs.Code.{digestCode}
 use Rattle.handover.proofs.Handed.{handed-as}
-use Rattle.export.proofs.Answers.{kept, list-kept, unpack-without, unpack-stopped, no-list-refuses}
-use Rattle.export.proofs.Answers.{unpack-answer, unpack-left}
+use Rattle.calls.proofs.Answers.{kept, list-kept, unpack-without, unpack-stopped, no-list-refuses}
+use Rattle.calls.proofs.Answers.{unpack-answer, unpack-left}
 use borrow.Author.Needs.{needs}
 use Rattle.export.proofs.lemoncolumn_unpack.Statement.{statement}
 use Rattle.export.proofs.lemoncolumn_unpack.Tie as tie

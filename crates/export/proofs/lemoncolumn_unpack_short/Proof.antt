@@ -4,9 +4,9 @@
 use mathlib.Core.Path.{ap, _∙_}
 use Rattle.handover.specs.Code.{digestCode}
 use Rattle.handover.proofs.Handed.{handed-as}
-use Rattle.export.proofs.Answers.{kept, list-kept, unpack-short-without, unpack-short-stopped}
-use Rattle.export.proofs.Answers.{no-short-list-refuses}
-use Rattle.export.proofs.Answers.{unpack-short-answer, unpack-short-left}
+use Rattle.calls.proofs.Answers.{kept, list-kept, unpack-short-without, unpack-short-stopped}
+use Rattle.calls.proofs.Answers.{no-short-list-refuses}
+use Rattle.calls.proofs.Answers.{unpack-short-answer, unpack-short-left}
 use borrow.Author.Needs.{needs}
 use Rattle.export.proofs.lemoncolumn_unpack_short.Statement.{statement}
 use Rattle.export.proofs.lemoncolumn_unpack_short.Tie as tie

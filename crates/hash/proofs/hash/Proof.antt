@@ -9,7 +9,7 @@ use Rattle.hash.specs.Hash.{finalState}
 use Rattle.hash.specs.Answers.{hashAnswer}
 use Rattle.hash.proofs.Answers.{hash-inputs}
 use Rattle.hash.proofs.CodeStates.{canonical-state}
-use Rattle.hash.proofs.CodeChain.{first-input, two-taps-state}
+use Rattle.hash.proofs.CodeInput.{two-taps, two-taps-state}
 use borrow.Author.Needs.{needs}
 use Rattle.hash.proofs.hash.Statement.{statement}
 use Rattle.hash.proofs.hash.Tie as tie
@@ -33,31 +33,40 @@ returns : tie.Need-returns
 unfolding hashAnswer
 returns c = state-turned-back (c .before .before .before .test-hash .ensures) _ (c .refusal .ensures)
 
-slice-aggregate-chain-start : tie.Need-slice-aggregate-chain-start
-slice-aggregate-chain-start c = search needs
+array-read-t12 : tie.Need-array-read-t12
+array-read-t12 c = search needs
 
-chain-start-requires : tie.Need-chain-start-requires
-chain-start-requires c κs = search needs
+array-read-t15 : tie.Need-array-read-t15
+array-read-t15 c = search needs
 
-slice-aggregate-input-of : tie.Need-slice-aggregate-input-of
-slice-aggregate-input-of c = search needs
+array-read-t18 : tie.Need-array-read-t18
+array-read-t18 c = search needs
 
-input-of-requires : tie.Need-input-of-requires
-input-of-requires c κs = search needs
+array-read-t21 : tie.Need-array-read-t21
+array-read-t21 c = search needs
+
+array-read-t24 : tie.Need-array-read-t24
+array-read-t24 c = search needs
+
+array-read-t27 : tie.Need-array-read-t27
+array-read-t27 c = search needs
+
+array-read-t30 : tie.Need-array-read-t30
+array-read-t30 c = search needs
+
+array-read-t33 : tie.Need-array-read-t33
+array-read-t33 c = search needs
 
 eight : (entry : tie.Start) → length (entry .args .t2) ≡ 8
 eight entry = search needs
 
 final-state-requires : tie.Need-final-state-requires
 final-state-requires c κs =
-    let started = c .before .before in
-    let told = started .before .before in
-    let t = told .before .before in
+    let t = c .before .before in
     let entry = t .before .before .before in
     let w = entry .args .t2 in
-    let i = hash-inputs _ _ (sym (t .test-hash .ensures) ∙ told .enum-told .given .1) in
-    let made = first-input w (eight entry) (started .chain-start .ensures) (c .input-of .ensures) in
-    (i .table, canonical-state made (two-taps-state w (eight entry) (i .canonical)))
+    let i = hash-inputs _ _ (sym (t .test-hash .ensures) ∙ c .enum-told .given .1) in
+    (i .table, canonical-state (two-taps w (eight entry)) (two-taps-state w (eight entry) (i .canonical)))
 
 of-requires : tie.Need-of-requires
 of-requires c κs = search needs
@@ -66,12 +75,10 @@ returns-2 : tie.Need-returns-2
 unfolding hashAnswer
 returns-2 c =
     let ended = c .before in
-    let read = ended .before in
-    let started = read .before .before in
-    let told = started .before .before in
+    let told = ended .before in
     let t = told .before .before in
     let entry = t .before .before .before in
-    let made = first-input (entry .args .t2) (eight entry) (started .chain-start .ensures) (read .input-of .ensures) in
+    let made = two-taps (entry .args .t2) (eight entry) in
     state-returned (t .test-hash .ensures) (told .enum-told .given .1)
     (c .of .ensures ∙ ap state (ended .final-state .ensures ∙ ap (finalState (entry .args .table .now)) made))
 
@@ -85,10 +92,14 @@ hash-spec =
     enum-told-2
     refusal-requires
     returns
-    slice-aggregate-chain-start
-    chain-start-requires
-    slice-aggregate-input-of
-    input-of-requires
+    array-read-t12
+    array-read-t15
+    array-read-t18
+    array-read-t21
+    array-read-t24
+    array-read-t27
+    array-read-t30
+    array-read-t33
     final-state-requires
     of-requires
     returns-2)

@@ -111,6 +111,12 @@ enum-known-refusal-9 c = search needs
 indexed-requires-8 : tie.Need-indexed-requires-8
 indexed-requires-8 c κs = search needs
 
+enum-told-10 : tie.Need-enum-told-10
+enum-told-10 c = search needs
+
+alone-requires-10 : tie.Need-alone-requires-10
+alone-requires-10 c κs = search needs
+
 returns : tie.Need-returns
 returns c = c .alone .ensures ∙ sym (ap told (c .before .enum-told .given .1))
 
@@ -165,6 +171,9 @@ returns-17 c = c .alone9 .ensures ∙ sym (ap told (c .before .enum-told9 .given
 returns-18 : tie.Need-returns-18
 returns-18 c = c .indexed8 .ensures ∙ sym (ap told (c .before .before .refusal9 .given .1))
 
+returns-19 : tie.Need-returns-19
+returns-19 c = c .alone10 .ensures ∙ sym (ap told (c .before .enum-told10 .given .1))
+
 pub told-spec : {M : Type 1} → statement M
 told-spec =
     tie.close
@@ -204,6 +213,8 @@ told-spec =
     alone-requires-9
     enum-known-refusal-9
     indexed-requires-8
+    enum-told-10
+    alone-requires-10
     returns
     returns-2
     returns-3
@@ -221,4 +232,5 @@ told-spec =
     returns-15
     returns-16
     returns-17
-    returns-18)
+    returns-18
+    returns-19)

@@ -9,7 +9,7 @@ use borrow.Author.Needs.{needs}
 use lib.ListN.{length, take}
 use Rattle.words.specs.Words.{AllCanonical}
 use Rattle.hash.specs.Hash.{input, tap, outputAt}
-use Rattle.hash.proofs.CodeChain.{input-canonical, goes-on}
+use Rattle.chain.proofs.CodeChain.{input-canonical, goes-on}
 use Rattle.trace.specs.Trace.{traceRow}
 use Rattle.trace.specs.RowHelpers.{withRows, rowsBefore}
 use Rattle.trace.proofs.WrittenRows.{rows-none}

@@ -1,37 +1,31 @@
 -- `shortboard::write_file`: word 0, then claim and taps, one after the other.
 -- Assumes nothing.
-use mathlib.Core.Path.{_≡_, ap, _∙_}
-use lib.Dec.{lit<}
+use mathlib.Core.Path.{_≡_, _∙_}
 use lib.ListN.{length}
 use borrow.Author.Needs.{needs}
-use Rattle.elements.specs.Words.{joined}
 use Rattle.shortboard.specs.ShortBoard.{shortFileSize}
-use Rattle.shortboard.proofs.Files.{mark-or, mark-fits, word-fits, claim-fits, taps-fit}
-use Rattle.shortboard.proofs.Files.{file-written}
+use Rattle.shortboard.proofs.Files.{word-fits, claim-fits, taps-fit, file-written}
 use Rattle.shortboard.proofs.write_file.Statement.{statement}
 use Rattle.shortboard.proofs.write_file.Tie as tie
 
--- the function's entry, once word 0 is joined
-abbrev entry : tie.After-slice-known → tie.Start
-entry c = c .before .before
+-- the function's entry, once word 0 is made
+abbrev entry : tie.After-count-word → tie.Start
+entry c = c .before .before .before
 
 -- and once it is written, where the destination is as long as it was
 abbrev start : tie.After-write → tie.Start
-start w = entry (w .before .before .before)
+start w = entry (w .before .before)
 
 sized : (w : tie.After-write)
     → length (w .write .last .1 .1 .0) ≡ shortFileSize (start w .args .taps .now) (start w .args .t2)
 sized w = w .write .kept .1 .1 .0 ∙ start w .pre .1
 
-cast-join : tie.Need-cast-join
-cast-join c = search needs
-
-join-requires : tie.Need-join-requires
-join-requires c κs = (lit< tt, mark-fits (entry c .args .k) (entry c .pre .0))
+count-word-requires : tie.Need-count-word-requires
+count-word-requires c κs = search needs
 
 write-requires : tie.Need-write-requires
 write-requires c κs =
-    let s = entry (c .before .before) in
+    let s = entry (c .before) in
     word-fits (s .args .destination .now) (s .args .taps .now) (s .args .t2) (s .pre .1)
 
 slice-aggregate-write-all : tie.Need-slice-aggregate-write-all
@@ -59,19 +53,17 @@ returns c =
     let taps = c .before .before in
     let claim = taps .before .before .before .before in
     let word = claim .before .before .before .before .before in
-    let join = word .before .before in
-    let a = entry (join .before) .args in
-    let p = entry (join .before) .pre in
-    file-written (a .destination .now) _ _ _ (a .taps .now) (a .t2) (a .k) (join .join .result .0)
-    (claim .write-all .result) (p .1) (join .join .ensures ∙ ap (joined 0) (mark-or (a .k) (p .0)))
-    (claim .write-all .ensures .0) (word .write .ensures) (claim .write-all .ensures .1) (taps .write-all2 .ensures .1)
+    let count = word .before .before in
+    let a = entry count .args in
+    file-written (a .destination .now) _ _ _ (a .taps .now) (a .t2) (a .k) (count .count-word .result .0)
+    (claim .write-all .result) (entry count .pre .1) (count .count-word .ensures) (claim .write-all .ensures .0)
+    (word .write .ensures) (claim .write-all .ensures .1) (taps .write-all2 .ensures .1)
 
 pub write-file-spec : {M : Type 1} → statement M
 write-file-spec =
     tie.close
     (tie.spec
-    cast-join
-    join-requires
+    count-word-requires
     write-requires
     slice-aggregate-write-all
     write-all-requires

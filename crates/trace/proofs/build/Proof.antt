@@ -5,7 +5,7 @@ use mathlib.Core.Path.{sym, ap, _∙_}
 use native.Mathlib.Omega.{arith}
 use Rattle.refusals.specs.Refusals.{digest}
 use Rattle.refusals.proofs.Laws.{digest-turned-back, digest-returned, leaves-old, leaves-new}
-use Rattle.hash.proofs.Answers.{digest-take}
+use Rattle.chain.proofs.Answers.{digest-take}
 use Rattle.trace.specs.Answers.{buildAnswer, buildLeaves}
 use Rattle.trace.proofs.Answers.{build-inputs}
 use borrow.Author.Needs.{needs}

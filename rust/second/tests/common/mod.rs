@@ -88,12 +88,16 @@ pub fn input(raw: &[u64], file: &[u8]) -> Vec<u8> {
 }
 
 /// The 244-byte file of zeros, in document 01's own words.
-pub fn zero_file() -> Vec<u8> {
+pub fn zero_words() -> Vec<u32> {
     let mut words: Vec<u32> = vec![0x00000001];
     for _ in 0..20 {
         words.extend([0x40000000, 0x80000000, 0xC0000000]);
     }
-    bytes(&words)
+    words
+}
+
+pub fn zero_file() -> Vec<u8> {
+    bytes(&zero_words())
 }
 
 /// The same day in the short edition, one word for each zero: 84 bytes.
@@ -106,4 +110,18 @@ pub fn short_zero_words() -> Vec<u32> {
 /// Bytes of 32-bit words.
 pub fn bytes(words: &[u32]) -> Vec<u8> {
     words.iter().flat_map(|word| word.to_le_bytes()).collect()
+}
+
+/// A converter takes a file and a destination.
+pub type Converter = fn(&[u8], &mut [u8]) -> Result<(), Refusal>;
+
+/// What a converter writes into a destination of this length. A refused call writes
+/// nothing; the destination holds bytes that differ from their neighbours before.
+pub fn converted(convert: Converter, file: &[u8], length: usize) -> Result<Vec<u8>, Refusal> {
+    let before: Vec<u8> = (0..length).map(|byte| (7 * byte + 5) as u8).collect();
+    let mut destination = before.clone();
+    let answer = convert(file, &mut destination);
+    let untouched = destination == before;
+    assert!(untouched || answer.is_ok(), "written by a refused call");
+    answer.map(|()| destination)
 }

@@ -1,0 +1,3 @@
+pub mod FirstTaps
+pub mod CodeChain
+pub mod Answers
