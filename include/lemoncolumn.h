@@ -7,7 +7,8 @@
  * lent to it, and that lent memory does not change during a call: no other thread writes to it, nor reads what the call
  * writes. Calls at the same time may share what they only read. A refused call leaves every lent buffer as it was.
  *
- * A word is an unsigned 64-bit number, canonical when below LEMONCOLUMN_P. k is a permitted batch count: 1, 2, 4, .., 1024. */
+ * A word is an unsigned 64-bit number, canonical when below LEMONCOLUMN_P. k is a permitted batch count: 1, 2, 4, .., 262144; in the
+ * full edition of the board file 1, 2, 4, .., 1024. */
 #ifndef LEMONCOLUMN_H
 #define LEMONCOLUMN_H
 
@@ -35,7 +36,7 @@ uint64_t lemoncolumn_interface(void);
 /* The field's prime, 2^61 + 20 * 2^32 + 1. */
 #define LEMONCOLUMN_P UINT64_C(2305843095113039873)
 
-/* Lengths, in words; that of the board file in bytes. */
+/* Lengths, in words; that of the board file in bytes. The trace of the largest k has 805306368 bytes, and its list of taps 25165856. */
 #define LEMONCOLUMN_RAW_WORDS 396                              /* M row by row, then K_0 to K_20 */
 #define LEMONCOLUMN_TABLE_WORDS 540                            /* M, its inverse, then K_0 to K_20 */
 #define LEMONCOLUMN_DIGEST_WORDS 4                             /* the output of a chain, or a claim */
@@ -44,7 +45,8 @@ uint64_t lemoncolumn_interface(void);
 #define LEMONCOLUMN_TAP_WORDS(k) ((size_t)12 * (k) + 4)        /* 3k + 1 taps */
 #define LEMONCOLUMN_TRACE_WORDS(k) ((size_t)384 * (k))         /* 32 rows of 12 cells a batch */
 #define LEMONCOLUMN_FILE_BYTES(k) ((size_t)144 * (k) + 100)
-#define LEMONCOLUMN_MOST_BATCHES 1024                          /* the largest k */
+#define LEMONCOLUMN_MOST_BATCHES 262144                        /* the largest k, 2^18 */
+#define LEMONCOLUMN_MOST_FILE_BATCHES 1024                     /* the largest k of a board file in the full edition */
 
 /* What a call returns: one word, read by the functions at the end of this file. */
 typedef uint64_t lemoncolumn_code;
@@ -89,17 +91,18 @@ lemoncolumn_code lemoncolumn_edit(const uint64_t *table, size_t table_words, uin
                                   uint64_t c2, uint64_t c3, size_t c, size_t tap, uint64_t w0, uint64_t w1, uint64_t w2, uint64_t w3,
                                   uint64_t *output, size_t output_words);
 
-/* Writes the board file of taps and claim: 5, 8, 9, 6. The file has no c: its claim is about all of its taps, c = k. */
+/* Writes the board file of taps and claim: 5, 8, 9, 6. The file has no c: its claim is about all of its taps, c = k. Here 5 is also
+ * for a k above LEMONCOLUMN_MOST_FILE_BATCHES, whose list has a short file alone. */
 lemoncolumn_code lemoncolumn_pack(const uint64_t *taps, size_t tap_words, uint64_t c0, uint64_t c1, uint64_t c2, uint64_t c3, uint8_t *file,
                                   size_t file_bytes);
 
 /* Writes the taps and the claim of a board file: 12 (below 4 bytes), 13 and 14 of word 0, 12, 8, then 13 and 14 of each element. A short
- * file gets 14 with index 0. */
+ * file, and a k above LEMONCOLUMN_MOST_FILE_BATCHES, get 14 with index 0. */
 lemoncolumn_code lemoncolumn_unpack(const uint8_t *file, size_t file_bytes, uint64_t *taps, size_t tap_words, uint64_t *claim, size_t claim_words);
 
-/* The short edition of the board file (document 02, U7): an element below 2^30 is one 32-bit word, any other has three as in the full
- * edition, and word 0 has a mark beside k. The length is what the elements need: this where all are below 2^30, and up to that of the full
- * file, LEMONCOLUMN_FILE_BYTES(k), where none is. */
+/* The short edition of the board file (document 02, U7 and U9): an element below 2^30 is one 32-bit word, any other has three as in the full
+ * edition, and word 0 has a mark beside k, which may be up to LEMONCOLUMN_MOST_BATCHES. The length is what the elements need: this where all
+ * are below 2^30, and up to LEMONCOLUMN_FILE_BYTES(k), also for a k that has no full file, where none is. */
 #define LEMONCOLUMN_SHORTEST_FILE_BYTES(k) ((size_t)48 * (k) + 36)
 #define LEMONCOLUMN_ONE_WORD_BITS 30
 #define LEMONCOLUMN_SHORT_MARK (UINT32_C(1) << 29)
@@ -123,13 +126,13 @@ static inline uint32_t lemoncolumn_file_word(const uint8_t *bytes)
     return (uint32_t)bytes[3] << 24 | (uint32_t)bytes[2] << 16 | (uint32_t)bytes[1] << 8 | bytes[0];
 }
 
-/* The k in word 0 of a short file, for whose taps its reader asks room. 0 where these bytes do not begin as a short file does: the reader
- * refuses them whatever the room. */
+/* The k in word 0 of a short file, bits 0 to 19, for whose taps its reader asks room. 0 where these bytes do not begin as a short file
+ * does: the reader refuses them whatever the room. */
 static inline size_t lemoncolumn_short_batches(const uint8_t *file, size_t file_bytes)
 {
     if (file_bytes < 4)
         return 0;
-    uint32_t k = lemoncolumn_file_word(file) ^ LEMONCOLUMN_SHORT_MARK; /* too large where the mark is not set, or any bit above k */
+    uint32_t k = lemoncolumn_file_word(file) ^ LEMONCOLUMN_SHORT_MARK; /* too large where the mark is not set, or any bit from 19 on */
     return (k & (k - 1)) == 0 && k <= LEMONCOLUMN_MOST_BATCHES ? k : 0;
 }
 
@@ -142,14 +145,15 @@ lemoncolumn_code lemoncolumn_pack_short(const uint64_t *taps, size_t tap_words, 
 lemoncolumn_code lemoncolumn_unpack_short(const uint8_t *file, size_t file_bytes, uint64_t *taps, size_t tap_words, uint64_t *claim,
                                           size_t claim_words);
 
-/* The converters between the editions (document 02, U8), for cradles that read only full files. Bytes of the short file of a full one, the
- * length that lemoncolumn_to_short asks for: as in the short file of its taps and claim, by the payloads of its words. It answers for any
- * bytes; 0 where a full file of no k has this length: the converter refuses such bytes whatever the room. */
+/* The converters between the editions (document 02, U8 and U9), for cradles that read only full files, up to LEMONCOLUMN_MOST_FILE_BATCHES. Bytes
+ * of the short file of a full one, the length that lemoncolumn_to_short asks for: as in the short file of its taps and claim, by the
+ * payloads of its words. It answers for any bytes; 0 where a full file of no k has this length: the converter refuses such bytes whatever
+ * the room. */
 static inline size_t lemoncolumn_to_short_bytes(const uint8_t *file, size_t file_bytes)
 {
     const size_t element_bytes = 12;
     size_t k = file_bytes / (LEMONCOLUMN_FILE_BYTES(1) - LEMONCOLUMN_FILE_BYTES(0));
-    if (k == 0 || (k & (k - 1)) != 0 || k > LEMONCOLUMN_MOST_BATCHES || LEMONCOLUMN_FILE_BYTES(k) != file_bytes)
+    if (k == 0 || (k & (k - 1)) != 0 || k > LEMONCOLUMN_MOST_FILE_BATCHES || LEMONCOLUMN_FILE_BYTES(k) != file_bytes)
         return 0;
     size_t elements_of_three = 0;
     for (size_t i = 4; i < file_bytes; i += element_bytes) {
@@ -160,11 +164,11 @@ static inline size_t lemoncolumn_to_short_bytes(const uint8_t *file, size_t file
 }
 
 /* Bytes of the full file of a short one, the length that lemoncolumn_to_full asks for: that of the k in word 0. 0 where these bytes do not
- * begin as a short file does: the converter refuses them whatever the room. */
+ * begin as a short file does, or where k is above LEMONCOLUMN_MOST_FILE_BATCHES: the converter refuses them whatever the room. */
 static inline size_t lemoncolumn_to_full_bytes(const uint8_t *short_file, size_t short_file_bytes)
 {
     size_t k = lemoncolumn_short_batches(short_file, short_file_bytes);
-    return k == 0 ? 0 : LEMONCOLUMN_FILE_BYTES(k);
+    return k == 0 || k > LEMONCOLUMN_MOST_FILE_BATCHES ? 0 : LEMONCOLUMN_FILE_BYTES(k);
 }
 
 /* Writes the short file of a full one, with the same claim and taps: 12 (below 4 bytes), 13 of word 0, 19 where it has the mark of a short
@@ -172,7 +176,8 @@ static inline size_t lemoncolumn_to_full_bytes(const uint8_t *short_file, size_t
 lemoncolumn_code lemoncolumn_to_short(const uint8_t *file, size_t file_bytes, uint8_t *short_file, size_t short_file_bytes);
 
 /* Writes the full file of a short one, with the same claim and taps: 12 (below 4 bytes), 13 of word 0, 19 where it has not the mark of a
- * short file, 14 of word 0, then 12, 13, 14 and 18 as lemoncolumn_unpack_short, and last 8. There and back gives the same bytes. */
+ * short file, 14 of word 0, also where k is above LEMONCOLUMN_MOST_FILE_BATCHES, then 12, 13, 14 and 18 as lemoncolumn_unpack_short, and
+ * last 8. There and back gives the same bytes. */
 lemoncolumn_code lemoncolumn_to_full(const uint8_t *short_file, size_t short_file_bytes, uint8_t *file, size_t file_bytes);
 
 /* What is turned back (document 01, and document 02 from 15 on). */
@@ -182,7 +187,7 @@ enum lemoncolumn_refusal {
     LEMONCOLUMN_TABLE_WORD = 2,         /* table word not canonical: its lowest index */
     LEMONCOLUMN_NO_INVERSE = 3,         /* M has no inverse */
     LEMONCOLUMN_WRONG_INVERSE = 4,      /* M times the stored inverse unlike the identity: 12 * row + column of the first such cell */
-    LEMONCOLUMN_TAP_LENGTH = 5,         /* tap list not 12k + 4 words, k permitted */
+    LEMONCOLUMN_TAP_LENGTH = 5,         /* tap list not 12k + 4 words with k permitted, for a full file k up to 1024 */
     LEMONCOLUMN_TAP_WORD = 6,           /* tap word, or cell lent to unhash, not canonical: its lowest index */
     LEMONCOLUMN_TRACE_LENGTH = 7,       /* trace not 384k words, k permitted */
     LEMONCOLUMN_DESTINATION_LENGTH = 8, /* a destination not of the exact length */
@@ -191,8 +196,8 @@ enum lemoncolumn_refusal {
     LEMONCOLUMN_CONSTRAINT = 11,        /* a constraint fails: the row in the whole trace, the constraint, the test's place in the order */
     LEMONCOLUMN_FILE_LENGTH = 12,       /* file below 4 bytes, or not 144k + 100; a short one cut off, or with bytes after its last element */
     LEMONCOLUMN_WRONG_KIND = 13,        /* wrong kind: index of the 32-bit word */
-    LEMONCOLUMN_WRONG_VALUE = 14,       /* spare bits, the other edition's file, or k not permitted: index 0; element not canonical: index of
-                                           its first 32-bit word */
+    LEMONCOLUMN_WRONG_VALUE = 14,       /* spare bits, the other edition's file, k not permitted, or above 1024 in or for a full file: index 0;
+                                           element not canonical: index of its first 32-bit word */
     LEMONCOLUMN_NO_SUCH_TAP = 15,       /* tap number above 3k */
     LEMONCOLUMN_NO_PAIR = 16,           /* no pair of taps ends in that state */
     LEMONCOLUMN_CLAIM_BATCHES = 17,     /* c is 0 or above k */

@@ -77,6 +77,7 @@ board boards/k1024 'accepted 1024 380928' 'word 1024; repeat 8 "repeat 1537 \"el
 board boards/k1024more 'refused 12' 'cat boards/k1024; zeros 1' 'too long'
 board boards/k16 'accepted 16 5952' 'zero_file 16'
 board boards/k2 'accepted 2 744' 'zero_file 2'
+board boards/k2048 'refused 14 0' 'word 2048; repeat 8 "repeat 3073 \"elements 0\""' 'too long'
 board boards/k3 'refused 14 0' 'zero_file 3'
 board boards/k32 'accepted 32 11904' 'zero_file 32' 'too long'
 board boards/kind 'refused 13 5' 'with "zero_file 1" 20 "word 0xc0000000"'
@@ -86,7 +87,7 @@ mkdir boards/y
 echo 'boards/y: not read: not a regular file' >>boards.expected
 ln -s nowhere boards/z
 echo 'boards/z: not read: No such file or directory (os error 2)' >>boards.expected
-clears boards '5 accepted, 9 refused, 2 not read' 2
+clears boards '5 accepted, 10 refused, 2 not read' 2
 
 board refused/1 'accepted 1 372' 'zero_file 1'
 board refused/2 'refused 12' 'zeros 2'

@@ -1,6 +1,6 @@
 /* The known days of document 01, their hashes with all twelve cells, edits of them, the two taps found again from the last row of a
- * day, a day that closes before its rows end, and a day in the short edition of the board file, converted to the full one and back,
- * through the library for C. Prints one line for each; known_days.expected has what they must be. */
+ * day, a day that closes before its rows end, a day in the short edition of the board file, converted to the full one and back, and a
+ * season of 2048 batches, through the library for C. Prints one line for each; known_days.expected has what they must be. */
 #include "lemoncolumn.h"
 
 #include <inttypes.h>
@@ -288,7 +288,7 @@ static void show_converted_lengths(void)
     memset(ones, 0xff, sizeof ones);
     printf(" %zu\n", lemoncolumn_to_short_bytes(ones, sizeof ones));
     printf("bytes of full files: %zu", lemoncolumn_to_full_bytes(zeros, sizeof zeros));
-    const uint8_t words[][4] = {{1, 0, 0, 0x20}, {0, 4, 0, 0x20}, {0, 8, 0, 0x20}};
+    const uint8_t words[][4] = {{1, 0, 0, 0x20}, {0, 4, 0, 0x20}, {0, 8, 0, 0x20}, {0, 0, 4, 0x20}};
     for (size_t i = 0; i < sizeof words / sizeof *words; i++)
         printf(" %zu", lemoncolumn_to_full_bytes(words[i], sizeof *words));
     printf("\n");
@@ -297,7 +297,8 @@ static void show_converted_lengths(void)
 /* What k is read in files that begin with these words, as short ones or not. */
 static void show_batches(void)
 {
-    static const uint32_t words[] = {0x20000001, 0x20000400, 0x00000001, 0x20000000, 0x20000003, 0x20000800, 0x20010001, 0x60000001, 0xe0000001};
+    static const uint32_t words[] = {0x20000001, 0x20000400, 0x20000800, 0x20040000, 0x00000001, 0x20000000, 0x20000003,
+                                     0x20010001, 0x20080000, 0x20100000, 0x60000001, 0xe0000001};
     printf("k of short files:");
     for (size_t i = 0; i < sizeof words / sizeof *words; i++) {
         const uint8_t file[] = {words[i] & 0xff, words[i] >> 8 & 0xff, words[i] >> 16 & 0xff, words[i] >> 24};
@@ -342,6 +343,46 @@ static void radio(void)
     show_converted_lengths();
 }
 
+enum { SEASON = 2048 };
+
+/* The files of a season: a short one alone, since the full edition has at most LEMONCOLUMN_MOST_FILE_BATCHES. */
+static void files_of_a_season(const uint64_t *taps, const uint64_t *claim)
+{
+    static uint8_t full[LEMONCOLUMN_FILE_BYTES(SEASON)];
+    static uint8_t file[LEMONCOLUMN_FILE_BYTES(SEASON)];
+    static uint64_t read[LEMONCOLUMN_TAP_WORDS(SEASON)];
+    uint64_t read_claim[LEMONCOLUMN_DIGEST_WORDS];
+    size_t tap_words = LEMONCOLUMN_TAP_WORDS(SEASON);
+    show("packed in the full edition", lemoncolumn_pack(taps, tap_words, claim[0], claim[1], claim[2], claim[3], full, sizeof full));
+    size_t bytes = lemoncolumn_short_file_bytes(taps, tap_words, claim[0], claim[1], claim[2], claim[3]);
+    show("packed in the short edition", lemoncolumn_pack_short(taps, tap_words, claim[0], claim[1], claim[2], claim[3], file, bytes));
+    printf("its bytes and its k: %zu %zu\n", bytes, lemoncolumn_short_batches(file, bytes));
+    show_first_bytes(file, 8);
+    show("unpacked", lemoncolumn_unpack_short(file, bytes, read, tap_words, read_claim, LEMONCOLUMN_DIGEST_WORDS));
+    int same = memcmp(read, taps, 8 * tap_words) == 0 && memcmp(read_claim, claim, sizeof read_claim) == 0;
+    printf("the same taps and claim: %s\n", same ? "yes" : "no");
+    printf("bytes of its full file: %zu\n", lemoncolumn_to_full_bytes(file, bytes));
+    show("converted to the full edition", lemoncolumn_to_full(file, bytes, full, sizeof full));
+}
+
+/* A season in one chain: 2048 batches of zero taps. Under A each hash adds 1 to cell 0 of the first tap, and a batch has three. */
+static void season(const uint64_t *a)
+{
+    static uint64_t taps[LEMONCOLUMN_TAP_WORDS(SEASON)];
+    static uint64_t trace[LEMONCOLUMN_TRACE_WORDS(SEASON)];
+    uint64_t out[LEMONCOLUMN_DIGEST_WORDS];
+    show("a season of 2048 batches built",
+         lemoncolumn_build(a, LEMONCOLUMN_TABLE_WORDS, taps, LEMONCOLUMN_TAP_WORDS(SEASON), trace, LEMONCOLUMN_TRACE_WORDS(SEASON), out,
+                           LEMONCOLUMN_DIGEST_WORDS));
+    show_words("its output", out);
+    show_tests("checked", lemoncolumn_check(a, LEMONCOLUMN_TABLE_WORDS, trace, LEMONCOLUMN_TRACE_WORDS(SEASON), out[0], out[1], out[2], out[3],
+                                            SEASON));
+    files_of_a_season(taps, out);
+    const int most = LEMONCOLUMN_MOST_BATCHES;
+    printf("words of the longest list and trace: %zu %zu\n", LEMONCOLUMN_TAP_WORDS(most), LEMONCOLUMN_TRACE_WORDS(most));
+    printf("bytes of its short file: %zu to %zu\n", LEMONCOLUMN_SHORTEST_FILE_BYTES(most), LEMONCOLUMN_FILE_BYTES(most));
+}
+
 /* The refusals of documents 01 and 02, as the header decodes them. */
 static void indices(void)
 {
@@ -372,6 +413,7 @@ int main(void)
     closed_early(s);
     files();
     radio();
+    season(a);
     indices();
     return 0;
 }

@@ -5,8 +5,8 @@
 //!
 //! Prints a line for each entry of the folder, in the order of their names: its
 //! path, then what the program `clear` prints for this table and board, or `not
-//! read` and why. Unlike the program it takes every permitted k. The last line
-//! sums up. Progress goes to standard error where that is a terminal.
+//! read` and why. Unlike the program it takes every k of a full file, up to 1024. The
+//! last line sums up. Progress goes to standard error where that is a terminal.
 //!
 //! Exit status: 0 where every board is accepted; 1 where one is refused; 2 where
 //! something could not be read, the table is refused, or the usage is wrong.
@@ -26,7 +26,7 @@ use lemoncolumn::*;
 
 type Table = [u64; TABLE_WORDS];
 
-const LONGEST_BOARD: usize = file_bytes(MOST_BATCHES);
+const LONGEST_BOARD: usize = file_bytes(MOST_FILE_BATCHES);
 const BETWEEN_WRITES: Duration = Duration::from_millis(100);
 
 /// What is said of one entry of the folder.

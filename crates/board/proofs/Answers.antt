@@ -1,6 +1,6 @@
 -- What Pack's and Unpack's tests say where they accept, and that they accept what passes each of them.
 -- Assumes nothing.
-use mathlib.Core.Path.{_≡_, sym, ap, _∙_}
+use mathlib.Core.Path.{_≡_, refl, sym, ap, _∙_}
 use mathlib.Core.List.{List}
 use Prim.Native.Nat.{ℕ, _+_, _*_, _≤_}
 use native.Mathlib.Omega.{arith}
@@ -18,7 +18,7 @@ use Rattle.refusals.specs.declared.Refusal.the-variants.{FileLength, WrongKind,
 use Rattle.refusals.specs.declared.Answer.the-variants.{Accepted, Refused}
 use Rattle.refusals.specs.declared.Digest.{Digest}
 use Rattle.refusals.specs.declared.DigestAnswer.the-variants as digest-answer
-use Rattle.refusals.proofs.Laws.{passed, both-accepted, digest-accepted}
+use Rattle.refusals.proofs.Laws.{passed, both-accepted, digest-accepted, AnswerEnds, unless-ends, one-cause}
 use Rattle.elements.specs.Words.{kindOf, wordAt}
 use Rattle.elements.specs.Elements.{elementsTest}
 use Rattle.elements.proofs.Tests.{each-accepted, all-accepted}
@@ -82,6 +82,28 @@ count-complete k p =
     let spare : spareIn (countWord k) ≡ 0 = omega (arith, p .high) in
     let right = ap (permitted mostFileBatches) k-is ∙ permitted-complete mostFileBatches k p in
     (k-is, rw (eq-eqb _ _ kind, eq-eqb _ _ spare, right))
+
+-- it is refused for its kind, or else, where it is no such word, with 14
+pub count-kind : (w : ℕ) → (kindOf w ≡ 0 → ⊥) → countTest w ≡ Refused (WrongKind 0)
+unfolding countTest
+count-kind w n = rw (ne-eqb _ _ n)
+
+pub count-value : (w : ℕ) → kindOf w ≡ 0 → ((k : ℕ) → IsPermittedTo mostFileBatches k → w ≡ countWord k → ⊥)
+    → countTest w ≡ Refused (WrongValue 0)
+unfolding countTest
+count-value w z n = one-cause (WrongValue 0) (countTest w) ends none
+  where
+    none : countTest w ≡ Accepted → ⊥
+    none e = let c = count-accepted w e in n (countIn w) (c .1) (c .0)
+
+    Q : Refusal → Type 0
+    Q s = s ≡ WrongValue 0
+
+    ends : AnswerEnds Q (countTest w)
+    ends =
+        rw (eq-eqb _ _ z)
+        (unless-ends Q (eqb (spareIn w) 0) (WrongValue 0) _ (λ a. refl) λ a.
+        unless-ends Q (permitted mostFileBatches (countIn w)) (WrongValue 0) _ (λ b. refl) λ b. tt)
 
 -- ---- Unpack
 

@@ -19,7 +19,7 @@ use Rattle.elements.specs.Elements.{wordsOf, elementsAt, elementsTest, IsElemen
 
 -- ---- the file of k batches
 
--- the most batches of a file
+-- the most batches of a file, fewer than of a list of taps (document 02, U9)
 abbrev pub mostFileBatches : ℕ
 mostFileBatches = 1024
 

@@ -15,8 +15,8 @@ use refusals::Digest;
 use refusals::DigestAnswer;
 use refusals::Refusal;
 
-// The most batches of a file.
-pub const MOST_BATCHES: usize = 1024;
+// The most batches of a file, fewer than of a list of taps (document 02, U9).
+pub const MOST_FILE_BATCHES: usize = 1024;
 
 // The elements beside those of the batches: the claim, and the one tap more.
 pub const EXTRA_ELEMENTS: usize = 2 * TAP_WORDS;
@@ -30,7 +30,7 @@ pub const EXTRA_BYTES: usize = 4 + 12 * EXTRA_ELEMENTS;
 fn test_pack(taps: &[u64], claim: [u64; 4], size: usize) -> Answer
     ensures { λ r. ⌜ r ≡ packTest (now (taps .entry)) claim size ⌝ }
 {
-    let BatchCount::Permitted(k) = numbers::tap_batches(MOST_BATCHES, taps.len()) else {
+    let BatchCount::Permitted(k) = numbers::tap_batches(MOST_FILE_BATCHES, taps.len()) else {
         return Answer::Refused(Refusal::TapLength);
     };
     if size != BATCH_BYTES * k + EXTRA_BYTES {
@@ -95,7 +95,7 @@ pub fn test_count(word: Word) -> Answer
     if word.payload() >> 16 != 0 {
         return Answer::Refused(Refusal::WrongValue(0));
     }
-    if numbers::is_permitted(MOST_BATCHES, count_in(word)) {
+    if numbers::is_permitted(MOST_FILE_BATCHES, count_in(word)) {
         Answer::Accepted
     } else {
         Answer::Refused(Refusal::WrongValue(0))

@@ -35,7 +35,7 @@ use Rattle.unhash.proofs.Theorems.{taps-size}
 use Rattle.board.specs.Board.{batchesIn, claimIn, tapsIn, unpackTest, unpackAnswer, unpackLeaves}
 use Rattle.board.proofs.Answers.{unpack-accepted}
 use Rattle.shortboard.specs.ShortBoard.{shortClaimIn, shortTapsIn, unpackShortTest, unpackShortAnswer}
-use Rattle.shortboard.specs.ShortBoard.{unpackShortLeaves}
+use Rattle.shortboard.specs.ShortBoard.{unpackShortLeaves, shortBatchesIn}
 use Rattle.shortboard.proofs.Answers as short
 use Rattle.handover.specs.Code.{refusalCode, answerCode, digestCode}
 use Rattle.handover.specs.HandsOver.{HandsOver, HandsOverState}
@@ -160,7 +160,7 @@ module _ (file : List ℕ) (taps size : ℕ) where
 
   pub unpack-short-without : (size ≡ 4 → ⊥) → unpackShortCallTest file taps size ≡ unpackShortTest file 0
   unfolding unpackShortTest unpackShortCallTest
-  unpack-short-without e = rw (ne-eqb size 4 e, ne-eqb 0 (12 * batchesIn file + 4) (λ q. omega arith))
+  unpack-short-without e = rw (ne-eqb size 4 e, ne-eqb 0 (12 * shortBatchesIn file + 4) (λ q. omega arith))
 
 -- no list of taps has 0 words
 no-list : (t : Answer) (k : ℕ) → (t ≡ answer.Accepted → 0 ≡ 12 * k + 4) → Refuses t
@@ -172,7 +172,7 @@ no-list-refuses file = no-list (unpackTest file 0) (batchesIn file) (λ e. unpac
 
 pub no-short-list-refuses : (file : List ℕ) → Refuses (unpackShortTest file 0)
 no-short-list-refuses file =
-    no-list (unpackShortTest file 0) (batchesIn file) (λ e. short.unpack-accepted file 0 e .1)
+    no-list (unpackShortTest file 0) (shortBatchesIn file) (λ e. short.unpack-accepted file 0 e .1)
 
 -- so that the answer for such a destination is the one that stops at 8
 module _ (file : List ℕ) (taps size : ℕ) (without : size ≡ 4 → ⊥) where

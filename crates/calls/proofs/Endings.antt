@@ -49,8 +49,8 @@ use Rattle.shortreading.specs.Reading.{nextWord, shortTest, shortsTest, Element
 use Rattle.shortreading.specs.Reading.{second-kind, no-third, third-kind, too-large, needless}
 use Rattle.shortreading.proofs.Tests.{next-most, faulty}
 use Rattle.shortboard.proofs.Answers.{CountFault, kind, value, count-faulty}
-use Rattle.shortboard.specs.ShortBoard.{mostShortBatches, shortFileSize, packShortTest, markIn, shortCountTest}
-use Rattle.shortboard.specs.ShortBoard.{unpackShortTest}
+use Rattle.shortboard.specs.ShortBoard.{shortFileSize, packShortTest, markIn, shortCountTest}
+use Rattle.shortboard.specs.ShortBoard.{unpackShortTest, shortBatchesIn}
 use Rattle.editions.specs.Edition.{fullMark, shortMark, editionTest}
 use Rattle.toshort.specs.ToShort.{toShortTest}
 use Rattle.tofull.specs.ToFull.{toFullTest}
@@ -131,12 +131,12 @@ module _ (Q : Refusal → Type 0) (causes : TableCauses Q) where
         unless-ends Q (eqb size 8) DestinationLength _ (λ f. q8) λ f. cells-end e
 
   -- ---- Chain: 1, 2, 4, 5, 6, from another language 1, 2, 4, 5, 8, 6; and Build: 1, 2, 4, 5, 8, 6
-  module _ (T w : List ℕ) (q5 : Q TapLength)
+  module _ (T w : List ℕ) (q5 : isTapLength mostBatches (length w) ≡ false → Q TapLength)
       (q6 : (k : ℕ) → length w ≡ 12 * k + 4 → IsPermitted k → (i : ℕ) → i < length w → Q (TapWord i)) where
     taps-end : (rest : Answer) → (((i : ℕ) → i < length w → Q (TapWord i)) → AnswerEnds Q rest)
         → AnswerEnds Q (unless (isTapLength mostBatches (length w)) TapLength rest)
     taps-end rest n =
-        unless-ends Q (isTapLength mostBatches (length w)) TapLength rest (λ e. q5) λ e.
+        unless-ends Q (isTapLength mostBatches (length w)) TapLength rest q5 λ e.
         let s = tap-length-sound mostBatches (length w) e in
         n (q6 (tapWordBatches (length w)) (s .0) (s .1))
 
@@ -169,9 +169,9 @@ module _ (Q : Refusal → Type 0) (causes : TableCauses Q) where
         room-ends q8 (eqb size 4 && eqb rows (384 * tapWordBatches (length w)))
 
   -- ---- Check: 1, 2, 4, 7, 17, 9, 10, 11; Read-off: 1, 2, 4, 7, 17, 8, 9, 10, 11; and Edit: 1, 2, 4, 7, 17, 15, 9,
-  -- 10, 6, 11, from another language 1, 2, 4, 7, 17, 15, 8, 9, 10, 6, 11. What is to be shown of 17 and of 11 may use
-  -- all that was tested before
-  module _ (T t claim : List ℕ) (c : ℕ) (q7 : Q TraceLength)
+  -- 10, 6, 11, from another language 1, 2, 4, 7, 17, 15, 8, 9, 10, 6, 11. What is to be shown of 7 may use that the
+  -- length is wrong, and of 17 and 11 all that was tested before
+  module _ (T t claim : List ℕ) (c : ℕ) (q7 : isTraceLength mostBatches (length t) ≡ false → Q TraceLength)
       (q17 : (k : ℕ) → tableTest T ≡ Accepted → IsPermitted k → length t ≡ 384 * k → (c ≡ 0) ⊎ (k < c) → Q ClaimBatches)
       (q9 : (i : ℕ) → i < length claim → Q (ClaimWord i))
       (q10 : (k : ℕ) → length t ≡ 384 * k → IsPermitted k → (i : ℕ) → i < length t → Q (TraceWord i)) where
@@ -198,7 +198,7 @@ module _ (Q : Refusal → Type 0) (causes : TableCauses Q) where
     unfolding openingTest
     opening-ends =
         after-ends Q (tableTest T) _ (table-ends T) λ e.
-        unless-ends Q (isTraceLength mostBatches (length t)) TraceLength _ (λ f. q7) λ f.
+        unless-ends Q (isTraceLength mostBatches (length t)) TraceLength _ q7 λ f.
         let s = trace-length-sound mostBatches (length t) f in
         unless-ends Q (between 1 k c) ClaimBatches Accepted (λ g. q17 k e (s .1) (s .0) (outside k c g)) λ g. tt
 
@@ -259,21 +259,25 @@ module _ (Q : Refusal → Type 0) (causes : TableCauses Q) where
           edited-end o (q11 (eqb-true size 4 h) (leb-true n (3 * k) g))
 
 -- ---- Pack and the short edition's writer: 5, 8, 9, 6
-module _ (Q : Refusal → Type 0) (taps claim : List ℕ) (size : ℕ) (q5 : Q TapLength) (q8 : Q DestinationLength)
+module _ (Q : Refusal → Type 0) (taps claim : List ℕ) (size : ℕ) (q8 : Q DestinationLength)
     (q9 : (i : ℕ) → i < length claim → Q (ClaimWord i)) where
+  -- the list's length is refused where it is that of no k batches
+  abbrev Taps5 : ℕ → Type 0
+  Taps5 most = isTapLength most (length taps) ≡ false → Q TapLength
+
   -- a tap's word is refused in a list of k batches, k permitted
   abbrev Taps6 : ℕ → Type 0
   Taps6 most =
       (k : ℕ) → length taps ≡ 12 * k + 4 → IsPermittedTo most k → (i : ℕ) → i < length taps → Q (TapWord i)
 
   -- most is the edition's most batches, n the length of its file
-  write-ends : (most n : ℕ) → Taps6 most
+  write-ends : (most n : ℕ) → Taps5 most → Taps6 most
       → AnswerEnds Q (unless (isTapLength most (length taps)) TapLength
       (unless (eqb size n) DestinationLength
       (unless (canonicalWords claim) (ClaimWord (firstBad claim))
       (unless (canonicalWords taps) (TapWord (firstBad taps)) Accepted))))
-  write-ends most n q6 =
-      unless-ends Q (isTapLength most (length taps)) TapLength _ (λ e. q5) λ e.
+  write-ends most n q5 q6 =
+      unless-ends Q (isTapLength most (length taps)) TapLength _ q5 λ e.
       let s = tap-length-sound most (length taps) e in
       unless-ends Q (eqb size n) DestinationLength _ (λ f. q8) λ f.
       unless-ends Q (canonicalWords claim) (ClaimWord (firstBad claim)) _
@@ -281,13 +285,13 @@ module _ (Q : Refusal → Type 0) (taps claim : List ℕ) (size : ℕ) (q5 : Q T
       unless-ends Q (canonicalWords taps) (TapWord (firstBad taps)) _
       (λ h. q6 (tapWordBatches (length taps)) (s .0) (s .1) (firstBad taps) (bad-test taps h)) λ h. tt
 
-  pub pack-ends : Taps6 mostFileBatches → AnswerEnds Q (packTest taps claim size)
+  pub pack-ends : Taps5 mostFileBatches → Taps6 mostFileBatches → AnswerEnds Q (packTest taps claim size)
   unfolding packTest
   pack-ends = write-ends mostFileBatches (fileSize (tapWordBatches (length taps)))
 
-  pub pack-short-ends : Taps6 mostShortBatches → AnswerEnds Q (packShortTest taps claim size)
+  pub pack-short-ends : Taps5 mostBatches → Taps6 mostBatches → AnswerEnds Q (packShortTest taps claim size)
   unfolding packShortTest
-  pack-short-ends = write-ends mostShortBatches (shortFileSize taps claim)
+  pack-short-ends = write-ends mostBatches (shortFileSize taps claim)
 
 -- ---- what a converter tests first: 12 (below 4), word 0's 13, 19
 edition-ends : (Q : Refusal → Type 0) (file : List ℕ) (mark : ℕ) → Q FileLength → Q (WrongKind 0) → Q SameEdition
@@ -359,10 +363,10 @@ module _ (Q : Refusal → Type 0) (file : List ℕ) (q12 : Q FileLength)
 
 -- ---- the short edition's reader: 12 (below 4), word 0's 13 then 14, 8, then element by element 12, 13, 14, 18, and 12
 module _ (Q : Refusal → Type 0) (file : List ℕ) (q12 : Q FileLength)
-    (q13 : (j : ℕ) → j < 36 * batchesIn file + 25 → Q (WrongKind j))
-    (q14 : (j : ℕ) → j < 36 * batchesIn file + 25 → Q (WrongValue j))
-    (q18 : (j : ℕ) → j < 36 * batchesIn file + 25 → Q (LongElement j)) where
-  by-fault : (j : ℕ) → j + 3 ≤ 36 * batchesIn file + 25 → (r : Refusal) → ElementFault file j r → Q r
+    (q13 : (j : ℕ) → j < 36 * shortBatchesIn file + 25 → Q (WrongKind j))
+    (q14 : (j : ℕ) → j < 36 * shortBatchesIn file + 25 → Q (WrongValue j))
+    (q18 : (j : ℕ) → j < 36 * shortBatchesIn file + 25 → Q (LongElement j)) where
+  by-fault : (j : ℕ) → j + 3 ≤ 36 * shortBatchesIn file + 25 → (r : Refusal) → ElementFault file j r → Q r
   by-fault j h r (no-first l e) = subst Q (sym e) q12
   by-fault j h r (first-kind l n m e) = subst Q (sym e) (q13 j (omega arith))
   by-fault j h r (no-second l a m e) = subst Q (sym e) q12
@@ -372,7 +376,7 @@ module _ (Q : Refusal → Type 0) (file : List ℕ) (q12 : Q FileLength)
   by-fault j h r (too-large l a b c m e) = subst Q (sym e) (q14 j (omega arith))
   by-fault j h r (needless l is m e) = subst Q (sym e) (q18 j (omega arith))
 
-  short-elements-end : (j n : ℕ) → j + 3 * n ≤ 36 * batchesIn file + 25 → AnswerEnds Q (shortsTest file j n)
+  short-elements-end : (j n : ℕ) → j + 3 * n ≤ 36 * shortBatchesIn file + 25 → AnswerEnds Q (shortsTest file j n)
   unfolding shortsTest
   short-elements-end j zero h = unless-ends Q (eqb (4 * j) (length file)) FileLength _ (λ e. q12) λ e. tt
   short-elements-end j (suc n) h =
@@ -392,30 +396,32 @@ module _ (Q : Refusal → Type 0) (file : List ℕ) (q12 : Q FileLength)
       → AnswerEnds Q (unless (leb 4 (length file)) FileLength
       (after (shortCountTest (wordAt file 0))
       (unless room DestinationLength
-      (shortsTest file 1 (12 * batchesIn file + 8)))))
+      (shortsTest file 1 (12 * shortBatchesIn file + 8)))))
   read-short-ends room q8 =
       unless-ends Q (leb 4 (length file)) FileLength _ (λ e. q12) λ e.
       after-ends Q (shortCountTest (wordAt file 0)) _ (short-count-ends (wordAt file 0)) λ f.
       unless-ends Q room DestinationLength _ q8 λ h.
-      short-elements-end 1 (12 * batchesIn file + 8) (omega arith)
+      short-elements-end 1 (12 * shortBatchesIn file + 8) (omega arith)
 
-  pub unpack-short-ends : (size : ℕ) → ((size ≡ 12 * batchesIn file + 4 → ⊥) → Q DestinationLength)
+  pub unpack-short-ends : (size : ℕ) → ((size ≡ 12 * shortBatchesIn file + 4 → ⊥) → Q DestinationLength)
       → AnswerEnds Q (unpackShortTest file size)
   unfolding unpackShortTest
-  unpack-short-ends size q8 = read-short-ends (eqb size (12 * batchesIn file + 4)) (λ h. q8 (eqb-false _ _ h))
+  unpack-short-ends size q8 = read-short-ends (eqb size (12 * shortBatchesIn file + 4)) (λ h. q8 (eqb-false _ _ h))
 
   pub unpack-short-call-ends : (taps size : ℕ) → Q DestinationLength
       → AnswerEnds Q (unpackShortCallTest file taps size)
   unfolding unpackShortCallTest
   unpack-short-call-ends taps size q8 =
-      read-short-ends (eqb size 4 && eqb taps (12 * batchesIn file + 4)) (λ h. q8)
+      read-short-ends (eqb size 4 && eqb taps (12 * shortBatchesIn file + 4)) (λ h. q8)
 
-  -- to the full edition: the same with 19 right after the kind of word 0, and 8 last
+  -- to the full edition: the same with 19 right after the kind of word 0, 14 for too many batches right after word 0,
+  -- and 8 last
   pub to-full-ends : (size : ℕ) → Q SameEdition → Q DestinationLength → AnswerEnds Q (toFullTest file size)
   unfolding toFullTest
   to-full-ends size q19 q8 =
       after-ends Q (editionTest file shortMark) _ (edition-ends Q file shortMark q12 (q13 0 (omega arith)) q19) λ e.
       after-ends Q (shortCountTest (wordAt file 0)) _ (short-count-ends (wordAt file 0)) λ f.
-      after-ends Q (shortsTest file 1 (12 * batchesIn file + 8)) _
-      (short-elements-end 1 (12 * batchesIn file + 8) (omega arith)) λ g.
-      unless-ends Q (eqb size (fileSize (batchesIn file))) DestinationLength _ (λ h. q8) λ h. tt
+      unless-ends Q (leb (shortBatchesIn file) mostFileBatches) (WrongValue 0) _ (λ g. q14 0 (omega arith)) λ g.
+      after-ends Q (shortsTest file 1 (12 * shortBatchesIn file + 8)) _
+      (short-elements-end 1 (12 * shortBatchesIn file + 8) (omega arith)) λ h.
+      unless-ends Q (eqb size (fileSize (shortBatchesIn file))) DestinationLength _ (λ i. q8) λ i. tt

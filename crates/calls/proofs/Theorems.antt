@@ -7,7 +7,8 @@ use Prim.Native.Nat.{ℕ, _+_, _*_, _^_, _≤_, _<_}
 use native.Mathlib.Omega.{arith}
 use lib.Dec.{lit<}
 use lib.ListN.{length, length-append}
-use Rattle.numbers.specs.Numbers.{IsPermitted, traceWordBatches}
+use Rattle.numbers.specs.Numbers.{IsPermitted, mostBatches, traceWordBatches}
+use Rattle.numbers.proofs.Laws.{permitted-to}
 use Rattle.refusals.specs.Refusals.{indexed, alone}
 use Rattle.constraints.specs.Constraints.{Test, tests}
 use Rattle.constraints.specs.FirstFailing.{IsFirstFailing}
@@ -22,7 +23,7 @@ use Rattle.checker.specs.Answers.{checkTest}
 use Rattle.checker.proofs.Answers.{CheckInputs}
 use Rattle.readoff.specs.Answers.{readOffTest}
 use Rattle.board.specs.Board.{packTest, batchesIn}
-use Rattle.shortboard.specs.ShortBoard.{packShortTest}
+use Rattle.shortboard.specs.ShortBoard.{packShortTest, shortBatchesIn}
 use Rattle.toshort.specs.ToShort.{toShortTest}
 use Rattle.tofull.specs.ToFull.{toFullTest}
 use Rattle.calls.specs.Calls.{hashCallTest, chainCallTest, buildCallTest, editCallTest, unhashCallTest}
@@ -83,6 +84,10 @@ file-bits : (file : List ℕ) (n j : ℕ) → n < 2 ^ 6 → j < 36 * batchesIn f
 unfolding batchesIn
 file-bits file n j l h = indexed-bits n j l (omega arith)
 
+short-bits : (file : List ℕ) (n j : ℕ) → n < 2 ^ 6 → j < 36 * shortBatchesIn file + 25 → InBits (indexed n j)
+unfolding shortBatchesIn
+short-bits file n j l h = indexed-bits n j l (omega arith)
+
 -- row, constraint and place of a failing test
 failing-bits : (T t claim : List ℕ) (c k : ℕ) → IsPermitted k → 1 ≤ c → c ≤ k → (i q n : ℕ)
     → IsFirstFailing T t claim (tests k c) i q n
@@ -118,10 +123,10 @@ unhash-bits T s size h =
     (λ e c. alone-bits 16 (lit< tt)) size eight
 
 pub chain-bits : (T w : List ℕ) (size : ℕ) → AnswerEnds RefusalInBits (chainCallTest T w size)
-chain-bits T w size = ends.chain-call-ends RefusalInBits table-bits T w five (taps-bits w) size eight
+chain-bits T w size = ends.chain-call-ends RefusalInBits table-bits T w (λ n. five) (taps-bits w) size eight
 
 pub build-bits : (T w : List ℕ) (rows size : ℕ) → AnswerEnds RefusalInBits (buildCallTest T w rows size)
-build-bits T w rows size = ends.build-call-ends RefusalInBits table-bits T w five (taps-bits w) rows size eight
+build-bits T w rows size = ends.build-call-ends RefusalInBits table-bits T w (λ n. five) (taps-bits w) rows size eight
 
 module _ (T t claim : List ℕ) (c : ℕ) (four : length claim ≡ 4) where
   failing : let k = traceWordBatches (length t) in
@@ -133,19 +138,19 @@ module _ (T t claim : List ℕ) (c : ℕ) (four : length claim ≡ 4) where
 
   pub check-bits : AnswerEnds RefusalInBits (checkTest T t claim c)
   check-bits =
-      ends.check-ends RefusalInBits table-bits T t claim c seven (out-of-range T t c)
+      ends.check-ends RefusalInBits table-bits T t claim c (λ n. seven) (out-of-range T t c)
       (claim-bits claim four) (trace-bits t) failing
 
   pub read-off-bits : (size : ℕ) → AnswerEnds RefusalInBits (readOffTest T t claim c size)
   read-off-bits size =
-      ends.read-off-ends RefusalInBits table-bits T t claim c seven (out-of-range T t c)
+      ends.read-off-ends RefusalInBits table-bits T t claim c (λ n. seven) (out-of-range T t c)
       (claim-bits claim four) (trace-bits t)
       size eight (λ s. failing)
 
   pub edit-bits : (n : ℕ) (new : List ℕ) (size : ℕ) → length new ≡ 4
       → AnswerEnds RefusalInBits (editCallTest T t claim c n new size)
   edit-bits n new size h =
-      ends.edit-call-ends RefusalInBits table-bits T t claim c seven (out-of-range T t c)
+      ends.edit-call-ends RefusalInBits table-bits T t claim c (λ n. seven) (out-of-range T t c)
       (claim-bits claim four) (trace-bits t)
       n new (alone-bits 15 (lit< tt)) (λ i l. indexed-bits 6 i (lit< tt) (omega arith)) size eight (λ s l a. failing)
 
@@ -156,7 +161,8 @@ tests-bits k c p low high = omega (arith, length-tests k c low high, p .high)
 pub pack-bits : (taps claim : List ℕ) (size : ℕ) → length claim ≡ 4
     → AnswerEnds RefusalInBits (packTest taps claim size)
 pack-bits taps claim size four =
-    ends.pack-ends RefusalInBits taps claim size five eight (claim-bits claim four) (taps-bits taps)
+    ends.pack-ends RefusalInBits taps claim size eight (claim-bits claim four) (λ n. five)
+    (λ k s p. taps-bits taps k s (permitted-to mostBatches k p (omega (arith, p .high))))
 
 pub unpack-bits : (file : List ℕ) (taps size : ℕ) → AnswerEnds RefusalInBits (unpackCallTest file taps size)
 unpack-bits file taps size =
@@ -166,12 +172,12 @@ unpack-bits file taps size =
 pub pack-short-bits : (taps claim : List ℕ) (size : ℕ) → length claim ≡ 4
     → AnswerEnds RefusalInBits (packShortTest taps claim size)
 pack-short-bits taps claim size four =
-    ends.pack-short-ends RefusalInBits taps claim size five eight (claim-bits claim four) (taps-bits taps)
+    ends.pack-short-ends RefusalInBits taps claim size eight (claim-bits claim four) (λ n. five) (taps-bits taps)
 
 pub unpack-short-bits : (file : List ℕ) (taps size : ℕ) → AnswerEnds RefusalInBits (unpackShortCallTest file taps size)
 unpack-short-bits file taps size =
-    ends.unpack-short-call-ends RefusalInBits file twelve (λ j h. file-bits file 13 j (lit< tt) h)
-    (λ j h. file-bits file 14 j (lit< tt) h) (λ j h. file-bits file 18 j (lit< tt) h) taps size eight
+    ends.unpack-short-call-ends RefusalInBits file twelve (λ j h. short-bits file 13 j (lit< tt) h)
+    (λ j h. short-bits file 14 j (lit< tt) h) (λ j h. short-bits file 18 j (lit< tt) h) taps size eight
 
 pub to-short-bits : (file : List ℕ) (size : ℕ) → AnswerEnds RefusalInBits (toShortTest file size)
 to-short-bits file size =
@@ -180,5 +186,5 @@ to-short-bits file size =
 
 pub to-full-bits : (file : List ℕ) (size : ℕ) → AnswerEnds RefusalInBits (toFullTest file size)
 to-full-bits file size =
-    ends.to-full-ends RefusalInBits file twelve (λ j h. file-bits file 13 j (lit< tt) h)
-    (λ j h. file-bits file 14 j (lit< tt) h) (λ j h. file-bits file 18 j (lit< tt) h) size nineteen eight
+    ends.to-full-ends RefusalInBits file twelve (λ j h. short-bits file 13 j (lit< tt) h)
+    (λ j h. short-bits file 14 j (lit< tt) h) (λ j h. short-bits file 18 j (lit< tt) h) size nineteen eight

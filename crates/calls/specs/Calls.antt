@@ -35,6 +35,7 @@ use Rattle.elements.specs.Elements.{elementsTest}
 use Rattle.board.specs.Board.{fileSize, elementCount, packTest, packLeaves, batchesIn, claimIn, tapsIn, countTest}
 use Rattle.shortreading.specs.Reading.{shortsTest}
 use Rattle.shortboard.specs.ShortBoard.{packShortTest, packShortLeaves, shortClaimIn, shortTapsIn, shortCountTest}
+use Rattle.shortboard.specs.ShortBoard.{shortBatchesIn}
 use Rattle.toshort.specs.ToShort.{toShortTest, toShortLeaves}
 use Rattle.tofull.specs.ToFull.{toFullTest, toFullLeaves}
 use Rattle.handover.specs.Code.{answerCode, testsCode}
@@ -185,8 +186,8 @@ unfoldable pub unpackShortCallTest : List ℕ → ℕ → ℕ → Answer
 unpackShortCallTest file taps size =
     unless (leb 4 (length file)) FileLength
     (after (shortCountTest (wordAt file 0))
-    (unless (eqb size 4 && eqb taps (tapWords (batchesIn file))) DestinationLength
-    (shortsTest file 1 (elementCount (batchesIn file)))))
+    (unless (eqb size 4 && eqb taps (tapWords (shortBatchesIn file))) DestinationLength
+    (shortsTest file 1 (elementCount (shortBatchesIn file)))))
 
 unfoldable pub unpackShortCall : List ℕ → ℕ → ℕ → DigestAnswer
 unpackShortCall file taps size = digestAfter (unpackShortCallTest file taps size) (digest (shortClaimIn file))
@@ -201,8 +202,8 @@ pub record ToShortCall (file old : List ℕ) (code : ℕ) (new : List ℕ) : Typ
   pub coded : code ≡ answerCode (toShortTest file (length old))
   pub short : new ≡ toShortLeaves file old
 
--- and back: 12 (below 4), word 0's 13, 19, 14, then element by element 12 where the input ends, 13, 14, 18, and 12 for
--- bytes after the last, and last 8
+-- and back: 12 (below 4), word 0's 13, 19, 14, right after it 14 for more batches than a full file has, then element by
+-- element 12 where the input ends, 13, 14, 18, and 12 for bytes after the last, and last 8
 pub record ToFullCall (short old : List ℕ) (code : ℕ) (new : List ℕ) : Type 0 where
   pub coded : code ≡ answerCode (toFullTest short (length old))
   pub file : new ≡ toFullLeaves short old

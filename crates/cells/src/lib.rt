@@ -6,7 +6,6 @@ ghost use Rattle.field.specs.MontgomeryHelpers.{quotient};
 ghost use Rattle.words.specs.Words.{CanonicalTo};
 ghost use Rattle.numbers.specs.Numbers.{width};
 ghost use Rattle.cells.specs.CellHelpers.{wordProducts};
-use field::montgomery;
 use numbers::WIDTH;
 
 // Each cell of a times that of b.

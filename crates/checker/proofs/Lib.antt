@@ -1,3 +1,2 @@
-pub mod WalkSteps
 pub mod Answers
 pub mod Theorems

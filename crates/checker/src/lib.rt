@@ -1,4 +1,4 @@
-// Check: the walk through the tests of a trace (document 01, "The 52 constraints"; document 02, U6).
+// Check: the tests before the walk, and the walk (document 01, "The 52 constraints"; document 02, U6).
 ghost use mathlib.Core.Path.{_≡_};
 ghost use Prim.Native.Nat.{_*_, _≤_, _<_, _^_};
 ghost use lib.ListN.{length};
@@ -7,59 +7,13 @@ ghost use Rattle.numbers.specs.Numbers.{traceWords};
 ghost use Rattle.refusals.specs.Answers.{unless, testsAfter};
 ghost use Rattle.table.specs.Table.{IsTable};
 ghost use Rattle.constraints.specs.Constraints.{tests, constraintTest};
-ghost use Rattle.steps.specs.StepHelpers.{forwardReady, backReady};
 ghost use Rattle.checker.specs.Answers.{openingTest, traceTest, checkAnswer};
-use numbers::BATCH_ROWS;
 use numbers::BATCH_WORDS;
 use numbers::BatchCount;
 use numbers::MOST_BATCHES;
-use numbers::RowNumber;
 use refusals::Answer;
 use refusals::Refusal;
 use refusals::TestsAnswer;
-
-// The walk through the tests in their order, which stops at the first that fails. M and its inverse come made ready.
-fn walk_tests(
-    m: &[u64],
-    inverse: &[u64],
-    table: &[u64],
-    trace: &[u64],
-    claim: &[u64; 4],
-    c: usize,
-    k: usize,
-) -> TestsAnswer
-    requires { ⌜ (now m ≡ forwardReady (now table)) × (now inverse ≡ backReady (now table)) × IsTable (now table)
-        × AllCanonical (now trace) × (length (now trace) ≡ traceWords k) × (c ≤ k) × (k < 2 ^ 32) ⌝ }
-    ensures { λ r. ⌜ r ≡ testsAfter (constraintTest (now (table .entry)) (now (trace .entry)) (now (claim .entry)) c k)
-        (length (tests k c)) ⌝ }
-{
-    let rows = BATCH_ROWS * k;
-    let mut tests: usize = 0;
-    let mut i: usize = 0;
-    'walk: loop {
-        if rows <= i {
-            break 'walk TestsAnswer::Accepted(tests);
-        }
-        let row = RowNumber(i);
-        let forward = rowtests::forward_of(m, table, trace, row);
-        let back = rowtests::back_after(inverse, table, trace, row);
-        let span = rowtests::span_of(row);
-        let end = span.1;
-        for constraint in span.0..end {
-            if rowtests::applies(k, c, row, constraint) {
-                tests += 1;
-                if !rowtests::holds(table, trace, claim, row, constraint, &forward, &back) {
-                    break 'walk TestsAnswer::Refused(Refusal::Constraint {
-                        row,
-                        constraint,
-                        tests,
-                    });
-                }
-            }
-        }
-        i += 1;
-    }
-}
 
 // 1, 2, 4; 7; 17: how Check, Read-off and Edit begin.
 pub fn test_opening(table: &[u64], trace: &[u64], c: usize) -> Answer
@@ -122,7 +76,7 @@ pub fn test_constraints(
 {
     let m = steps::forward_ready(table);
     let inverse = steps::back_ready(table);
-    walk_tests(&m, &inverse, table, trace, claim, c, k)
+    walk::walk_tests(&m, &inverse, table, trace, claim, c, k)
 }
 
 // 9; 10; 11: how Check and Read-off end.

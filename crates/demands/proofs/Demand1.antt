@@ -115,7 +115,7 @@ prepare-numbers =
 check-numbers : (T t claim : List ℕ) (c : ℕ) → AnswerEnds (OneOf (numbers check)) (checkTest T t claim c)
 check-numbers T t claim c =
     let ns = numbers check in
-    ends.check-ends (OneOf ns) (table-causes ns refl refl refl) T t claim c (one-of 7 ns refl)
+    ends.check-ends (OneOf ns) (table-causes ns refl refl refl) T t claim c (λ n. one-of 7 ns refl)
     (λ k e p s o. one-of 17 ns refl) (λ i h. one-of 9 ns refl) (λ k s p i h. one-of 10 ns refl)
     (λ h i q n f. one-of 11 ns refl)
 
@@ -123,22 +123,22 @@ read-off-numbers : (T t claim : List ℕ) (c size : ℕ)
     → AnswerEnds (OneOf (numbers read-off)) (readOffTest T t claim c size)
 read-off-numbers T t claim c size =
     let ns = numbers read-off in
-    ends.read-off-ends (OneOf ns) (table-causes ns refl refl refl) T t claim c (one-of 7 ns refl)
+    ends.read-off-ends (OneOf ns) (table-causes ns refl refl refl) T t claim c (λ n. one-of 7 ns refl)
     (λ k e p s o. one-of 17 ns refl) (λ i h. one-of 9 ns refl) (λ k s p i h. one-of 10 ns refl) size (one-of 8 ns refl)
     (λ s h i q n f. one-of 11 ns refl)
 
 pack-numbers : (w claim : List ℕ) (size : ℕ) → AnswerEnds (OneOf (numbers pack)) (packTest w claim size)
 pack-numbers w claim size =
     let ns = numbers pack in
-    ends.pack-ends (OneOf ns) w claim size (one-of 5 ns refl) (one-of 8 ns refl) (λ i h. one-of 9 ns refl)
-    (λ k s p i h. one-of 6 ns refl)
+    ends.pack-ends (OneOf ns) w claim size (one-of 8 ns refl) (λ i h. one-of 9 ns refl)
+    (λ n. one-of 5 ns refl) (λ k s p i h. one-of 6 ns refl)
 
 pack-short-numbers : (w claim : List ℕ) (size : ℕ)
     → AnswerEnds (OneOf (numbers pack-short)) (packShortTest w claim size)
 pack-short-numbers w claim size =
     let ns = numbers pack-short in
-    ends.pack-short-ends (OneOf ns) w claim size (one-of 5 ns refl) (one-of 8 ns refl) (λ i h. one-of 9 ns refl)
-    (λ k s p i h. one-of 6 ns refl)
+    ends.pack-short-ends (OneOf ns) w claim size (one-of 8 ns refl) (λ i h. one-of 9 ns refl)
+    (λ n. one-of 5 ns refl) (λ k s p i h. one-of 6 ns refl)
 
 to-short-numbers : (file : List ℕ) (size : ℕ) → AnswerEnds (OneOf (numbers to-short)) (toShortTest file size)
 to-short-numbers file size =
@@ -164,12 +164,13 @@ numbered o r (hash-refuses T words q e) =
 numbered o r (chain-refuses T w q e) =
     let ns = numbers chain in
     subst (AnswerEnds (OneOf ns)) (digest-refused (chainTest T w) _ q e)
-    (ends.chain-ends (OneOf ns) (table-causes ns refl refl refl) T w (one-of 5 ns refl) (λ k s p i h. one-of 6 ns refl))
+    (ends.chain-ends (OneOf ns) (table-causes ns refl refl refl) T w (λ n. one-of 5 ns refl)
+    (λ k s p i h. one-of 6 ns refl))
 numbered o r (build-refuses T w size q e) =
     let ns = numbers build in
     subst (AnswerEnds (OneOf ns)) (digest-refused (buildTest T w size) _ q e)
-    (ends.build-ends (OneOf ns) (table-causes ns refl refl refl) T w (one-of 5 ns refl) (λ k s p i h. one-of 6 ns refl)
-    size (one-of 8 ns refl))
+    (ends.build-ends (OneOf ns) (table-causes ns refl refl refl) T w (λ n. one-of 5 ns refl)
+    (λ k s p i h. one-of 6 ns refl) size (one-of 8 ns refl))
 numbered o r (check-refuses T t claim c q e) =
     subst (AnswerEnds (OneOf (numbers check))) (tests-refused (checkTest T t claim c) _ q e) (check-numbers T t claim c)
 numbered o r (read-off-refuses T t claim c size q e) =
@@ -178,7 +179,7 @@ numbered o r (read-off-refuses T t claim c size q e) =
 numbered o r (edit-refuses T t claim c n new q e) =
     let ns = numbers edit in
     subst (AnswerEnds (OneOf ns)) (digest-refused (editTest T t claim c n new) _ q e)
-    (ends.edit-ends (OneOf ns) (table-causes ns refl refl refl) T t claim c (one-of 7 ns refl)
+    (ends.edit-ends (OneOf ns) (table-causes ns refl refl refl) T t claim c (λ n. one-of 7 ns refl)
     (λ k e p s o. one-of 17 ns refl) (λ i h. one-of 9 ns refl) (λ k s p i h. one-of 10 ns refl) n new
     (one-of 15 ns refl) (λ i h. one-of 6 ns refl) (λ l a h i j m f. one-of 11 ns refl))
 numbered o r (unhash-refuses T s q e) =
@@ -349,7 +350,7 @@ chain-call T w output output′ code h =
     let d = digest (rescue.chain T w k) in
     digest-says code ns (ChainResult T w output′) (output′ ≡ output) t d (h .coded)
     (bits.chain-bits T w (length output))
-    (ends.chain-call-ends (OneOf ns) (table-causes ns refl refl refl) T w (one-of 5 ns refl)
+    (ends.chain-call-ends (OneOf ns) (table-causes ns refl refl refl) T w (λ n. one-of 5 ns refl)
     (λ k s p i l. one-of 6 ns refl) (length output) (one-of 8 ns refl))
     (λ e. (let i = chain-call-inputs T w (length output) e in record {
       none = refl;
@@ -370,7 +371,7 @@ build-call T w rows rows′ output output′ code h =
     let d = digest (rescue.chain T w k) in
     digest-says code ns (BuildResult T w rows′ output′) ((rows′ ≡ rows) × (output′ ≡ output)) t d (h .four .coded)
     (bits.build-bits T w (length rows) (length output))
-    (ends.build-call-ends (OneOf ns) (table-causes ns refl refl refl) T w (one-of 5 ns refl)
+    (ends.build-call-ends (OneOf ns) (table-causes ns refl refl refl) T w (λ n. one-of 5 ns refl)
     (λ k s p i l. one-of 6 ns refl) (length rows) (length output) (one-of 8 ns refl))
     (λ e. (let i = build-call-inputs T w (length rows) (length output) e in record {
       none = refl;
@@ -445,7 +446,7 @@ edit-call T t t′ output output′ c0 c1 c2 c3 c n w0 w1 w2 w3 code h =
     let d = digest (rescue.chain T first c) in
     digest-says code ns (EditResult T t c n new t′ output′) ((t′ ≡ t) × (output′ ≡ output)) tested d (h .four .coded)
     (bits.edit-bits T t claim c refl n new (length output) refl)
-    (ends.edit-call-ends (OneOf ns) (table-causes ns refl refl refl) T t claim c (one-of 7 ns refl)
+    (ends.edit-call-ends (OneOf ns) (table-causes ns refl refl refl) T t claim c (λ n. one-of 7 ns refl)
     (λ k e p s o. one-of 17 ns refl) (λ i l. one-of 9 ns refl) (λ k s p i l. one-of 10 ns refl) n new
     (one-of 15 ns refl) (λ i l. one-of 6 ns refl) (length output) (one-of 8 ns refl)
     (λ s l a h i q m f. one-of 11 ns refl))

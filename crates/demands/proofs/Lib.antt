@@ -1,6 +1,7 @@
 pub mod Demand1
 pub mod Demand2
 pub mod Demand3
+pub mod OneNumber
 pub mod Request1
 pub mod Request2
 pub mod Request3
@@ -9,3 +10,5 @@ pub mod Request5
 pub mod Request6
 pub mod Request7
 pub mod Request8
+pub mod Request9
+pub mod Stored

@@ -116,7 +116,7 @@ module _ (T t claim : List ℕ) (c : ℕ) where
 
   check-passed : AnswerEnds (OfEleven Passed) (checkTest T t claim c)
   check-passed =
-      ends.check-ends (OfEleven Passed) (table-causes Passed) T t claim c (other Passed TraceLength refl)
+      ends.check-ends (OfEleven Passed) (table-causes Passed) T t claim c (λ z. other Passed TraceLength refl)
       (λ l e p s o. other Passed ClaimBatches refl)
       (λ i h. other Passed (ClaimWord i) refl) (λ l s p i h. other Passed (TraceWord i) refl)
       (λ h i q n f e. (reached k h, f))
@@ -127,7 +127,7 @@ module _ (T t claim : List ℕ) (c : ℕ) where
   read-off-passed : (size : ℕ) → AnswerEnds (OfEleven (ReadOffPassed size)) (readOffTest T t claim c size)
   read-off-passed size =
       let P = ReadOffPassed size in
-      ends.read-off-ends (OfEleven P) (table-causes P) T t claim c (other P TraceLength refl)
+      ends.read-off-ends (OfEleven P) (table-causes P) T t claim c (λ z. other P TraceLength refl)
       (λ l e p s o. other P ClaimBatches refl)
       (λ i h. other P (ClaimWord i) refl) (λ l s p i h. other P (TraceWord i) refl) size
       (other P DestinationLength refl) (λ s h i q n f e. (s, (reached k h, f)))
@@ -139,7 +139,7 @@ module _ (T t claim : List ℕ) (c : ℕ) where
     edit-passed : AnswerEnds (OfEleven EditPassed) (editTest T t claim c m new)
     edit-passed =
         let P = EditPassed in
-        ends.edit-ends (OfEleven P) (table-causes P) T t claim c (other P TraceLength refl)
+        ends.edit-ends (OfEleven P) (table-causes P) T t claim c (λ z. other P TraceLength refl)
         (λ l e p s o. other P ClaimBatches refl)
         (λ i h. other P (ClaimWord i) refl) (λ l s p i h. other P (TraceWord i) refl) m new (other P NoSuchTap refl)
         (λ i h. other P (TapWord i) refl) (λ l a h i q n f e. (l, a, (reached k h, f)))
@@ -148,7 +148,7 @@ module _ (T t claim : List ℕ) (c : ℕ) where
         → AnswerEnds (OfEleven (λ i q n. (size ≡ 4) × EditPassed i q n)) (editCallTest T t claim c m new size)
     edit-call-passed size =
         let P : ℕ → ℕ → ℕ → Type 0 = λ i q n. (size ≡ 4) × EditPassed i q n in
-        ends.edit-call-ends (OfEleven P) (table-causes P) T t claim c (other P TraceLength refl)
+        ends.edit-call-ends (OfEleven P) (table-causes P) T t claim c (λ z. other P TraceLength refl)
         (λ l e p s o. other P ClaimBatches refl)
         (λ i h. other P (ClaimWord i) refl) (λ l s p i h. other P (TraceWord i) refl) m new (other P NoSuchTap refl)
         (λ i h. other P (TapWord i) refl) size (other P DestinationLength refl)

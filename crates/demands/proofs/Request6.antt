@@ -2,13 +2,12 @@
 -- proofs/ClaimRow.antt), what is known where an order of tests ends with 17 (crate `calls`, proofs/Endings.antt), and
 -- demands 2 and 3.
 -- Assumes nothing.
-use mathlib.Core.Path.{_≡_, refl, sym, ap, _∙_, subst}
+use mathlib.Core.Path.{_≡_, refl, sym, ap, _∙_}
 use mathlib.Core.Bool.{false}
 use mathlib.Core.List.{List}
 use mathlib.Core.Logic.{_⊎_, _↔_}
 use Prim.Native.Nat.{ℕ, _+_, _*_, _-_, _≤_, _<_}
 use native.Mathlib.Omega.{arith}
-use borrow.Author.Tests.{eqb-false}
 use lib.Dec.{eqb}
 use lib.ListN.{length, take}
 use Rattle.lists.specs.Lists.{cell}
@@ -17,7 +16,7 @@ use Rattle.numbers.specs.Numbers.{IsPermitted, traceWordBatches}
 use Rattle.refusals.specs.Refusals.{told}
 use Rattle.refusals.specs.Answers.{testsAfter}
 use Rattle.refusals.specs.declared.Refusal.{Refusal}
-use Rattle.refusals.specs.declared.Refusal.the-variants.{TableLength, TableWord, WrongInverse, TapWord, TraceLength}
+use Rattle.refusals.specs.declared.Refusal.the-variants.{TapWord, TraceLength}
 use Rattle.refusals.specs.declared.Refusal.the-variants.{DestinationLength, ClaimWord, TraceWord, Constraint, NoSuchTap}
 use Rattle.refusals.specs.declared.Refusal.the-variants.{ClaimBatches}
 use Rattle.refusals.specs.declared.Answer.{Answer}
@@ -53,25 +52,22 @@ use Rattle.demands.specs.Request6.{row31, claimPlace, OutOfRange, Reques
 use Rattle.demands.proofs.Demand1.{digest-none}
 use Rattle.demands.proofs.Demand2.{output-is-tap, shown}
 use Rattle.demands.proofs.Demand3.{demand-3}
+use Rattle.demands.proofs.OneNumber as one
 use Rattle.demands.proofs.Request4.{word-says}
 
 -- ---- of a refusal only 17 matters here
 module _ (T t claim : List ℕ) (c : ℕ) where
   abbrev Of17 : Refusal → Type 0
-  Of17 r = told r .number ≡ 17 → OutOfRange T t c
+  Of17 = one.Of 17 (OutOfRange T t c)
 
   other : (r : Refusal) → eqb (told r .number) 17 ≡ false → Of17 r
-  other r h e = absurd (eqb-false (told r .number) 17 h e)
+  other = one.other 17 (OutOfRange T t c)
 
   table-causes : TableCauses Of17
-  table-causes = record {
-    by-length = other TableLength refl;
-    by-word = λ i h. other (TableWord i) refl;
-    by-cell = λ i h. other (WrongInverse i) refl;
-  }
+  table-causes = one.table-causes 17 (OutOfRange T t c) refl refl refl
 
   in-answer : (a : Answer) → AnswerEnds Of17 a → a ≡ answer.Refused ClaimBatches → OutOfRange T t c
-  in-answer a h e = subst (AnswerEnds Of17) e h refl
+  in-answer a = one.in-answer 17 (OutOfRange T t c) a ClaimBatches refl
 
   in-word : (a : Answer) (m code : ℕ) → code ≡ testsCode (testsAfter a m) → AnswerEnds RefusalInBits a
       → AnswerEnds Of17 a → Says code (told ClaimBatches) → OutOfRange T t c
@@ -87,26 +83,29 @@ module _ (T t claim : List ℕ) (c : ℕ) where
 
   check-ends : AnswerEnds Of17 (checkTest T t claim c)
   check-ends =
-      ends.check-ends Of17 table-causes T t claim c (other TraceLength refl) out (λ i h. other (ClaimWord i) refl)
-      (λ k s p i h. other (TraceWord i) refl) (λ h i q n f. other (Constraint (record { 0 = i }) q n) refl)
+      ends.check-ends Of17 table-causes T t claim c (λ z. other TraceLength refl) out
+      (λ i h. other (ClaimWord i) refl) (λ k s p i h. other (TraceWord i) refl)
+      (λ h i q n f. other (Constraint (record { 0 = i }) q n) refl)
 
   read-off-ends : (size : ℕ) → AnswerEnds Of17 (readOffTest T t claim c size)
   read-off-ends size =
-      ends.read-off-ends Of17 table-causes T t claim c (other TraceLength refl) out (λ i h. other (ClaimWord i) refl)
-      (λ k s p i h. other (TraceWord i) refl) size (other DestinationLength refl)
+      ends.read-off-ends Of17 table-causes T t claim c (λ z. other TraceLength refl) out
+      (λ i h. other (ClaimWord i) refl) (λ k s p i h. other (TraceWord i) refl) size (other DestinationLength refl)
       (λ r h i q n f. other (Constraint (record { 0 = i }) q n) refl)
 
   module _ (n : ℕ) (new : List ℕ) where
     edit-ends : AnswerEnds Of17 (editTest T t claim c n new)
     edit-ends =
-        ends.edit-ends Of17 table-causes T t claim c (other TraceLength refl) out (λ i h. other (ClaimWord i) refl)
-        (λ k s p i h. other (TraceWord i) refl) n new (other NoSuchTap refl) (λ i h. other (TapWord i) refl)
+        ends.edit-ends Of17 table-causes T t claim c (λ z. other TraceLength refl) out
+        (λ i h. other (ClaimWord i) refl) (λ k s p i h. other (TraceWord i) refl) n new (other NoSuchTap refl)
+        (λ i h. other (TapWord i) refl)
         (λ l a h i q m f. other (Constraint (record { 0 = i }) q m) refl)
 
     edit-call-ends : (size : ℕ) → AnswerEnds Of17 (editCallTest T t claim c n new size)
     edit-call-ends size =
-        ends.edit-call-ends Of17 table-causes T t claim c (other TraceLength refl) out (λ i h. other (ClaimWord i) refl)
-        (λ k s p i h. other (TraceWord i) refl) n new (other NoSuchTap refl) (λ i h. other (TapWord i) refl) size
+        ends.edit-call-ends Of17 table-causes T t claim c (λ z. other TraceLength refl) out
+        (λ i h. other (ClaimWord i) refl) (λ k s p i h. other (TraceWord i) refl) n new (other NoSuchTap refl)
+        (λ i h. other (TapWord i) refl) size
         (other DestinationLength refl) (λ r l a h i q m f. other (Constraint (record { 0 = i }) q m) refl)
 
   -- ---- and that they do: it is what the opening tests answer, which are before all others

@@ -31,7 +31,7 @@ use Rattle.board.proofs.Theorems as board
 use Rattle.shortreading.proofs.Round.{length-shorts}
 use Rattle.shortboard.specs.ShortBoard.{shortFileSize, packShortTest, packedShort, packShortLeaves, shortClaimIn}
 use Rattle.shortboard.specs.ShortBoard.{shortTapsIn, shortCountTest, unpackShortTest, unpackShortAnswer}
-use Rattle.shortboard.specs.ShortBoard.{unpackShortLeaves}
+use Rattle.shortboard.specs.ShortBoard.{unpackShortLeaves, shortBatchesIn}
 use Rattle.shortboard.proofs.Answers as short-answers
 use Rattle.shortboard.proofs.Round as short-round
 use Rattle.shortboard.proofs.Theorems as short
@@ -43,7 +43,7 @@ use Rattle.editions.proofs.Converters.{Not, Reader}
 use Rattle.toshort.specs.ToShort.{toShortTest, toShortLeaves}
 use Rattle.toshort.proofs.Answers as to-short-tests
 use Rattle.toshort.proofs.Theorems as to-short
-use Rattle.tofull.specs.ToFull.{toFullTest, toFullLeaves}
+use Rattle.tofull.specs.ToFull.{toFullTest, toFullLeaves, NoFullForm}
 use Rattle.tofull.proofs.Answers as to-full-tests
 use Rattle.tofull.proofs.Theorems as to-full
 use Rattle.handover.specs.Code.{refusalCode, answerCode}
@@ -62,6 +62,9 @@ use Rattle.demands.proofs.Request7.{taps-left, reader-accepts, reader-h
 module _ (file : List ℕ) where
   abbrev room : ℕ
   room = tapWords (batchesIn file)
+
+  abbrev shortRoom : ℕ
+  shortRoom = tapWords (shortBatchesIn file)
 
   full-no-count : length file < 4 → unpackTest file room ≡ answer.Refused FileLength
   unfolding unpackTest
@@ -87,30 +90,31 @@ module _ (file : List ℕ) where
     never-19 = ends.unpack-ends (Not 19) file refl (λ j h. refl) (λ j h. refl) room (λ n. refl);
   }
 
-  short-no-count : length file < 4 → unpackShortTest file room ≡ answer.Refused FileLength
+  short-no-count : length file < 4 → unpackShortTest file shortRoom ≡ answer.Refused FileLength
   unfolding unpackShortTest
   short-no-count h = rw (lt-leb _ _ h)
 
   short-kind : 4 ≤ length file → (kindOf (wordAt file 0) ≡ 0 → ⊥)
-      → unpackShortTest file room ≡ answer.Refused (WrongKind 0)
+      → unpackShortTest file shortRoom ≡ answer.Refused (WrongKind 0)
   unfolding unpackShortTest shortCountTest
   short-kind h n = rw (le-leb _ _ h, ne-eqb _ _ n)
 
-  short-other : HasMark file fullMark → unpackShortTest file room ≡ answer.Accepted → ⊥
+  short-other : HasMark file fullMark → unpackShortTest file shortRoom ≡ answer.Accepted → ⊥
   unfolding unpackShortAnswer
   short-other h e =
       not-accepted (WrongValue 0)
-      (sym (digest-refused (unpackShortTest file room) _ (WrongValue 0)
-      (short.short-refuses file room (h .four) (h .kind) (h .mark-is))) ∙ e)
+      (sym (digest-refused (unpackShortTest file shortRoom) _ (WrongValue 0)
+      (short.short-refuses file shortRoom (h .four) (h .kind) (h .mark-is))) ∙ e)
 
-  short-reader : Reader file fullMark (unpackShortTest file room)
+  short-reader : Reader file fullMark (unpackShortTest file shortRoom)
   short-reader = record {
     no-count = short-no-count;
     count-kind = short-kind;
     other-edition = short-other;
-    never-8 = ends.unpack-short-ends (Not 8) file refl (λ j h. refl) (λ j h. refl) (λ j h. refl) room
+    never-8 = ends.unpack-short-ends (Not 8) file refl (λ j h. refl) (λ j h. refl) (λ j h. refl) shortRoom
         (λ n. absurd (n refl));
-    never-19 = ends.unpack-short-ends (Not 19) file refl (λ j h. refl) (λ j h. refl) (λ j h. refl) room (λ n. refl);
+    never-19 = ends.unpack-short-ends (Not 19) file refl (λ j h. refl) (λ j h. refl) (λ j h. refl) shortRoom
+        (λ n. refl);
   }
 
 -- ---- every file
@@ -122,11 +126,11 @@ short-not-full : shortMark ≡ fullMark → ⊥
 short-not-full e = omega (arith, e)
 
 -- the length of the full file that is written
-full-length : (file : List ℕ) → length (packed (shortTapsIn file) (shortClaimIn file)) ≡ fileSize (batchesIn file)
+full-length : (file : List ℕ) → length (packed (shortTapsIn file) (shortClaimIn file)) ≡ fileSize (shortBatchesIn file)
 unfolding packed shortClaimIn
 full-length file =
     let taps = short-round.taps-length file in
-    let k : tapWordBatches (length (shortTapsIn file)) ≡ batchesIn file = omega (arith, taps) in
+    let k : tapWordBatches (length (shortTapsIn file)) ≡ shortBatchesIn file = omega (arith, taps) in
     let t : length (shortTapsIn file) ≡ tapWords (tapWordBatches (length (shortTapsIn file))) = omega (arith, taps) in
     board.file-length (shortTapsIn file) (shortClaimIn file) (tapWordBatches (length (shortTapsIn file)))
     (length-shorts file 1 4) t
@@ -137,7 +141,7 @@ module _ (file : List ℕ) (size : ℕ) where
   short-bytes = shortFileSize (tapsIn file) (claimIn file)
 
   abbrev full-bytes : ℕ
-  full-bytes = fileSize (batchesIn file)
+  full-bytes = fileSize (shortBatchesIn file)
 
   fits-short : eqb size short-bytes ≡ true → FitsShort file size
   fits-short e = eqb-true _ _ e ∙ sym (short.packed-length (tapsIn file) (claimIn file))
@@ -151,22 +155,23 @@ module _ (file : List ℕ) (size : ℕ) where
   no-full : eqb size full-bytes ≡ false → FitsFull file size → ⊥
   no-full e f = eqb-false _ _ e (f ∙ full-length file)
 
-  to-short-answers : ConverterAnswers file shortMark (unpackAnswer file (room file)) (FitsShort file size)
+  to-short-answers : ConverterAnswers file shortMark (unpackAnswer file (room file)) ⊥ (FitsShort file size)
       (toShortTest file size)
   unfolding toShortTest unpackAnswer
   to-short-answers =
       converters.answers file fullMark shortMark (not-full (wordAt file 0)) full-not-short (unpackTest file (room file))
       (digest (claimIn file)) (eqb size short-bytes) (FitsShort file size) fits-short no-short _ (full-reader file)
-      (λ h. to-short-tests.as-reader file size (edition.accepts file fullMark h))
+      ⊥ (no λ f. f) (λ f. absurd f) (λ f. absurd f)
+      (λ h n. to-short-tests.as-reader file size (edition.accepts file fullMark h))
 
-  to-full-answers : ConverterAnswers file fullMark (unpackShortAnswer file (room file)) (FitsFull file size)
-      (toFullTest file size)
+  to-full-answers : ConverterAnswers file fullMark (unpackShortAnswer file (shortRoom file)) (NoFullForm file)
+      (FitsFull file size) (toFullTest file size)
   unfolding toFullTest unpackShortAnswer
   to-full-answers =
       converters.answers file shortMark fullMark (not-short (wordAt file 0)) short-not-full
-      (unpackShortTest file (room file)) (digest (shortClaimIn file)) (eqb size full-bytes) (FitsFull file size)
-      fits-full no-full _ (short-reader file)
-      (λ h. to-full-tests.as-reader file size (edition.accepts file shortMark h))
+      (unpackShortTest file (shortRoom file)) (digest (shortClaimIn file)) (eqb size full-bytes) (FitsFull file size)
+      fits-full no-full _ (short-reader file) (NoFullForm file) (to-full-tests.form file) (to-full-tests.its-mark file)
+      (to-full-tests.without file size) (to-full-tests.as-reader file size)
 
 -- ---- what Unpack leaves where it accepts
 full-left : (file old : List ℕ) → unpackTest file (length old) ≡ answer.Accepted → unpackLeaves file old ≡ tapsIn file
@@ -187,14 +192,16 @@ to-short-writes file old taps d e =
     )
 
 to-full-writes : (file old taps : List ℕ) (d : Digest) → unpackShortAnswer file (length taps) ≡ Accepted d
+    → (NoFullForm file → ⊥)
     → (toFullTest file (length old) ≡ packTest (unpackShortLeaves file taps) (digestWords d) (length old))
     × (toFullLeaves file old ≡ packLeaves (unpackShortLeaves file taps) (digestWords d) old)
-to-full-writes file old taps d e =
+to-full-writes file old taps d e formed =
     let r = short-answers.returned file (length taps) d e in
     let list = sym (taps-left file taps d e) in
     let claim = short-round.claim-is file d (r .1) in (
-      to-full.as-writer file (length taps) (r .0) (length old) ∙ ap₂ (λ t c. packTest t c (length old)) list claim,
-      to-full.left-as-writer file (length taps) (r .0) old ∙ ap₂ (λ t c. packLeaves t c old) list claim,
+      to-full.as-writer file (length taps) (r .0) formed (length old)
+          ∙ ap₂ (λ t c. packTest t c (length old)) list claim,
+      to-full.left-as-writer file (length taps) (r .0) formed old ∙ ap₂ (λ t c. packLeaves t c old) list claim,
     )
 
 -- ---- a file that is accepted with n words of room is refused with 8 for any other room
@@ -219,7 +226,7 @@ short-by-room : (file : List ℕ) (m n : ℕ) → unpackShortTest file n ≡ ans
 short-by-room file m n e =
     let u = short-answers.unpack-accepted file n e in
     by-room (unpackShortTest file) m n e
-    (λ q. short-answers.unpack-no-room file m (batchesIn file) (u .0) (λ s. q (s ∙ sym (u .1))))
+    (λ q. short-answers.unpack-no-room file m (shortBatchesIn file) (u .0) (λ s. q (s ∙ sym (u .1))))
 
 -- ---- what was converted is read as the file was
 module _ (file old : List ℕ) where
@@ -255,7 +262,7 @@ module _ (file old : List ℕ) where
     full-read =
         let a = to-full-answers file (length old) .accepts .0 e in
         ap (unpackShortTest file) (short-round.taps-length file)
-        ∙ short-answers.returned file (room file) (a .0) (a .1) .0
+        ∙ short-answers.returned file (shortRoom file) (a .0) (a .1) .0
 
     full-written : toFullLeaves file old ≡ packed (shortTapsIn file) (shortClaimIn file)
     unfolding toFullLeaves
@@ -269,7 +276,8 @@ module _ (file old : List ℕ) where
         let n = length (shortTapsIn file) in
         let m = length taps in
         let written = packed (shortTapsIn file) (shortClaimIn file) in
-        let packs = sym (to-full.as-writer file n full-read (length old)) ∙ e in
+        let formed = to-full-answers file (length old) .accepts .0 e .2 in
+        let packs = sym (to-full.as-writer file n full-read formed (length old)) ∙ e in
         let four = length-shorts file 1 4 in
         let u = board.unpack-packed (shortTapsIn file) (shortClaimIn file) (length old) four packs in
         let r = board-answers.returned written n (digest (shortClaimIn file)) (u .0) in
@@ -278,6 +286,16 @@ module _ (file old : List ℕ) where
         (ap₂ (λ t d. digestAfter t d) tests (r .1), ap₂ (λ t s. leaves t s taps) tests (u .1))
 
 -- ---- there and back
+
+-- what is read as a full file was has a full form
+has-form : (full short : List ℕ) (d : Digest) → unpackTest full (length (tapsIn full)) ≡ answer.Accepted
+    → unpackShortAnswer short (length (tapsIn full)) ≡ Accepted d → NoFullForm short → ⊥
+has-form full short d e r h =
+    let most = board-answers.unpack-accepted full (length (tapsIn full)) e .0 .permitted .high in
+    let read = short-answers.returned short (length (tapsIn full)) d r .0 in
+    let taps = short-answers.unpack-accepted short (length (tapsIn full)) read .1 in
+    omega (arith, most, taps, board-round.taps-length full, to-full-tests.above-most short h)
+
 there-and-back : (file old new : List ℕ) → AllBytes file → toShortTest file (length old) ≡ answer.Accepted
     → length new ≡ length file
     → (toFullTest (toShortLeaves file old) (length new) ≡ answer.Accepted)
@@ -287,7 +305,9 @@ there-and-back file old new bytes e l =
     let d = digest (claimIn file) in
     let answered = board-answers.unpack-returns file (length taps) (short-read file old e) in
     let r = to-short-reads file old e taps in
-    let w = to-full-writes (toShortLeaves file old) new taps d (r .0 ∙ answered) in
+    let read = r .0 ∙ answered in
+    let formed = has-form file (toShortLeaves file old) d (short-read file old e) read in
+    let w = to-full-writes (toShortLeaves file old) new taps d read formed in
     let p = demand-2 .packs file taps new d bytes answered l in (
       w .0 ∙ ap (λ t. packTest t (digestWords d) (length new)) (r .1) ∙ p .0,
       w .1 ∙ ap (λ t. packLeaves t (digestWords d) new) (r .1) ∙ p .1,
@@ -351,13 +371,13 @@ call-to-short file taps taps′ claim claim′ old new new′ code code′ reads
     (converts .coded ∙ ap answerCode test ∙ sym (packs .coded), converts .short ∙ left ∙ sym (packs .file))
 
 call-to-full : (file taps taps′ claim claim′ old new new′ : List ℕ) (code code′ : ℕ)
-    → UnpackShortCall file 0 taps taps′ claim claim′ → ToFullCall file old code new
-    → PackCall taps′ claim′ old code′ new′ → (code ≡ code′) × (new ≡ new′)
-call-to-full file taps taps′ claim claim′ old new new′ code code′ reads converts packs =
+    → UnpackShortCall file 0 taps taps′ claim claim′ → (NoFullForm file → ⊥)
+    → ToFullCall file old code new → PackCall taps′ claim′ old code′ new′ → (code ≡ code′) × (new ≡ new′)
+call-to-full file taps taps′ claim claim′ old new new′ code code′ reads formed converts packs =
     let a = reader-accepts file taps taps′ claim claim′ 0 reads refl in
     let d = digest (shortClaimIn file) in
     let h = reader-hands file taps taps′ claim claim′ 0 reads d (a .0) (a .1) in
-    let w = to-full-writes file old taps d (a .1) in
+    let w = to-full-writes file old taps d (a .1) formed in
     let test = w .0 ∙ sym (ap₂ (λ t c. packTest t c (length old)) (h .1) (h .2)) in
     let left = w .1 ∙ sym (ap₂ (λ t c. packLeaves t c old) (h .1) (h .2)) in
     (converts .coded ∙ ap answerCode test ∙ sym (packs .coded), converts .file ∙ left ∙ sym (packs .file))
@@ -378,12 +398,15 @@ call-to-short-accepts : (file old new : List ℕ) (code : ℕ) → ToShortCall f
     ↔ ((d : Digest) × (unpackAnswer file (room file) ≡ Accepted d) × FitsShort file (length old))
 unfolding answerCode
 call-to-short-accepts file old new code called =
-    let a = to-short-answers file (length old) .accepts in
-    (λ zero. a .0 (to-short-zero file old new code called zero), λ h. called .coded ∙ ap answerCode (a .1 h))
+    let a = to-short-answers file (length old) .accepts in (
+      λ zero. let h = a .0 (to-short-zero file old new code called zero) in (h .0, h .1, h .3),
+      λ h. called .coded ∙ ap answerCode (a .1 (h .0, h .1, (λ f. f), h .2)),
+    )
 
 call-to-full-accepts : (file old new : List ℕ) (code : ℕ) → ToFullCall file old code new
     → (code ≡ 0)
-    ↔ ((d : Digest) × (unpackShortAnswer file (room file) ≡ Accepted d) × FitsFull file (length old))
+    ↔ ((d : Digest) × (unpackShortAnswer file (shortRoom file) ≡ Accepted d)
+    × (NoFullForm file → ⊥) × FitsFull file (length old))
 unfolding answerCode
 call-to-full-accepts file old new code called =
     let a = to-full-answers file (length old) .accepts in
@@ -412,7 +435,7 @@ calls-back-and-there file old new back back′ code bytes to l from =
     )
 
 call-to-short-refuses : (file old new : List ℕ) (code : ℕ) (r : Refusal) → ToShortCall file old code new
-    → ConverterFault file shortMark (unpackAnswer file (room file)) (FitsShort file (length old)) r
+    → ConverterFault file shortMark (unpackAnswer file (room file)) ⊥ (FitsShort file (length old)) r
     → (code ≡ refusalCode r) × (new ≡ old)
 unfolding answerCode toShortLeaves
 call-to-short-refuses file old new code r called fault =
@@ -422,7 +445,8 @@ call-to-short-refuses file old new code r called fault =
     )
 
 call-to-full-refuses : (file old new : List ℕ) (code : ℕ) (r : Refusal) → ToFullCall file old code new
-    → ConverterFault file fullMark (unpackShortAnswer file (room file)) (FitsFull file (length old)) r
+    → ConverterFault file fullMark (unpackShortAnswer file (shortRoom file)) (NoFullForm file)
+    (FitsFull file (length old)) r
     → (code ≡ refusalCode r) × (new ≡ old)
 unfolding answerCode toFullLeaves
 call-to-full-refuses file old new code r called fault =

@@ -9,3 +9,5 @@ pub mod Request5
 pub mod Request6
 pub mod Request7
 pub mod Request8
+pub mod Request9
+pub mod Stored

@@ -9,7 +9,7 @@ use Prim.Native.Nat.{ℕ, _+_, _*_, _^_, _≤_, _<_}
 use lib.ListN.{length}
 use Rattle.lists.specs.Lists.{cell}
 use Rattle.words.specs.Words.{AllCanonical}
-use Rattle.numbers.specs.Numbers.{tapWords, IsPermittedTo}
+use Rattle.numbers.specs.Numbers.{tapWords, IsPermitted}
 use Rattle.refusals.specs.Refusals.{digest, digestWords}
 use Rattle.refusals.specs.declared.Refusal.{Refusal}
 use Rattle.refusals.specs.declared.Refusal.the-variants.{WrongValue, LongElement}
@@ -19,7 +19,7 @@ use Rattle.refusals.specs.declared.DigestAnswer.the-variants.{Accepted, Refused
 use Rattle.elements.specs.Words.{kindOf, wordAt, AllBytes}
 use Rattle.board.specs.Board.{elementCount, fileSize, unpackAnswer}
 use Rattle.shortwords.specs.Short.{shortWords, spelled}
-use Rattle.shortboard.specs.ShortBoard.{mostShortBatches, shortFileSize, packShortTest, packedShort, packShortLeaves}
+use Rattle.shortboard.specs.ShortBoard.{shortFileSize, packShortTest, packedShort, packShortLeaves}
 use Rattle.shortboard.specs.ShortBoard.{markIn, shortSpareIn, unpackShortAnswer, unpackShortLeaves, ThreeForOne}
 use Rattle.shortboard.specs.ShortBoard.{FirstFault}
 use Rattle.handover.specs.Code.{refusalCode, digestCode}
@@ -27,7 +27,7 @@ use Rattle.calls.specs.Calls.{PackShortCall, UnpackShortCall}
 
 -- taps of k batches, k permitted, and a claim, of words below p: what a short file is of
 pub record IsShortDay (taps claim : List ℕ) (k : ℕ) : Type 0 where
-  pub permitted : IsPermittedTo mostShortBatches k
+  pub permitted : IsPermitted k
   pub taps-size : length taps ≡ tapWords k
   pub claim-size : length claim ≡ 4
   pub taps-canonical : AllCanonical taps
@@ -76,7 +76,7 @@ pub record Request7 : Type 0 where
   pub eighteen-exactly : (file : List ℕ) (size j : ℕ)
       → (unpackShortAnswer file size ≡ Refused (LongElement j)) ↔ ThreeForOne file size j
   -- ---- the editions: with the mark the full edition's reader refuses with 14, without it the short one's, and so it
-  -- does where a bit among 16 to 28 is set beside it
+  -- does where a bit among 20 to 28 is set beside it
   pub full-refuses : (file : List ℕ) (size : ℕ) → 4 ≤ length file → kindOf (wordAt file 0) ≡ 0
       → markIn (wordAt file 0) ≡ 1 → unpackAnswer file size ≡ Refused (WrongValue 0)
   pub short-refuses : (file : List ℕ) (size : ℕ) → 4 ≤ length file → kindOf (wordAt file 0) ≡ 0
@@ -84,8 +84,8 @@ pub record Request7 : Type 0 where
   pub spare-refused : (file : List ℕ) (size : ℕ) → 4 ≤ length file → kindOf (wordAt file 0) ≡ 0
       → markIn (wordAt file 0) ≡ 1 → (shortSpareIn (wordAt file 0) ≡ 0 → ⊥)
       → unpackShortAnswer file size ≡ Refused (WrongValue 0)
-  -- ---- lengths: never above the full file's, which they reach where no element is below 2^30, and 4 bytes an element
-  -- where each is
+  -- ---- lengths: never above 144k + 100, the full file's where there is one, which they reach where no element is below
+  -- 2^30, and 4 bytes an element where each is
   pub length-is : (taps claim : List ℕ) → length (packedShort taps claim) ≡ shortFileSize taps claim
   pub never-longer : (taps claim : List ℕ) (k : ℕ) → length claim ≡ 4 → length taps ≡ tapWords k
       → shortFileSize taps claim ≤ fileSize k

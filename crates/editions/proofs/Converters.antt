@@ -1,7 +1,8 @@
 -- What a converter answers, once for both: from the edition with the mark `mark` to the one with the mark `other`. Its
--- tests are those of the edition, and then `rest`. In a file with the mark, both together are all that the reader
--- tests, lent room for the taps (`tests`), and 8 last: `claim` is what the reader returns, and `b` says whether the
--- destination has the length of the output (`fits`).
+-- tests are those of the edition, and then `rest`. In a file with the mark, both together refuse with 14 where the file
+-- has no form in the other edition (`formless`), and else are all that the reader tests, lent room for the taps
+-- (`tests`), and 8 last: `claim` is what the reader returns, and `b` says whether the destination has the length of the
+-- output (`fits`).
 -- Assumes nothing.
 use mathlib.Core.Path.{_≡_, refl, sym, ap, _∙_}
 use mathlib.Core.Bool.{Bool, true, false, true≢false}
@@ -14,7 +15,8 @@ use lib.ListN.{length}
 use Rattle.refusals.specs.Refusals.{told}
 use Rattle.refusals.specs.Answers.{unless, after, digestAfter}
 use Rattle.refusals.specs.declared.Refusal.{Refusal}
-use Rattle.refusals.specs.declared.Refusal.the-variants.{DestinationLength, FileLength, WrongKind, SameEdition}
+use Rattle.refusals.specs.declared.Refusal.the-variants.{DestinationLength, FileLength, WrongKind, WrongValue}
+use Rattle.refusals.specs.declared.Refusal.the-variants.{SameEdition}
 use Rattle.refusals.specs.declared.Answer.{Answer}
 use Rattle.refusals.specs.declared.Answer.the-variants as answer
 use Rattle.refusals.specs.declared.Digest.{Digest}
@@ -22,8 +24,8 @@ use Rattle.refusals.specs.declared.DigestAnswer.the-variants.{Accepted, Refused
 use Rattle.refusals.proofs.Laws.{not-accepted, refused-same, digest-accepted, digest-refused, AnswerEnds, ends-refusal}
 use Rattle.elements.specs.Words.{kindOf, wordAt}
 use Rattle.shortboard.specs.ShortBoard.{markIn}
-use Rattle.editions.specs.Edition.{editionTest, HasMark, ConverterFault, already, malformed, no-room}
-use Rattle.editions.specs.Edition.{ConverterAnswers}
+use Rattle.editions.specs.Edition.{editionTest, HasMark, ConverterFault, already, no-form, malformed}
+use Rattle.editions.specs.Edition.{no-room, ConverterAnswers}
 use Rattle.editions.proofs.Answers.{accepted, EditionFault, no-count, count-kind, other-mark, faulty}
 use Rattle.editions.proofs.Answers.{fault-refused}
 
@@ -41,8 +43,10 @@ pub record Reader (file : List ℕ) (other : ℕ) (tests : Answer) : Type 0 wher
 
 module _ (file : List ℕ) (mark other : ℕ) (marks : (markIn (wordAt file 0) ≡ mark → ⊥) → markIn (wordAt file 0) ≡ other)
     (apart : mark ≡ other → ⊥) (tests : Answer) (claim : Digest) (b : Bool) (fits : Type 0) (fit : b ≡ true → fits)
-    (unfit : b ≡ false → fits → ⊥) (rest : Answer) (reader : Reader file other tests)
-    (marked : HasMark file mark
+    (unfit : b ≡ false → fits → ⊥) (rest : Answer) (reader : Reader file other tests) (formless : Type 0)
+    (form : Dec formless) (its-mark : formless → HasMark file mark)
+    (without : formless → after (editionTest file mark) rest ≡ answer.Refused (WrongValue 0))
+    (marked : HasMark file mark → (formless → ⊥)
     → after (editionTest file mark) rest ≡ after tests (unless b DestinationLength answer.Accepted)) where
   abbrev converter : Answer
   converter = after (editionTest file mark) rest
@@ -63,68 +67,75 @@ module _ (file : List ℕ) (mark other : ℕ) (marks : (markIn (wordAt file 0) �
       go answer.Accepted e = accepted file mark e
       go (answer.Refused r) e = absurd (fault r (faulty file mark r e))
 
-  -- ---- accepted are exactly the files that the reader accepts, where the length fits
-  accepts-exactly : (converter ≡ answer.Accepted) ↔ ((d : Digest) × (digestAfter tests claim ≡ Accepted d) × fits)
-  accepts-exactly = (λ e. go (editionTest file mark) refl e, λ h. accept (h .0) (h .1) (room b refl (h .2)))
-    where
-      on : (t : Answer) (c : Bool) → tests ≡ t → b ≡ c
-          → after t (unless c DestinationLength answer.Accepted) ≡ answer.Accepted
-          → (d : Digest) × (digestAfter tests claim ≡ Accepted d) × fits
-      on answer.Accepted true e f g = (claim, ap (λ x. digestAfter x claim) e, fit f)
-      on answer.Accepted false e f g = absurd (not-accepted DestinationLength g)
-      on (answer.Refused r) c e f g = absurd (not-accepted r g)
+  -- ---- accepted are exactly the files that the reader accepts, where they have a form there and the length fits
+  abbrev Converts : Type 0
+  Converts = (d : Digest) × (digestAfter tests claim ≡ Accepted d) × (formless → ⊥) × fits
 
-      go : (a : Answer) → editionTest file mark ≡ a → converter ≡ answer.Accepted
-          → (d : Digest) × (digestAfter tests claim ≡ Accepted d) × fits
-      go answer.Accepted a e = on tests b refl refl (sym (marked (accepted file mark a)) ∙ e)
-      go (answer.Refused r) a e = absurd (not-accepted r (sym (ap (λ x. after x rest) a) ∙ e))
+  accepts-exactly : (converter ≡ answer.Accepted) ↔ Converts
+  accepts-exactly = (
+    λ e. go (editionTest file mark) refl (λ f. not-accepted (WrongValue 0) (sym (without f) ∙ e)) e,
+    λ h. accept (h .0) (h .1) (h .2) (room b refl (h .3)),
+  )
+    where
+      on : (t : Answer) (c : Bool) → tests ≡ t → b ≡ c → (formless → ⊥)
+          → after t (unless c DestinationLength answer.Accepted) ≡ answer.Accepted → Converts
+      on answer.Accepted true e f n g = (claim, ap (λ x. digestAfter x claim) e, n, fit f)
+      on answer.Accepted false e f n g = absurd (not-accepted DestinationLength g)
+      on (answer.Refused r) c e f n g = absurd (not-accepted r g)
+
+      go : (a : Answer) → editionTest file mark ≡ a → (formless → ⊥) → converter ≡ answer.Accepted → Converts
+      go answer.Accepted a n e = on tests b refl refl n (sym (marked (accepted file mark a) n) ∙ e)
+      go (answer.Refused r) a n e = absurd (not-accepted r (sym (ap (λ x. after x rest) a) ∙ e))
 
       room : (c : Bool) → b ≡ c → fits → unless c DestinationLength answer.Accepted ≡ answer.Accepted
       room true e f = refl
       room false e f = absurd (unfit e f)
 
-      accept : (d : Digest) → digestAfter tests claim ≡ Accepted d
+      accept : (d : Digest) → digestAfter tests claim ≡ Accepted d → (formless → ⊥)
           → unless b DestinationLength answer.Accepted ≡ answer.Accepted → converter ≡ answer.Accepted
-      accept d e f =
+      accept d e n f =
           let t = digest-accepted tests claim d e .0 in
-          marked (read-marked t) ∙ ap (λ x. after x (unless b DestinationLength answer.Accepted)) t ∙ f
+          marked (read-marked t) n ∙ ap (λ x. after x (unless b DestinationLength answer.Accepted)) t ∙ f
 
   -- ---- and refused is each other one for its fault
   abbrev Fault : Refusal → Type 0
-  Fault r = ConverterFault file other (digestAfter tests claim) fits r
+  Fault r = ConverterFault file other (digestAfter tests claim) formless fits r
 
   -- from the tests of the edition
   by-edition : (r : Refusal) → EditionFault file mark r → Fault r
   by-edition r (no-count h e) =
-      malformed (λ o. omega (arith, o .four, h))
+      malformed (λ o. omega (arith, o .four, h)) (λ f. omega (arith, its-mark f .four, h))
       (ap (λ x. digestAfter x claim) (reader .no-count h) ∙ ap Refused (sym e))
   by-edition r (count-kind h n e) =
-      malformed (λ o. n (o .kind)) (ap (λ x. digestAfter x claim) (reader .count-kind h n) ∙ ap Refused (sym e))
+      malformed (λ o. n (o .kind)) (λ f. n (its-mark f .kind))
+      (ap (λ x. digestAfter x claim) (reader .count-kind h n) ∙ ap Refused (sym e))
   by-edition r (other-mark h z n e) = already (record { four = h; kind = z; mark-is = marks n }) e
 
   -- from those of the reader, and the last
-  by-reader : (r : Refusal) → HasMark file mark → (t : Answer) (c : Bool) → tests ≡ t → b ≡ c
+  by-reader : (r : Refusal) → HasMark file mark → (formless → ⊥) → (t : Answer) (c : Bool) → tests ≡ t → b ≡ c
       → after t (unless c DestinationLength answer.Accepted) ≡ answer.Refused r → Fault r
-  by-reader r h answer.Accepted true e f g = absurd (not-accepted r (sym g))
-  by-reader r h answer.Accepted false e f g =
-      no-room claim (ap (λ x. digestAfter x claim) e) (unfit f) (sym (refused-same g))
-  by-reader r h (answer.Refused q) c e f g =
-      malformed (not-both h) (ap (λ x. digestAfter x claim) (e ∙ g))
+  by-reader r h n answer.Accepted true e f g = absurd (not-accepted r (sym g))
+  by-reader r h n answer.Accepted false e f g =
+      no-room claim (ap (λ x. digestAfter x claim) e) n (unfit f) (sym (refused-same g))
+  by-reader r h n (answer.Refused q) c e f g =
+      malformed (not-both h) n (ap (λ x. digestAfter x claim) (e ∙ g))
 
   there : (r : Refusal) → converter ≡ answer.Refused r → Fault r
-  there r e = go (editionTest file mark) refl
+  there r e = go (editionTest file mark) refl form
     where
-      go : (a : Answer) → editionTest file mark ≡ a → Fault r
-      go answer.Accepted f =
+      go : (a : Answer) → editionTest file mark ≡ a → Dec formless → Fault r
+      go a f (yes o) = no-form o (sym (refused-same (sym (without o) ∙ e)))
+      go answer.Accepted f (no n) =
           let h = accepted file mark f in
-          by-reader r h tests b refl refl (sym (marked h) ∙ e)
-      go (answer.Refused q) f =
+          by-reader r h n tests b refl refl (sym (marked h n) ∙ e)
+      go (answer.Refused q) f (no n) =
           let same = refused-same (sym (ap (λ x. after x rest) f) ∙ e) in
           by-edition r (faulty file mark r (f ∙ ap answer.Refused same))
 
   -- the edition's tests refuse what the reader refuses, but for the mark
-  read-refused : (r : Refusal) → tests ≡ answer.Refused r → (HasMark file other → ⊥) → converter ≡ answer.Refused r
-  read-refused r t n = go (editionTest file mark) refl
+  read-refused : (r : Refusal) → tests ≡ answer.Refused r → (HasMark file other → ⊥) → (formless → ⊥)
+      → converter ≡ answer.Refused r
+  read-refused r t n form = go (editionTest file mark) refl
     where
       same : (q : Refusal) → EditionFault file mark q → q ≡ r
       same q (no-count h e) = e ∙ refused-same (sym (reader .no-count h) ∙ t)
@@ -133,17 +144,18 @@ module _ (file : List ℕ) (mark other : ℕ) (marks : (markIn (wordAt file 0) �
 
       go : (a : Answer) → editionTest file mark ≡ a → converter ≡ answer.Refused r
       go answer.Accepted f =
-          marked (accepted file mark f) ∙ ap (λ x. after x (unless b DestinationLength answer.Accepted)) t
+          marked (accepted file mark f) form ∙ ap (λ x. after x (unless b DestinationLength answer.Accepted)) t
       go (answer.Refused q) f = ap (λ x. after x rest) f ∙ ap answer.Refused (same q (faulty file mark q f))
 
   back : (r : Refusal) → Fault r → converter ≡ answer.Refused r
   back r (already o e) =
       let n : markIn (wordAt file 0) ≡ mark → ⊥ = λ q. apart (sym q ∙ o .mark-is) in
       ap (λ x. after x rest) (fault-refused file mark r (other-mark (o .four) (o .kind) n e))
-  back r (malformed n e) = read-refused r (digest-refused tests claim r e) n
-  back r (no-room d e n f) =
+  back r (no-form o e) = without o ∙ ap answer.Refused (sym e)
+  back r (malformed n m e) = read-refused r (digest-refused tests claim r e) n m
+  back r (no-room d e m n f) =
       let t = digest-accepted tests claim d e .0 in
-      marked (read-marked t)
+      marked (read-marked t) m
       ∙ ap (λ x. after x (unless b DestinationLength answer.Accepted)) t
       ∙ room b refl
     where
@@ -163,29 +175,32 @@ module _ (file : List ℕ) (mark other : ℕ) (marks : (markIn (wordAt file 0) �
     where
       go : Fault SameEdition → HasMark file other
       go (already o e) = o
-      go (malformed n e) =
+      go (no-form o e) = absurd (other-number 19 SameEdition (WrongValue 0) refl refl e)
+      go (malformed n m e) =
           let q = digest-refused tests claim SameEdition e in
           absurd (true≢false (ends-refusal (Not 19) tests SameEdition (reader .never-19) q))
-      go (no-room d e n f) = absurd (other-number 19 SameEdition DestinationLength refl refl f)
+      go (no-room d e m n f) = absurd (other-number 19 SameEdition DestinationLength refl refl f)
 
   eight : (converter ≡ answer.Refused DestinationLength)
-      ↔ ((d : Digest) × (digestAfter tests claim ≡ Accepted d) × (fits → ⊥))
-  eight = (λ e. go (there DestinationLength e), λ h. back DestinationLength (no-room (h .0) (h .1) (h .2) refl))
+      ↔ ((d : Digest) × (digestAfter tests claim ≡ Accepted d) × (formless → ⊥) × (fits → ⊥))
+  eight =
+      (λ e. go (there DestinationLength e), λ h. back DestinationLength (no-room (h .0) (h .1) (h .2) (h .3) refl))
     where
-      go : Fault DestinationLength → (d : Digest) × (digestAfter tests claim ≡ Accepted d) × (fits → ⊥)
+      go : Fault DestinationLength
+          → (d : Digest) × (digestAfter tests claim ≡ Accepted d) × (formless → ⊥) × (fits → ⊥)
       go (already o e) = absurd (other-number 8 DestinationLength SameEdition refl refl e)
-      go (malformed n e) =
+      go (no-form o e) = absurd (other-number 8 DestinationLength (WrongValue 0) refl refl e)
+      go (malformed n m e) =
           let q = digest-refused tests claim DestinationLength e in
           absurd (true≢false (ends-refusal (Not 8) tests DestinationLength (reader .never-8) q))
-      go (no-room d e n f) = (d, e, n)
+      go (no-room d e m n f) = (d, e, m, n)
 
   -- ---- every file is accepted, or refused for one fault
-  some-answer : (a : Answer) → converter ≡ a
-      → ((d : Digest) × (digestAfter tests claim ≡ Accepted d) × fits) ⊎ ((r : Refusal) × Fault r)
+  some-answer : (a : Answer) → converter ≡ a → Converts ⊎ ((r : Refusal) × Fault r)
   some-answer answer.Accepted e = inl (accepts-exactly .0 e)
   some-answer (answer.Refused r) e = inr (r, there r e)
 
-  pub answers : ConverterAnswers file other (digestAfter tests claim) fits converter
+  pub answers : ConverterAnswers file other (digestAfter tests claim) formless fits converter
   answers = record {
     accepts = accepts-exactly;
     refuses = refuses-exactly;

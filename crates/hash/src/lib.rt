@@ -6,7 +6,7 @@ ghost use Rattle.numbers.specs.Numbers.{width};
 ghost use Rattle.table.specs.Table.{IsTable, firstStepConstant, secondStepConstant};
 ghost use Rattle.hash.specs.Hash.{cubes, plus, mix, firstStep, secondStep, stateAt, finalState};
 ghost use Rattle.hash.specs.Answers.{hashTest, hashAnswer};
-use field::Fp;
+use fp::Fp;
 use numbers::WIDTH;
 use refusals::Answer;
 use refusals::Refusal;

@@ -10,8 +10,7 @@ ghost use Rattle.inverse.specs.Inversion.{Inverts};
 ghost use Rattle.inverse.specs.EliminationHelpers.{doubleWidth, doubleWords, at, beside, started, rightHalf};
 ghost use Rattle.inverse.specs.EliminationHelpers.{Working, RowSet, scaledRow};
 ghost use Rattle.inverse.specs.EliminationHelpers.{addedRow, Reduced, Reduces, Pivot, Stepped, Eliminated};
-use field::Fp;
-use field::montgomery;
+use fp::Fp;
 use matrix::MATRIX_WORDS;
 use numbers::WIDTH;
 

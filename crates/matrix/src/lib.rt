@@ -9,7 +9,6 @@ ghost use Rattle.field.specs.MontgomeryHelpers.{quotient};
 ghost use Rattle.words.specs.Words.{AllCanonical, CanonicalTo};
 ghost use Rattle.numbers.specs.Numbers.{width};
 ghost use Rattle.matrix.specs.Matrix.{matrixWords, entry, times};
-use field::montgomery;
 use numbers::WIDTH;
 
 // A matrix as wide as a state, row by row.

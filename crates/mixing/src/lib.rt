@@ -12,7 +12,6 @@ ghost use Rattle.words.specs.Words.{AllCanonical, CanonicalTo};
 ghost use Rattle.numbers.specs.Numbers.{width};
 ghost use Rattle.matrix.specs.Matrix.{matrixWords, entry, timesColumn};
 ghost use Rattle.mixing.specs.MixingHelpers.{columnWords, readyWords, ready, IsReady, readyEntry};
-use field::montgomery;
 use matrix::MATRIX_WORDS;
 use numbers::WIDTH;
 

@@ -1,10 +1,10 @@
--- The permitted counts are the powers of two from 1 to 1024, and a length stands for k batches exactly where
--- document 01 says so.
+-- The permitted counts are the powers of two up to the most, where that is one, and a length stands for k batches
+-- exactly where document 01 says so.
 -- Assumes nothing.
 use mathlib.Core.Path.{_≡_, refl, ap, sym, _∙_}
 use mathlib.Core.Bool.{Bool, true, false, _&&_}
 use mathlib.Core.Logic.{_⊎_, inl, inr}
-use Prim.Native.Nat.{ℕ, zero, suc, _+_, _*_, _/_, _%_, _^_, _<_}
+use Prim.Native.Nat.{ℕ, zero, suc, _+_, _*_, _/_, _%_, _^_, _≤_, _<_}
 use native.Mathlib.Nat.{pow-suc, mod-lt}
 use native.Mathlib.Omega.{arith}
 use borrow.Author.Tests.{le-leb, leb-true, eq-eqb, eqb-true}
@@ -12,7 +12,7 @@ use lib.Count.{ones, ones-step, ones-cat}
 use lib.Dec.{leb, eqb}
 use lib.Pow.{pow-pos, pow-mono}
 use Rattle.lists.proofs.Bools.{and-both, and-intro}
-use Rattle.numbers.specs.Numbers.{IsPermittedTo, IsPermitted, permitted, tapWordBatches, isTapLength}
+use Rattle.numbers.specs.Numbers.{IsPermittedTo, permitted, tapWordBatches, isTapLength}
 use Rattle.numbers.specs.Numbers.{traceWordBatches, isTraceLength, batchesIf}
 use Rattle.numbers.specs.declared.BatchCount.{BatchCount}
 use Rattle.numbers.specs.declared.BatchCount.the-variants.{Permitted, Refused}
@@ -61,12 +61,20 @@ power-ones j =
     let e : 2 ^ j ≡ 1 * 2 ^ j + 0 = omega arith in
     ap ones e ∙ ones-cat j 1 0 (pow-pos j)
 
--- the permitted counts are the powers of two up to 1024
-pub permitted-power : (k : ℕ) → IsPermitted k → (j : ℕ) × (j < 11) × (k ≡ 2 ^ j)
-permitted-power k p = power 11 k (omega (arith, p .high)) (p .one-bit)
+-- the counts permitted up to 2^n are the powers of two up to it
+module _ (n : ℕ) where
+  pub permitted-power : (k : ℕ) → IsPermittedTo (2 ^ n) k → (j : ℕ) × (j ≤ n) × (k ≡ 2 ^ j)
+  permitted-power k p =
+      let below : k < 2 ^ suc n = omega (arith, p .high, pow-suc 2 n, pow-pos n) in
+      let t = power (suc n) k below (p .one-bit) in
+      (t .0, omega (arith, t .1), t .2)
 
-pub power-permitted : (j : ℕ) → j < 11 → IsPermitted (2 ^ j)
-power-permitted j h = record { low = pow-pos j; high = pow-mono {i = j} {j = 10} (omega arith); one-bit = power-ones j }
+  pub power-permitted : (j : ℕ) → j ≤ n → IsPermittedTo (2 ^ n) (2 ^ j)
+  power-permitted j h = record { low = pow-pos j; high = pow-mono {i = j} {j = n} h; one-bit = power-ones j }
+
+-- a permitted count is so up to any most that it is not above
+pub permitted-to : {m : ℕ} (n k : ℕ) → IsPermittedTo m k → k ≤ n → IsPermittedTo n k
+permitted-to n k p h = record { low = p .low; high = h; one-bit = p .one-bit }
 
 -- ---- the tests decide
 module _ (most : ℕ) where

@@ -38,9 +38,9 @@ within i = i % batchRows
 abbrev pub firstRow : ℕ → ℕ
 firstRow h = batchRows * (h / 3) + 10 * (h % 3) + 1
 
--- ---- the most batches of a list of taps and of a trace
+-- ---- the most batches of a list of taps, of a trace and of a short file (document 02, U9)
 abbrev pub mostBatches : ℕ
-mostBatches = 1024
+mostBatches = 262144
 
 -- k from 1 to the most, and k has exactly one set bit
 pub record IsPermittedTo (most k : ℕ) : Type 0 where

@@ -133,8 +133,8 @@ impl TapNumber {
     }
 }
 
-// The most batches of a list of taps and of a trace.
-pub const MOST_BATCHES: usize = 1024;
+// The most batches of a list of taps, of a trace and of a short file (document 02, U9).
+pub const MOST_BATCHES: usize = 1 << 18;
 
 // Whether k batches are permitted: from 1 to the most, with exactly one set bit.
 pub fn is_permitted(most: usize, k: usize) -> bool

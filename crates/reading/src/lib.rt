@@ -7,7 +7,7 @@ ghost use Rattle.field.specs.Field.{P};
 ghost use Rattle.elements.specs.Words.{payloadOf};
 ghost use Rattle.elements.specs.Elements.{elementOf, elementAt, elementsAt, elementTest, elementsTest};
 use elements::Word;
-use field::Fp;
+use fp::Fp;
 use refusals::Answer;
 use refusals::Refusal;
 

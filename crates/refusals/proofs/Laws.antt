@@ -154,3 +154,8 @@ module _ (Q : Refusal → Type 0) where
   pub ends-refusal : (a : Answer) (r : Refusal) → AnswerEnds Q a → a ≡ Refused r → Q r
   ends-refusal Accepted r q e = absurd (not-accepted r (sym e))
   ends-refusal (Refused s) r q e = subst Q (refused-same e) q
+
+-- an answer that can be refused for one cause only, and is not accepted
+pub one-cause : (r : Refusal) (a : Answer) → AnswerEnds (λ s. s ≡ r) a → (a ≡ Accepted → ⊥) → a ≡ Refused r
+one-cause r Accepted q n = absurd (n refl)
+one-cause r (Refused s) q n = ap Refused q

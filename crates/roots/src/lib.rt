@@ -7,8 +7,7 @@ ghost use Rattle.field.specs.Field.{root};
 ghost use Rattle.field.specs.MontgomeryHelpers.{quotient};
 ghost use Rattle.numbers.specs.Numbers.{width};
 ghost use Rattle.roots.specs.PowerHelpers.{elements, products, powers};
-use field::Fp;
-use field::montgomery;
+use fp::Fp;
 use numbers::WIDTH;
 
 // Each cell of acc times that of x raised to e. The exponent is halved at each call; the twelve cells lie in place and

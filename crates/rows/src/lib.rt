@@ -8,10 +8,10 @@ ghost use Rattle.words.specs.Words.{CanonicalTo};
 ghost use Rattle.table.specs.Table.{IsTable, initialConstant};
 ghost use Rattle.trace.specs.Trace.{row as cells-of};
 ghost use Rattle.numbers.specs.Numbers.{width, within};
-ghost use Rattle.constraints.specs.Constraints.{round, entering, plusFirst, forward, back};
+ghost use Rattle.constraints.specs.Constraints.{round, plusFirst, forward, back};
 ghost use Rattle.steps.specs.StepHelpers.{forwardReady, backReady, columns};
 ghost use Rattle.rows.specs.RowHelpers.{HasRow, testedColumns};
-use field::Fp;
+use fp::Fp;
 use numbers::RowNumber;
 use numbers::WIDTH;
 
@@ -47,14 +47,6 @@ fn round_of(row: RowNumber) -> usize
     (row.within() - 1) % 10
 }
 
-// Rows 10 and 20 of a batch, after which a new tap enters.
-pub fn is_entering(row: RowNumber) -> bool
-    ensures { λ r. ⌜ r ≡ entering (row .0) ⌝ }
-{
-    let within = row.within();
-    within == 10 || within == 20
-}
-
 // The state plus K_0 in columns 0 to 3 only, as at rows 10 and 20.
 fn plus_entering(table: &[u64], s: [u64; WIDTH]) -> [u64; WIDTH]
     requires { ⌜ IsTable (now table) × CanonicalTo width s ⌝ }
@@ -76,7 +68,7 @@ pub fn forward(ready: &[u64], table: &[u64], trace: &[u64], row: RowNumber) -> [
     ensures { λ r. ⌜ r ≡ columns (testedColumns (row .0))
         (forward (now (table .entry)) (now (trace .entry)) (row .0)) ⌝ }
 {
-    if is_entering(row) {
+    if applying::is_entering(row) {
         let next = steps::forward_step(ready, table, round_of(row), cells(trace, row), 4);
         return plus_entering(table, next);
     }

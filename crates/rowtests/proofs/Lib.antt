@@ -1,2 +1,1 @@
-pub mod SpanLaws
 pub mod Holding

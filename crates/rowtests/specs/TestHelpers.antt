@@ -1,9 +1,9 @@
--- What the tests of one row compare, and which constraints can be among them (document 01, "The 52 constraints").
+-- What the tests of one row compare (document 01, "The 52 constraints").
 -- Assumes nothing.
 use mathlib.Core.Path.{_≡_}
-use mathlib.Core.Bool.{true, false}
+use mathlib.Core.Bool.{true}
 use mathlib.Core.List.{List}
-use Prim.Native.Nat.{ℕ, _+_, _^_, _≤_, _<_}
+use Prim.Native.Nat.{ℕ, _+_, _^_, _<_}
 use lib.Dec.{leb}
 use lib.ListN.{length, replicate}
 use Rattle.lists.specs.Lists.{choose}
@@ -20,15 +20,6 @@ forwardOf T t i = choose (between 1 30 (within i)) (columns (testedColumns i) (f
 -- back of row i + 1, at rows 0 to 29; no test asks for it elsewhere
 unfoldable pub backAfter : List ℕ → List ℕ → ℕ → List ℕ
 backAfter T t i = choose (leb (within i) 29) (back T t (i + 1)) (replicate width 0)
-
--- the constraints that can apply at row i, however many batches there are and wherever the claim stands, stand from low
--- on and before end
-pub record Spans (i low end : ℕ) : Type 0 where
-  pub from-one : 1 ≤ low
-  pub some : low < end
-  pub to-last : end ≤ 53
-  pub below : (k c q : ℕ) → q < low → applies k c i q ≡ false
-  pub above : (k c q : ℕ) → end ≤ q → applies k c i q ≡ false
 
 -- row i of a trace of k batches, whose words are canonical
 pub record InTrace (t : List ℕ) (i : ℕ) : Type 0 where

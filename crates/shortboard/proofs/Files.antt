@@ -11,19 +11,20 @@ use Rattle.lists.specs.Lists.{cell}
 use Rattle.lists.proofs.Each.{each-append}
 use Rattle.lists.proofs.Stores.{sets-all}
 use Rattle.words.specs.Words.{AllCanonical}
+use Rattle.numbers.specs.Numbers.{mostBatches}
 use Rattle.elements.specs.Words.{wordBytes, bytesOf}
 use Rattle.elements.proofs.Words.{length-bytes}
 use Rattle.elements.proofs.Laws.{write-on, write-one}
 use Rattle.shortwords.specs.Short.{shortWords, shortWordsOf, allBytesNeeded}
 use Rattle.shortwords.proofs.Words.{all-needed, needed-append}
 use Rattle.shortreading.proofs.Round.{Stands, bytes-stand, words-below}
-use Rattle.shortboard.specs.ShortBoard.{mostShortBatches, shortCountWord, shortFileOf, shortFileSize}
+use Rattle.shortboard.specs.ShortBoard.{shortCountWord, shortFileOf, shortFileSize}
 
 -- the mark beside k
-pub mark-or : (k : ℕ) → k ≤ mostShortBatches → bitOr (2 ^ 29) k ≡ 2 ^ 29 + k
+pub mark-or : (k : ℕ) → k ≤ mostBatches → bitOr (2 ^ 29) k ≡ 2 ^ 29 + k
 mark-or k h = or-shifted 1 29 k (omega arith)
 
-pub mark-fits : (k : ℕ) → k ≤ mostShortBatches → bitOr (2 ^ 29) k < 2 ^ 30
+pub mark-fits : (k : ℕ) → k ≤ mostBatches → bitOr (2 ^ 29) k < 2 ^ 30
 mark-fits k h = rw (mark-or k h) (omega arith)
 
 -- the parts of the length
@@ -70,7 +71,7 @@ file-written l l₁ l₂ l₃ taps claim k w at size e a p q r =
     ∙ sets-all l (bytesOf words) all
 
 -- the words of the file of canonical taps and a canonical claim
-pub file-words : (taps claim : List ℕ) (k : ℕ) → k ≤ mostShortBatches → AllCanonical (claim ++ taps)
+pub file-words : (taps claim : List ℕ) (k : ℕ) → k ≤ mostBatches → AllCanonical (claim ++ taps)
     → Stands (shortFileOf taps claim k) 0 (shortCountWord k ∷ shortWordsOf (claim ++ taps))
 unfolding shortFileOf
 file-words taps claim k small all = bytes-stand (shortCountWord k ∷ shortWordsOf (claim ++ taps)) below

@@ -9,25 +9,24 @@ use lib.Seq.{take-at, drop-at}
 use Rattle.lists.specs.Lists.{tab}
 use Rattle.words.specs.Words.{AllCanonical}
 use Rattle.words.proofs.Laws.{append-canonical}
-use Rattle.numbers.specs.Numbers.{tapWords, IsPermittedTo}
+use Rattle.numbers.specs.Numbers.{tapWords, IsPermitted}
 use Rattle.refusals.specs.Refusals.{digest, digestWords}
 use Rattle.refusals.specs.declared.Digest.{Digest}
 use Rattle.elements.specs.Words.{AllBytes, bytesOf}
-use Rattle.board.specs.Board.{elementCount, batchesIn}
+use Rattle.board.specs.Board.{elementCount}
 use Rattle.shortwords.specs.Short.{shortWordsOf}
 use Rattle.shortreading.specs.Reading.{firstWord, shortsAt}
 use Rattle.shortreading.proofs.Tests.{first-add}
 use Rattle.shortwords.proofs.Words.{all-needed}
 use Rattle.shortreading.proofs.Round.{Stands, stands-rest, stands-both, stands-unique, ReadsAll, stands-read-all}
-use Rattle.shortreading.proofs.Round.{WrittenAll, written-all}
-use Rattle.shortreading.proofs.Round.{length-shorts, shorts-append, shorts-canonical}
-use Rattle.shortboard.specs.ShortBoard.{mostShortBatches, shortCountWord, shortFileOf, shortClaimIn, shortTapsIn}
-use Rattle.shortboard.specs.ShortBoard.{IsShortBoard}
+use Rattle.shortreading.proofs.Round.{WrittenAll, written-all, length-shorts, shorts-append, shorts-canonical}
+use Rattle.shortboard.specs.ShortBoard.{shortCountWord, shortFileOf, shortClaimIn, shortTapsIn, IsShortBoard}
+use Rattle.shortboard.specs.ShortBoard.{shortBatchesIn}
 use Rattle.shortboard.proofs.Answers.{batches-is}
 use Rattle.shortboard.proofs.Files as files
 
 -- ---- the file of canonical taps and a canonical claim is a short file, and is read as those
-module _ (taps claim : List ℕ) (k : ℕ) (permitted : IsPermittedTo mostShortBatches k) (t : length taps ≡ tapWords k)
+module _ (taps claim : List ℕ) (k : ℕ) (permitted : IsPermitted k) (t : length taps ≡ tapWords k)
     (t-canonical : AllCanonical taps) (c : length claim ≡ 4) (c-canonical : AllCanonical claim) where
   all : AllCanonical (claim ++ taps)
   all = append-canonical claim taps c-canonical t-canonical
@@ -60,9 +59,9 @@ module _ (taps claim : List ℕ) (k : ℕ) (permitted : IsPermittedTo mostShortB
   unfolding shortClaimIn shortTapsIn
   parts =
       let file : List ℕ = shortFileOf taps claim k in
-      let n : 4 + tapWords (batchesIn file) ≡ length (claim ++ taps) =
+      let n : 4 + tapWords (shortBatchesIn file) ≡ length (claim ++ taps) =
       omega (arith, batches-is file k packed-board, count) in
-      sym (shorts-append file 1 4 (tapWords (batchesIn file))) ∙ ap (shortsAt file 1) n ∙ read .values
+      sym (shorts-append file 1 4 (tapWords (shortBatchesIn file))) ∙ ap (shortsAt file 1) n ∙ read .values
 
   pub packed-claim : shortClaimIn (shortFileOf taps claim k) ≡ claim
   unfolding shortClaimIn
@@ -81,18 +80,18 @@ module _ (taps claim : List ℕ) (k : ℕ) (permitted : IsPermittedTo mostShortB
       ∙ drop-at claim taps 4 c
 
 -- ---- a short file is that of the claim and the taps that are read
-module _ (file : List ℕ) (h : IsShortBoard file (batchesIn file)) where
-  written : WrittenAll file 1 (elementCount (batchesIn file))
-  written = written-all file 1 (elementCount (batchesIn file)) (omega (arith, h .four)) (h .elements)
+module _ (file : List ℕ) (h : IsShortBoard file (shortBatchesIn file)) where
+  written : WrittenAll file 1 (elementCount (shortBatchesIn file))
+  written = written-all file 1 (elementCount (shortBatchesIn file)) (omega (arith, h .four)) (h .elements)
 
-  pub board-elements : shortClaimIn file ++ shortTapsIn file ≡ shortsAt file 1 (elementCount (batchesIn file))
+  pub board-elements : shortClaimIn file ++ shortTapsIn file ≡ shortsAt file 1 (elementCount (shortBatchesIn file))
   unfolding shortClaimIn shortTapsIn
   board-elements =
-      let n : 4 + tapWords (batchesIn file) ≡ elementCount (batchesIn file) = omega arith in
-      sym (shorts-append file 1 4 (tapWords (batchesIn file))) ∙ ap (shortsAt file 1) n
+      let n : 4 + tapWords (shortBatchesIn file) ≡ elementCount (shortBatchesIn file) = omega arith in
+      sym (shorts-append file 1 4 (tapWords (shortBatchesIn file))) ∙ ap (shortsAt file 1) n
 
   -- word 0, and then theirs, are the file's
-  first : Stands file 0 (shortCountWord (batchesIn file) ∷ [])
+  first : Stands file 0 (shortCountWord (shortBatchesIn file) ∷ [])
   first = record {
     room = omega (arith, h .four);
     words = λ m l.
@@ -100,26 +99,26 @@ module _ (file : List ℕ) (h : IsShortBoard file (batchesIn file)) where
         rw z (h .word);
   }
 
-  pub board-packs : AllBytes file → shortFileOf (shortTapsIn file) (shortClaimIn file) (batchesIn file) ≡ file
+  pub board-packs : AllBytes file → shortFileOf (shortTapsIn file) (shortClaimIn file) (shortBatchesIn file) ≡ file
   unfolding shortFileOf
   board-packs bytes =
-      let count : List ℕ = shortCountWord (batchesIn file) ∷ [] in
-      let words : List ℕ = shortWordsOf (shortsAt file 1 (elementCount (batchesIn file))) in
+      let count : List ℕ = shortCountWord (shortBatchesIn file) ∷ [] in
+      let words : List ℕ = shortWordsOf (shortsAt file 1 (elementCount (shortBatchesIn file))) in
       ap (λ s. bytesOf (count ++ shortWordsOf s)) board-elements
       ∙ stands-unique file (count ++ words) bytes (stands-both file 0 count words first (written .stands))
       (omega (arith, h .ends, written .ends))
 
 -- what an accepted file holds
-pub taps-length : (file : List ℕ) → length (shortTapsIn file) ≡ tapWords (batchesIn file)
+pub taps-length : (file : List ℕ) → length (shortTapsIn file) ≡ tapWords (shortBatchesIn file)
 unfolding shortTapsIn
-taps-length file = length-shorts file (firstWord file 1 4) (tapWords (batchesIn file))
+taps-length file = length-shorts file (firstWord file 1 4) (tapWords (shortBatchesIn file))
 
-pub board-canonical : (file : List ℕ) → IsShortBoard file (batchesIn file)
+pub board-canonical : (file : List ℕ) → IsShortBoard file (shortBatchesIn file)
     → AllCanonical (shortClaimIn file) × AllCanonical (shortTapsIn file)
 unfolding shortClaimIn shortTapsIn
 board-canonical file h = (
   shorts-canonical file 1 4 (λ i l. h .elements i (omega arith)),
-  shorts-canonical file (firstWord file 1 4) (tapWords (batchesIn file))
+  shorts-canonical file (firstWord file 1 4) (tapWords (shortBatchesIn file))
       (λ i l. rw (first-add file 1 4 i) at (h .elements (4 + i) (omega arith))),
 )
 

@@ -24,20 +24,19 @@ use Rattle.refusals.specs.declared.DigestAnswer.the-variants.{Accepted, Refused
 use Rattle.refusals.proofs.Laws.{AnswerEnds, unless-ends, after-ends, refusal-ends, ends-refusal}
 use Rattle.elements.specs.Words.{kindOf, wordAt, AllBytes, bytesOf}
 use Rattle.elements.specs.Elements.{elementAt, IsElement}
-use Rattle.board.specs.Board.{elementCount, fileSize, countIn, spareIn, batchesIn, countTest, unpackTest, unpackAnswer}
+use Rattle.board.specs.Board.{elementCount, fileSize, spareIn, countTest, unpackTest, unpackAnswer}
 use Rattle.shortwords.specs.Short.{shortWords, spelled}
-use Rattle.shortreading.specs.Reading.{firstWord, shortsTest, ElementFault, no-first, first-kind}
-use Rattle.shortreading.specs.Reading.{no-second, second-kind, no-third, third-kind, too-large, needless}
+use Rattle.shortreading.specs.Reading.{firstWord, shortsTest, ElementFault, no-first, first-kind, no-second}
+use Rattle.shortreading.specs.Reading.{second-kind, no-third, third-kind, too-large, needless}
 use Rattle.elements.proofs.Laws.{words-spell}
 use Rattle.shortwords.proofs.Words.{one-word, three-words, needed-most, needed-least, needed-whole}
 use Rattle.shortreading.proofs.Tests.{Stops, element, tail, stops, first-refused, bytes-after, faulty, fault-refused}
-use Rattle.shortboard.specs.ShortBoard.{shortFileOf, shortFileSize}
-use Rattle.shortboard.specs.ShortBoard.{packShortTest, packedShort, markIn, shortSpareIn, shortTapsIn}
-use Rattle.shortboard.specs.ShortBoard.{shortClaimIn, shortCountTest, unpackShortTest, unpackShortAnswer}
-use Rattle.shortboard.specs.ShortBoard.{ReadsOn, ThreeForOne, FirstFault, no-count, count-kind, count-value}
-use Rattle.shortboard.specs.ShortBoard.{no-room}
+use Rattle.shortboard.specs.ShortBoard.{shortFileOf, shortFileSize, packShortTest, packedShort, markIn}
+use Rattle.shortboard.specs.ShortBoard.{shortSpareIn, shortTapsIn, shortClaimIn, shortCountTest, unpackShortTest}
+use Rattle.shortboard.specs.ShortBoard.{unpackShortAnswer, ReadsOn, ThreeForOne, FirstFault, no-count, count-kind}
+use Rattle.shortboard.specs.ShortBoard.{count-value, no-room, shortBatchesIn}
 use Rattle.shortboard.specs.ShortBoard as faults
-use Rattle.shortboard.proofs.Answers.{pack-accepted, pack-complete, count-accepted, count-complete}
+use Rattle.shortboard.proofs.Answers.{pack-accepted, pack-complete, count-accepted, counts}
 use Rattle.shortboard.proofs.Answers.{unpack-elements, unpack-accepted, unpack-complete, unpack-returns}
 use Rattle.shortboard.proofs.Answers.{returned, fromRoom, CountFault, kind, value, count-faulty}
 use Rattle.shortboard.proofs.Answers.{count-fault-refused}
@@ -75,11 +74,11 @@ pack-unpack file size d bytes e =
     let h = unpack-accepted file size (r .0) .0 in
     let c = claim-is file d (r .1) in
     let canonical = board-canonical file h in
-    let k-is : tapWordBatches (length (shortTapsIn file)) ≡ batchesIn file = omega (arith, taps-length file) in
+    let k-is : tapWordBatches (length (shortTapsIn file)) ≡ shortBatchesIn file = omega (arith, taps-length file) in
     let same = board-packs file h bytes in
     let size-is : length file ≡ shortFileSize (shortTapsIn file) (shortClaimIn file) =
-    ap length (sym same) ∙ files.file-length (shortTapsIn file) (shortClaimIn file) (batchesIn file) in (
-      pack-complete (shortTapsIn file) (digestWords d) (length file) (batchesIn file) (record {
+    ap length (sym same) ∙ files.file-length (shortTapsIn file) (shortClaimIn file) (shortBatchesIn file) in (
+      pack-complete (shortTapsIn file) (digestWords d) (length file) (shortBatchesIn file) (record {
         permitted = h .permitted;
         taps-size = taps-length file;
         size-is = rw c at size-is;
@@ -136,10 +135,10 @@ walked file size k r on (tail b q f) = faults.tail k on b q f
 module _ (file : List ℕ) (size : ℕ) where
   room-faults : 4 ≤ length file → shortCountTest (wordAt file 0) ≡ answer.Accepted
       → AnswerEnds (FirstFault file size) (fromRoom file size)
-  unfolding batchesIn
+  unfolding shortBatchesIn
   room-faults four g =
       let Q = FirstFault file size in
-      let k = batchesIn file in
+      let k = shortBatchesIn file in
       let w = count-accepted (wordAt file 0) g in
       unless-ends Q (eqb size (tapWords k)) DestinationLength _
       (λ h. no-room four k (w .1) (w .0) (eqb-false _ _ h) refl) λ h.
@@ -166,16 +165,15 @@ module _ (file : List ℕ) (size : ℕ) where
 
 pub fault-first : (file : List ℕ) (size : ℕ) (r : Refusal) → FirstFault file size r
     → unpackShortTest file size ≡ answer.Refused r
-unfolding unpackShortTest batchesIn
+unfolding unpackShortTest
 fault-first file size r (no-count h e) = rw (lt-leb _ _ h, e)
 fault-first file size r (count-kind h n e) =
     rw (le-leb _ _ h, count-fault-refused (wordAt file 0) r (kind n e))
 fault-first file size r (count-value h z n e) =
     rw (le-leb _ _ h, count-fault-refused (wordAt file 0) r (value z n e))
 fault-first file size r (no-room h k p w n e) =
-    let c = count-complete k p in
-    let k-is : countIn (wordAt file 0) ≡ k = ap countIn w ∙ c .0 in
-    rw (le-leb _ _ h, ap shortCountTest w ∙ c .1, k-is, ne-eqb _ _ n, e)
+    let c = counts file k w p in
+    rw (le-leb _ _ h, c .1, c .0, ne-eqb _ _ n, e)
 fault-first file size r (faults.element k i on l b q) =
     unpack-elements file size k on
     ∙ first-refused file 1 (elementCount k) i r l b (fault-refused file (firstWord file 1 i) r q)
@@ -242,7 +240,7 @@ module _ (file : List ℕ) (size : ℕ) (four : 4 ≤ length file) (zero-kind : 
       let mark : markIn (wordAt file 0) ≡ 1 → ⊥ = λ z. omega (arith, z, e) in
       rw (le-leb _ _ four, eq-eqb _ _ zero-kind, ne-eqb _ _ mark)
 
-  -- nor with a bit among 16 to 28
+  -- nor with a bit among 20 to 28
   pub spare-refused : markIn (wordAt file 0) ≡ 1 → (shortSpareIn (wordAt file 0) ≡ 0 → ⊥)
       → unpackShortAnswer file size ≡ Refused (WrongValue 0)
   unfolding unpackShortAnswer unpackShortTest shortCountTest

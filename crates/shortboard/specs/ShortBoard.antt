@@ -1,4 +1,4 @@
--- The short edition of the board file: what its writer writes, and what its reader finds (document 02, U7).
+-- The short edition of the board file: what its writer writes, and what its reader finds (document 02, U7 and U9).
 -- Assumes nothing.
 use mathlib.Core.Path.{_≡_}
 use mathlib.Core.List.{List, _∷_, _++_}
@@ -6,29 +6,24 @@ use Prim.Native.Nat.{ℕ, _+_, _*_, _/_, _%_, _^_, _≤_, _<_}
 use lib.Dec.{eqb, leb}
 use lib.ListN.{length}
 use Rattle.words.specs.Words.{firstBad, canonicalWords}
-use Rattle.numbers.specs.Numbers.{tapWords, IsPermittedTo, permitted, tapWordBatches, isTapLength}
+use Rattle.numbers.specs.Numbers.{tapWords, permitted, tapWordBatches, isTapLength, mostBatches, IsPermitted}
 use Rattle.refusals.specs.Refusals.{digest}
 use Rattle.refusals.specs.Answers.{unless, after, digestAfter, leaves}
 use Rattle.refusals.specs.declared.Refusal.{Refusal}
-use Rattle.refusals.specs.declared.Refusal.the-variants.{TapLength, TapWord, DestinationLength, ClaimWord}
-use Rattle.refusals.specs.declared.Refusal.the-variants.{FileLength, WrongKind, WrongValue}
+use Rattle.refusals.specs.declared.Refusal.the-variants.{TapLength, TapWord, DestinationLength, ClaimWord, FileLength}
+use Rattle.refusals.specs.declared.Refusal.the-variants.{WrongKind, WrongValue}
 use Rattle.refusals.specs.declared.Answer.{Answer}
 use Rattle.refusals.specs.declared.Answer.the-variants.{Accepted}
 use Rattle.refusals.specs.declared.DigestAnswer.{DigestAnswer}
 use Rattle.elements.specs.Words.{joined, kindOf, payloadOf, wordAt, bytesOf}
 use Rattle.elements.specs.Elements.{elementAt, IsElement}
-use Rattle.board.specs.Board.{elementCount, countIn, batchesIn}
+use Rattle.board.specs.Board.{elementCount}
 use Rattle.shortwords.specs.Short.{shortWordsOf, allBytesNeeded}
-use Rattle.shortreading.specs.Reading.{firstWord, shortsAt, shortsTest, ElementFault}
-use Rattle.shortreading.specs.Reading.{IsShortElement}
+use Rattle.shortreading.specs.Reading.{firstWord, shortsAt, shortsTest, ElementFault, IsShortElement}
 
 -- ---- the file of k batches
 
--- the most batches of a short file
-abbrev pub mostShortBatches : ℕ
-mostShortBatches = 1024
-
--- word 0 has kind 0, bit 29 set, bits 16 to 28 zero, k in bits 0 to 15
+-- word 0 has kind 0, bit 29 set, bits 20 to 28 zero, k in bits 0 to 19 (U9)
 abbrev pub shortCountWord : ℕ → ℕ
 shortCountWord k = joined 0 (2 ^ 29 + k)
 
@@ -45,7 +40,7 @@ shortFileSize taps claim = 4 + allBytesNeeded (claim ++ taps)
 -- what its tests find, which it answers; size is the destination's length
 unfoldable pub packShortTest : List ℕ → List ℕ → ℕ → Answer
 packShortTest taps claim size =
-    unless (isTapLength mostShortBatches (length taps)) TapLength
+    unless (isTapLength mostBatches (length taps)) TapLength
     (unless (eqb size (shortFileSize taps claim)) DestinationLength
     (unless (canonicalWords claim) (ClaimWord (firstBad claim))
     (unless (canonicalWords taps) (TapWord (firstBad taps))
@@ -59,15 +54,23 @@ packedShort taps claim = shortFileOf taps claim (tapWordBatches (length taps))
 unfoldable pub packShortLeaves : List ℕ → List ℕ → List ℕ → List ℕ
 packShortLeaves taps claim old = leaves (packShortTest taps claim (length old)) (packedShort taps claim) old
 
--- ---- what any bytes hold; k is where the full edition has it
+-- ---- what any bytes hold
+
+-- k, as word 0 has it
+abbrev pub shortCountIn : ℕ → ℕ
+shortCountIn w = w % 2 ^ 20
 
 -- the mark: bit 29 of word 0
 abbrev pub markIn : ℕ → ℕ
 markIn w = payloadOf w / 2 ^ 29
 
--- its spare bits, 16 to 28
+-- its spare bits, 20 to 28
 abbrev pub shortSpareIn : ℕ → ℕ
-shortSpareIn w = payloadOf w / 2 ^ 16 % 2 ^ 13
+shortSpareIn w = payloadOf w / 2 ^ 20 % 2 ^ 9
+
+-- the file's k
+unfoldable pub shortBatchesIn : List ℕ → ℕ
+shortBatchesIn file = shortCountIn (wordAt file 0)
 
 -- the claim: four elements after word 0
 unfoldable pub shortClaimIn : List ℕ → List ℕ
@@ -75,7 +78,7 @@ shortClaimIn file = shortsAt file 1 4
 
 -- the taps: the elements after the claim
 unfoldable pub shortTapsIn : List ℕ → List ℕ
-shortTapsIn file = shortsAt file (firstWord file 1 4) (tapWords (batchesIn file))
+shortTapsIn file = shortsAt file (firstWord file 1 4) (tapWords (shortBatchesIn file))
 
 -- ---- the reader: 12 (below 4), word 0's 13 then 14, 8, then element by element 12 where the input ends, 13, 14, 18,
 -- and 12 for bytes after the last
@@ -86,7 +89,7 @@ shortCountTest w =
     unless (eqb (kindOf w) 0) (WrongKind 0)
     (unless (eqb (markIn w) 1) (WrongValue 0)
     (unless (eqb (shortSpareIn w) 0) (WrongValue 0)
-    (unless (permitted mostShortBatches (countIn w)) (WrongValue 0)
+    (unless (permitted mostBatches (shortCountIn w)) (WrongValue 0)
     Accepted)))
 
 -- what reading the file finds; size is the destination's length
@@ -94,8 +97,8 @@ unfoldable pub unpackShortTest : List ℕ → ℕ → Answer
 unpackShortTest file size =
     unless (leb 4 (length file)) FileLength
     (after (shortCountTest (wordAt file 0))
-    (unless (eqb size (tapWords (batchesIn file))) DestinationLength
-    (shortsTest file 1 (elementCount (batchesIn file)))))
+    (unless (eqb size (tapWords (shortBatchesIn file))) DestinationLength
+    (shortsTest file 1 (elementCount (shortBatchesIn file)))))
 
 -- the claim is returned
 unfoldable pub unpackShortAnswer : List ℕ → ℕ → DigestAnswer
@@ -107,7 +110,7 @@ unpackShortLeaves file old = leaves (unpackShortTest file (length old)) (shortTa
 
 -- ---- what acceptance says: the bytes are a short file of k batches
 pub record IsShortBoard (file : List ℕ) (k : ℕ) : Type 0 where
-  pub permitted : IsPermittedTo mostShortBatches k
+  pub permitted : IsPermitted k
   pub four : 4 ≤ length file
   pub word : wordAt file 0 ≡ shortCountWord k
   pub elements : (i : ℕ) → i < elementCount k → IsShortElement file (firstWord file 1 i)
@@ -118,7 +121,7 @@ pub record IsShortBoard (file : List ℕ) (k : ℕ) : Type 0 where
 -- word 0 is there and accepted, and the destination has room for the taps of k batches
 pub record ReadsOn (file : List ℕ) (size k : ℕ) : Type 0 where
   pub four : 4 ≤ length file
-  pub permitted : IsPermittedTo mostShortBatches k
+  pub permitted : IsPermitted k
   pub word : wordAt file 0 ≡ shortCountWord k
   pub room : size ≡ tapWords k
 
@@ -146,10 +149,10 @@ pub data FirstFault (file : List ℕ) (size : ℕ) (r : Refusal) : Type 0 where
   count-kind : 4 ≤ length file → (kindOf (wordAt file 0) ≡ 0 → ⊥) → r ≡ WrongKind 0 → FirstFault file size r
   -- or is not the mark beside a permitted k
   count-value : 4 ≤ length file → kindOf (wordAt file 0) ≡ 0
-      → ((k : ℕ) → IsPermittedTo mostShortBatches k → wordAt file 0 ≡ shortCountWord k → ⊥) → r ≡ WrongValue 0
+      → ((k : ℕ) → IsPermitted k → wordAt file 0 ≡ shortCountWord k → ⊥) → r ≡ WrongValue 0
       → FirstFault file size r
   -- no room for the taps
-  no-room : 4 ≤ length file → (k : ℕ) → IsPermittedTo mostShortBatches k → wordAt file 0 ≡ shortCountWord k
+  no-room : 4 ≤ length file → (k : ℕ) → IsPermitted k → wordAt file 0 ≡ shortCountWord k
       → (size ≡ tapWords k → ⊥) → r ≡ DestinationLength → FirstFault file size r
   -- the fault of element i, those before it being accepted
   element : (k i : ℕ) → ReadsOn file size k → i < elementCount k → ShortTo file i

@@ -1,22 +1,26 @@
-// The short edition's writer and reader (document 02, U7). Neither hashes.
+// The short edition's writer and reader (document 02, U7 and U9). Neither hashes.
 ghost use mathlib.Core.Path.{_≡_};
 ghost use Prim.Native.Nat.{_≤_};
 ghost use lib.ListN.{length};
-ghost use Rattle.shortboard.specs.ShortBoard.{mostShortBatches, shortCountWord, shortFileOf, shortFileSize};
+ghost use Rattle.numbers.specs.Numbers.{mostBatches};
+ghost use Rattle.shortboard.specs.ShortBoard.{shortCountWord, shortFileOf, shortFileSize, shortCountIn};
 ghost use Rattle.shortboard.specs.ShortBoard.{packShortTest, packShortLeaves, shortCountTest, unpackShortTest};
 ghost use Rattle.shortboard.specs.ShortBoard.{unpackShortAnswer, unpackShortLeaves};
 use board::EXTRA_ELEMENTS;
 use elements::Word;
 use numbers::BATCH_TAP_WORDS;
 use numbers::BatchCount;
+use numbers::MOST_BATCHES;
 use numbers::TAP_WORDS;
 use refusals::Answer;
 use refusals::Digest;
 use refusals::DigestAnswer;
 use refusals::Refusal;
 
-// The most batches of a short file.
-pub const MOST_BATCHES: usize = 1024;
+// The bits of word 0 that hold k.
+const COUNT_BITS: u32 = 20;
+
+const COUNT_MASK: u32 = (1 << COUNT_BITS) - 1;
 
 // Bit 29 of word 0.
 const MARK: u32 = 1 << 29;
@@ -28,23 +32,24 @@ fn test_pack(taps: &[u64], claim: [u64; 4], size: usize) -> Answer
     let BatchCount::Permitted(_) = numbers::tap_batches(MOST_BATCHES, taps.len()) else {
         return Answer::Refused(Refusal::TapLength);
     };
-    if size != 4 + shortwords::size(&claim) + shortwords::size(taps) {
+    let of_claim = shortwords::measure(&claim);
+    let of_taps = shortwords::measure(taps);
+    if size != 4 + of_claim.bytes + of_taps.bytes {
         return Answer::Refused(Refusal::DestinationLength);
     }
     let bad_claim = words::first_bad(&claim);
     if bad_claim != 4 {
         return Answer::Refused(Refusal::ClaimWord(bad_claim));
     }
-    let bad_tap = words::first_bad(taps);
-    if bad_tap != taps.len() {
-        return Answer::Refused(Refusal::TapWord(bad_tap));
+    if of_taps.bad != 0 {
+        return Answer::Refused(Refusal::TapWord(words::first_bad(taps)));
     }
     Answer::Accepted
 }
 
 // Word 0: the mark beside k.
 pub fn count_word(k: usize) -> Word
-    requires { ⌜ k ≤ mostShortBatches ⌝ }
+    requires { ⌜ k ≤ mostBatches ⌝ }
     ensures { λ r. ⌜ r .0 ≡ shortCountWord k ⌝ }
 {
     Word::join(0, MARK | (k as u32))
@@ -52,7 +57,7 @@ pub fn count_word(k: usize) -> Word
 
 // Word 0, then claim and taps.
 fn write_file(taps: &[u64], claim: [u64; 4], k: usize, destination: &mut [u8])
-    requires { ⌜ (k ≤ mostShortBatches) × (length (now destination) ≡ shortFileSize (now taps) claim) ⌝ }
+    requires { ⌜ (k ≤ mostBatches) × (length (now destination) ≡ shortFileSize (now taps) claim) ⌝ }
     ensures { λ _. ⌜ now (destination .exit) ≡ shortFileOf (now (taps .entry)) claim k ⌝ }
 {
     count_word(k).write(0, destination);
@@ -74,17 +79,24 @@ pub fn pack_short(taps: &[u64], claim: [u64; 4], destination: &mut [u8]) -> Answ
     Answer::Accepted
 }
 
-// What reading word 0 finds: 13, then 14. Bits 16 to 29 are the mark alone.
+// k, in bits 0 to 19 of word 0.
+pub fn count_in(word: Word) -> usize
+    ensures { λ r. ⌜ r ≡ shortCountIn (word .0) ⌝ }
+{
+    (word.0 & COUNT_MASK) as usize
+}
+
+// What reading word 0 finds: 13, then 14. Bits 20 to 29 are the mark alone.
 pub fn test_count(word: Word) -> Answer
     ensures { λ r. ⌜ r ≡ shortCountTest (word .0) ⌝ }
 {
     if word.kind() != 0 {
         return Answer::Refused(Refusal::WrongKind(0));
     }
-    if word.payload() >> 16 != MARK >> 16 {
+    if word.payload() >> COUNT_BITS != MARK >> COUNT_BITS {
         return Answer::Refused(Refusal::WrongValue(0));
     }
-    if numbers::is_permitted(MOST_BATCHES, board::count_in(word)) {
+    if numbers::is_permitted(MOST_BATCHES, count_in(word)) {
         Answer::Accepted
     } else {
         Answer::Refused(Refusal::WrongValue(0))
@@ -104,7 +116,7 @@ fn test_unpack(file: &[u8], size: usize) -> Answer
     let Answer::Accepted = of_count else {
         return of_count;
     };
-    let k = board::count_in(word);
+    let k = count_in(word);
     if size != BATCH_TAP_WORDS * k + TAP_WORDS {
         return Answer::Refused(Refusal::DestinationLength);
     }

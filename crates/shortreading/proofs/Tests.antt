@@ -245,7 +245,21 @@ next-most file j = go (eqb (kindOf (wordAt file j)) 3)
     go true = omega arith
     go false = omega arith
 
+pub next-least : (file : List ℕ) (j : ℕ) → j < nextWord file j
+unfolding nextWord
+next-least file j = go (eqb (kindOf (wordAt file j)) 3)
+  where
+    go : (b : Bool) → j < choose b (j + 1) (j + 3)
+    go true = omega arith
+    go false = omega arith
+
 -- ---- element after element
+
+-- none begins before the first
+pub first-least : (file : List ℕ) (j i : ℕ) → j ≤ firstWord file j i
+unfolding firstWord
+first-least file j zero = omega arith
+first-least file j (suc i) = omega (arith, next-least file j, first-least file (nextWord file j) i)
 
 -- the first word of the next element, and of those after the first n
 pub first-next : (file : List ℕ) (j i : ℕ) → firstWord file j (i + 1) ≡ nextWord file (firstWord file j i)

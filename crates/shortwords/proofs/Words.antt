@@ -1,24 +1,35 @@
 -- The words of elements in the short edition: one or three, how many bytes they need, and the stores that write them.
 -- Assumes nothing.
 use mathlib.Core.Path.{_≡_, refl, sym, ap, ap₂, _∙_}
-use mathlib.Core.Bool.{true, false}
+use mathlib.Core.Bool.{Bool, true, false}
 use mathlib.Core.List.{List, [], _∷_, _++_}
 use Prim.Native.Nat.{ℕ, zero, suc, _+_, _*_, _/_, _%_, _^_, _≤_, _<_}
-use native.Mathlib.Decide.{decLt}
+use native.Mathlib.Decide.{ℕ-discrete, decLe, decLt}
 use native.Mathlib.Nat.{mod-eq-of-lt}
 use native.Mathlib.Numerals.{add-one}
 use native.Mathlib.Omega.{arith}
-use borrow.Author.Tests.{lt-ltb, le-ltb}
+use borrow.Author.Tests.{eq-eqb, ne-eqb, le-leb, lt-leb, lt-ltb, le-ltb}
+use lib.Dec.{eqb, leb}
 use lib.ListN.{length, length-append, take, drop, take-append-drop}
 use lib.Seq.{sets, take-length}
 use Rattle.lists.specs.Lists.{choose, cell, each, sum}
 use Rattle.lists.proofs.Each.{each-append, each-next}
-use Rattle.lists.proofs.Sum.{sum-zero, sum-suc}
+use Rattle.lists.proofs.Sum.{sum-zero, sum-suc, all-0}
+use Rattle.field.specs.Field.{P}
+use Rattle.words.specs.Words.{canonicalWords}
+use Rattle.words.proofs.Laws.{test-good, good-test}
 use Rattle.elements.specs.Words.{joined, bytesOf}
 use Rattle.elements.specs.Elements.{elementWords}
 use Rattle.elements.specs.ElementHelpers.{upperWords}
 use Rattle.elements.proofs.Laws.{write-on}
 use Rattle.shortwords.specs.Short.{isSmall, shortWords, shortWordsOf, bytesNeeded, allBytesNeeded}
+
+-- 1 for an element that one word does not hold, and for one that is not canonical; else 0
+abbrev pub isThree : ℕ → ℕ
+isThree x = choose (isSmall x) 0 1
+
+abbrev pub isBad : ℕ → ℕ
+isBad x = choose (leb P x) 1 0
 
 -- ---- one element: below 2^30, or not
 pub one-word : (x : ℕ) → x < 2 ^ 30 → shortWords x ≡ joined 3 x ∷ []
@@ -134,12 +145,13 @@ threes-count xs (suc i) =
       threes-count xs i,
     )
 
-pub threes-next : (xs : List ℕ) (i threes r : ℕ) → threes ≡ sum i (λ n. choose (isSmall (cell xs n)) 0 1)
-    → r ≡ choose (isSmall (cell xs i)) 0 1 → threes + r ≡ sum (i + 1) (λ n. choose (isSmall (cell xs n)) 0 1)
-threes-next xs i threes r p q =
+-- one element more is counted, by a measure of it
+pub count-next : (f : ℕ → ℕ) (xs : List ℕ) (i n r : ℕ) → n ≡ sum i (λ m. f (cell xs m)) → r ≡ f (cell xs i)
+    → n + r ≡ sum (i + 1) (λ m. f (cell xs m))
+count-next f xs i n r p q =
     ap₂ (λ a b. a + b) p q
-    ∙ sym (sum-suc i (λ n. choose (isSmall (cell xs n)) 0 1))
-    ∙ ap (λ m. sum m (λ n. choose (isSmall (cell xs n)) 0 1)) (sym (add-one i))
+    ∙ sym (sum-suc i (λ m. f (cell xs m)))
+    ∙ ap (λ k. sum k (λ m. f (cell xs m))) (sym (add-one i))
 
 pub threes-all : (xs : List ℕ) (i threes : ℕ) → i ≡ length xs → threes ≡ sum i (λ n. choose (isSmall (cell xs n)) 0 1)
     → 4 * length xs + 8 * threes ≡ allBytesNeeded xs
@@ -147,6 +159,68 @@ unfolding allBytesNeeded
 threes-all xs i threes e p =
     let q : threes ≡ sum (length xs) (λ n. choose (isSmall (cell xs n)) 0 1) = rw e at p in
     ap (λ n. 4 * length xs + 8 * n) q ∙ sym (threes-count xs (length xs))
+
+-- ---- the elements that are not canonical
+
+-- half of the word, rounded up, carries from half of p on
+pub carried-bad : (x : ℕ) → x < 2 ^ 64 → (x / 2 + x % 2 + 8070450489298255871) / 2 ^ 63 ≡ isBad x
+carried-bad x fits = go (decLe P x)
+  where
+    go : Dec (P ≤ x) → (x / 2 + x % 2 + 8070450489298255871) / 2 ^ 63 ≡ isBad x
+    go (yes h) = rw (le-leb _ _ h) (omega arith)
+    go (no h) = rw (lt-leb P x (omega (arith, h))) (omega (arith, h))
+
+pub one-bad : (x r : ℕ) → r ≡ isBad x → r ≤ 1
+one-bad x r e = go (leb P x) e
+  where
+    go : (b : Bool) → r ≡ choose b 1 0 → r ≤ 1
+    go true q = omega (arith, q)
+    go false q = omega (arith, q)
+
+-- none is counted exactly where all words are canonical
+bad-canonical : (x : ℕ) → isBad x ≡ 0 → x < P
+bad-canonical x e = go (decLe P x)
+  where
+    go : Dec (P ≤ x) → x < P
+    go (no h) = omega (arith, h)
+    go (yes h) = absurd (let z : _≡_ {A = ℕ} 1 0 = rw (le-leb P x h) at e in omega (arith, z))
+
+canonical-bad : (x : ℕ) → x < P → isBad x ≡ 0
+canonical-bad x h = rw (lt-leb P x h)
+
+each-0 : (f : ℕ → ℕ) (n : ℕ) → sum n f ≡ 0 → (i : ℕ) → i < n → f i ≡ 0
+each-0 f zero e i h = absurd (omega arith)
+each-0 f (suc n) e i h = go (λ z l. each-0 f n z i l) (ℕ-discrete i n)
+  where
+    parts : sum n f + f n ≡ 0
+    parts = sym (sum-suc n f) ∙ e
+
+    go : (sum n f ≡ 0 → i < n → f i ≡ 0) → Dec (i ≡ n) → f i ≡ 0
+    go before (yes q) = ap f q ∙ omega (arith, parts)
+    go before (no q) = before (omega (arith, parts)) (omega arith)
+
+pub bad-all : (xs : List ℕ) (i bad : ℕ) → i ≡ length xs → bad ≡ sum i (λ n. isBad (cell xs n))
+    → eqb bad 0 ≡ canonicalWords xs
+bad-all xs i bad e p = go (ℕ-discrete bad 0)
+  where
+    f : ℕ → ℕ
+    f n = isBad (cell xs n)
+
+    whole : bad ≡ sum (length xs) f
+    whole = p ∙ ap (λ n. sum n f) e
+
+    none : canonicalWords xs ≡ true → bad ≡ 0
+    none c = whole ∙ all-0 (length xs) f (λ n h. canonical-bad (cell xs n) (good-test xs c n h))
+
+    some : (bad ≡ 0 → ⊥) → (b : Bool) → canonicalWords xs ≡ b → canonicalWords xs ≡ false
+    some n true c = absurd (n (none c))
+    some n false c = c
+
+    go : Dec (bad ≡ 0) → eqb bad 0 ≡ canonicalWords xs
+    go (yes z) =
+        let good = test-good xs (λ n h. bad-canonical (cell xs n) (each-0 f (length xs) (sym whole ∙ z) n h)) in
+        eq-eqb bad 0 z ∙ sym good
+    go (no n) = ne-eqb bad 0 n ∙ sym (some n (canonicalWords xs) refl)
 
 -- and their words are as long
 needed-to : (xs : List ℕ) (i : ℕ) → i ≤ length xs

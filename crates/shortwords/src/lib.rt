@@ -3,9 +3,12 @@
 ghost use mathlib.Core.Path.{_≡_};
 ghost use mathlib.Core.List.{[]};
 ghost use Prim.Native.Nat.{_+_, _*_, _^_, _≤_, _<_};
+ghost use lib.Dec.{eqb, leb};
 ghost use lib.ListN.{length};
 ghost use lib.Seq.{sets};
 ghost use Rattle.lists.specs.Lists.{choose};
+ghost use Rattle.field.specs.Field.{P};
+ghost use Rattle.words.specs.Words.{canonicalWords};
 ghost use Rattle.elements.specs.Words.{bytesOf};
 ghost use Rattle.elements.specs.ElementHelpers.{upperWords};
 ghost use Rattle.shortwords.specs.Short.{isSmall, shortWords, shortWordsOf, allBytesNeeded};
@@ -34,16 +37,39 @@ pub fn takes_three(element: u64) -> u64
     ((element >> Word::PAYLOAD_BITS) + MOST_UPPER) >> UPPER_BITS
 }
 
-// The bytes that the elements need: 4 each, and 8 more for each that one word does not hold.
-pub fn size(elements: &[u64]) -> usize
+// What half of p, rounded up, lacks to 2^63.
+const ABOVE_HALF: u64 = (1 << 63) - (field::P / 2 + 1);
+
+// 1 where the word is not canonical, else 0: half of it, rounded up, then carries.
+fn not_canonical(word: u64) -> u64
+    ensures { λ r. ⌜ r ≡ choose (leb P word) 1 0 ⌝ }
+{
+    ((word >> 1) + word % 2 + ABOVE_HALF) >> 63
+}
+
+// What is measured of elements: the bytes that they need, and how many are not canonical.
+pub struct Measured {
+    pub bytes: usize,
+    pub bad: u64,
+}
+
+// The bytes are 4 for each element, and 8 more for each that one word does not hold. Both are found in one pass, since
+// a long list comes from memory.
+pub fn measure(elements: &[u64]) -> Measured
     requires { ⌜ 12 * length (now elements) < 2 ^ 64 ⌝ }
-    ensures { λ r. ⌜ r ≡ allBytesNeeded (now (elements .entry)) ⌝ }
+    ensures { λ r. ⌜ (r .bytes ≡ allBytesNeeded (now (elements .entry)))
+        × (eqb (r .bad) 0 ≡ canonicalWords (now (elements .entry))) ⌝ }
 {
     let mut threes: u64 = 0;
+    let mut bad: u64 = 0;
     for i in 0..elements.len() {
         threes += takes_three(elements[i]);
+        bad += not_canonical(elements[i]);
     }
-    4 * elements.len() + 8 * (threes as usize)
+    Measured {
+        bytes: 4 * elements.len() + 8 * (threes as usize),
+        bad,
+    }
 }
 
 // Where one word does not hold the element, its first two become the words from `index` on. Answers the word that its

@@ -10,8 +10,7 @@ ghost use Rattle.table.specs.Table.{IsTable, initialConstant, firstStepConstant
 ghost use Rattle.hash.specs.Hash.{secondStep};
 ghost use Rattle.constraints.specs.Constraints.{minus, backStep};
 ghost use Rattle.steps.specs.StepHelpers.{montgomeryCube, forwardReady, backReady, columns};
-use field::Fp;
-use field::montgomery;
+use fp::Fp;
 use mixing::READY_WORDS;
 use numbers::WIDTH;
 

@@ -10,8 +10,7 @@ ghost use Rattle.words.specs.Words.{CanonicalTo};
 ghost use Rattle.numbers.specs.Numbers.{width};
 ghost use Rattle.sums.specs.Sums.{weight};
 ghost use Rattle.sums.specs.TermHelpers.{Term, Loose};
-use field::Fp;
-use field::montgomery;
+use fp::Fp;
 use numbers::WIDTH;
 
 // 2^31, at which a factor below p is split into digits.

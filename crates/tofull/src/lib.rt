@@ -1,5 +1,5 @@
-// From the short edition of the board file to the full one (document 02, U8): one pass over the elements tests them,
-// and one writes the output, whose length k says. There is no list of taps in between.
+// From the short edition of the board file to the full one (document 02, U8 and U9): one pass over the elements tests
+// them, and one writes the output, whose length k says. There is no list of taps in between.
 ghost use mathlib.Core.Path.{_≡_};
 ghost use Prim.Native.Nat.{ℕ, _+_, _*_, _≤_, _<_};
 ghost use lib.ListN.{length};
@@ -7,9 +7,9 @@ ghost use lib.Seq.{sets};
 ghost use Rattle.refusals.specs.declared.Answer.the-variants as answer;
 ghost use Rattle.elements.specs.Words.{bytesOf};
 ghost use Rattle.elements.specs.Elements.{wordsOf};
-ghost use Rattle.board.specs.Board.{fileSize, batchesIn, packed};
+ghost use Rattle.board.specs.Board.{mostFileBatches, fileSize, packed};
 ghost use Rattle.shortreading.specs.Reading.{shortTest, firstWord, shortsAt};
-ghost use Rattle.shortboard.specs.ShortBoard.{shortClaimIn, shortTapsIn, IsShortBoard};
+ghost use Rattle.shortboard.specs.ShortBoard.{shortBatchesIn, shortClaimIn, shortTapsIn, IsShortBoard};
 ghost use Rattle.tofull.specs.ToFull.{toFullTest, toFullLeaves};
 use board::BATCH_BYTES;
 use board::EXTRA_BYTES;
@@ -19,8 +19,8 @@ use numbers::BATCH_TAP_WORDS;
 use refusals::Answer;
 use refusals::Refusal;
 
-// What is tested: 12 (below 4), word 0's 13, 19, 14, then element by element 12 where the input ends, 13, 14, 18, and
-// 12 for bytes after the last, and last 8.
+// What is tested: 12 (below 4), word 0's 13, 19, 14, right after it 14 for more batches than a full file has, then
+// element by element 12 where the input ends, 13, 14, 18, and 12 for bytes after the last, and last 8.
 fn test(file: &[u8], size: usize) -> Answer
     ensures { λ r. ⌜ r ≡ toFullTest (now (file .entry)) size ⌝ }
 {
@@ -33,7 +33,10 @@ fn test(file: &[u8], size: usize) -> Answer
     let Answer::Accepted = of_count else {
         return of_count;
     };
-    let k = board::count_in(word);
+    let k = shortboard::count_in(word);
+    if board::MOST_FILE_BATCHES < k {
+        return Answer::Refused(Refusal::WrongValue(0));
+    }
     let of_elements = shortreading::test_all(file, 1, BATCH_TAP_WORDS * k + EXTRA_ELEMENTS);
     let Answer::Accepted = of_elements else {
         return of_elements;
@@ -61,12 +64,12 @@ fn write_elements(file: &[u8], count: usize, destination: &mut [u8])
 
 // The full file of a short one.
 fn write(file: &[u8], destination: &mut [u8])
-    requires { ⌜ IsShortBoard (now file) (batchesIn (now file))
-        × (length (now destination) ≡ fileSize (batchesIn (now file))) ⌝ }
+    requires { ⌜ IsShortBoard (now file) (shortBatchesIn (now file)) × (shortBatchesIn (now file) ≤ mostFileBatches)
+        × (length (now destination) ≡ fileSize (shortBatchesIn (now file))) ⌝ }
     ensures { λ _. ⌜ now (destination .exit)
         ≡ packed (shortTapsIn (now (file .entry))) (shortClaimIn (now (file .entry))) ⌝ }
 {
-    let k = board::count_in(Word::read(file, 0));
+    let k = shortboard::count_in(Word::read(file, 0));
     board::count_word(k).write(0, destination);
     write_elements(file, BATCH_TAP_WORDS * k + EXTRA_ELEMENTS, destination);
 }

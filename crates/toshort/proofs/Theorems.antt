@@ -7,14 +7,14 @@ use Prim.Native.Nat.{ℕ}
 use native.Mathlib.Omega.{arith}
 use lib.ListN.{length}
 use Rattle.words.proofs.Laws.{test-good}
-use Rattle.numbers.specs.Numbers.{tapWords}
-use Rattle.numbers.proofs.Laws.{tap-length-complete}
+use Rattle.numbers.specs.Numbers.{tapWords, mostBatches}
+use Rattle.numbers.proofs.Laws.{permitted-to, tap-length-complete}
 use Rattle.refusals.specs.Answers.{after, leaves}
 use Rattle.refusals.specs.declared.Answer.the-variants.{Accepted}
 use Rattle.board.specs.Board.{batchesIn, claimIn, tapsIn, unpackTest, IsBoard}
 use Rattle.board.proofs.Answers.{unpack-accepted}
 use Rattle.board.proofs.Round.{board-canonical, taps-length}
-use Rattle.shortboard.specs.ShortBoard.{mostShortBatches, packShortTest, packedShort, packShortLeaves}
+use Rattle.shortboard.specs.ShortBoard.{packShortTest, packedShort, packShortLeaves}
 use Rattle.editions.specs.Edition.{fullMark, HasMark}
 use Rattle.editions.proofs.Answers as edition
 use Rattle.toshort.specs.ToShort.{toShortTest, toShortLeaves}
@@ -43,9 +43,9 @@ module _ (file : List ℕ) (n : ℕ) (e : unpackTest file n ≡ Accepted) where
   writer-left size =
       let h = unpack-accepted file n e .0 in
       let canonical = board-canonical file h in
-      let list = tapsIn file in
-      let taps =
-      tap-length-complete mostShortBatches (length list) (batchesIn file) (taps-length file) (h .permitted) in
+      let k = batchesIn file in
+      let p = permitted-to mostBatches k (h .permitted) (omega (arith, h .permitted .high)) in
+      let taps = tap-length-complete mostBatches (length (tapsIn file)) k (taps-length file) p in
       rw (taps .0, test-good (claimIn file) (canonical .0), test-good (tapsIn file) (canonical .1))
 
   pub as-writer : (size : ℕ) → toShortTest file size ≡ packShortTest (tapsIn file) (claimIn file) size

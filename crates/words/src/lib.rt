@@ -1,7 +1,7 @@
 // The test that every lent word is canonical.
 ghost use mathlib.Core.Path.{_≡_};
 ghost use Rattle.words.specs.Words.{firstBad};
-use field::Fp;
+use fp::Fp;
 
 // The lowest index of a word that is not canonical, or the length where all are.
 pub fn first_bad(s: &[u64]) -> usize

@@ -109,16 +109,20 @@ impl Days {
     }
 }
 
-/// The days of k batches, a row of a table each; of elements in turn, those that begin
-/// with a small one.
-fn all_days(random: &mut Random, k: usize) -> [Days; 4] {
-    let [small, large, alternating, _, _] = widths(random, k);
-    let alike = [
+/// The elements of k batches whose widths follow a pattern, and its name; in turn, those
+/// that begin with a small one.
+pub fn patterns(random: &mut Random, k: usize) -> [(&'static str, Vec<u64>); 3] {
+    let [(_, small), (_, large), (_, alternating), _, _] = widths(random, k);
+    [
         ("all small", small),
         ("all large", large),
         ("alternating", alternating),
-    ];
-    let [small, large, alternating] = alike.map(|(name, (_, elements))| Days {
+    ]
+}
+
+/// The days of k batches, a row of a table each.
+fn all_days(random: &mut Random, k: usize) -> [Days; 4] {
+    let [small, large, alternating] = patterns(random, k).map(|(name, elements)| Days {
         name,
         k,
         days: vec![Day::new(k, &elements)],

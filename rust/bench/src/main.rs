@@ -8,8 +8,14 @@
 //! its goal, in the list of `operations` or in `field`; one that alters what is
 //! lent to it, as Edit does, in `edits`. Unhash, whose goal goes by Hash, is in
 //! `unhash`, claims that end before the rows do in `claims`, the short edition of the
-//! board file, whose goals go by the full one, in `short`, and the converters between the
-//! two, whose goals go by unpacking and packing, in `converters`.
+//! board file, whose goals go by the full one, in `short`, the converters between the
+//! two, whose goals go by unpacking and packing, in `converters`, and all of them at the
+//! largest k, whose goals go by k = 1024, in `season`.
+//!
+//!     cargo run --release --offline -p bench season
+//!
+//! prints the table of `season` alone, in a minute: each operation on a trace runs once
+//! at the largest k, and too short at k = 1024 for times that can be compared well.
 //!
 //! The implementations take turns, many times over, and the shortest time of
 //! each counts, in the thread's own time: what else the machine does lengthens
@@ -21,15 +27,32 @@ mod editions;
 mod edits;
 mod field;
 mod operations;
+mod season;
 mod short;
+mod stack;
 mod timing;
 mod unhash;
 
 use editions::Editions;
 use operations::Day;
+use season::Runs;
+use std::process::ExitCode;
 use timing::Table;
 
-fn main() {
+fn main() -> ExitCode {
+    let arguments: Vec<String> = std::env::args().skip(1).collect();
+    match arguments.iter().map(String::as_str).collect::<Vec<_>>()[..] {
+        [] => all_tables(),
+        ["season"] => season::measure(Runs::Once).print(),
+        _ => {
+            eprintln!("usage: bench [season]");
+            return ExitCode::from(2);
+        }
+    }
+    ExitCode::SUCCESS
+}
+
+fn all_tables() {
     let mut table = Table::new();
     field::measure(&mut table);
     let days = [1, 64, 1024].map(Day::new);
@@ -40,6 +63,7 @@ fn main() {
     let editions = Editions::new();
     let short = short::measure(&editions);
     let converters = converters::measure(&editions);
+    let season = season::measure(Runs::Long);
     table.print();
     let growth: Vec<String> = growth
         .iter()
@@ -56,4 +80,6 @@ fn main() {
     short.print();
     println!();
     converters.print();
+    println!();
+    season.print();
 }

@@ -16,7 +16,8 @@ extern "C" {
     fn clock_gettime(clock: i32, time: *mut Timespec) -> i32;
 }
 
-fn now() -> Duration {
+/// The thread's own time.
+pub fn now() -> Duration {
     let mut time = Timespec {
         seconds: 0,
         nanoseconds: 0,

@@ -2,9 +2,25 @@
 //! it. Claim and taps are one list of elements here, the claim first.
 
 use inputs::files::{bytes, element_words, widths, Edition, KIND};
+use inputs::taps::PERMITTED;
 use inputs::Random;
 use second::field::P;
 use second::Refusal;
+
+/// The k in word 0 of a short file, where it has one.
+pub fn k_of_short(file: &[u8]) -> Option<usize> {
+    let word = u32::from_le_bytes(*file.first_chunk()?);
+    let is_word_0 = |&k: &usize| Edition::Short.word_0(k) == word;
+    PERMITTED.into_iter().find(is_word_0)
+}
+
+/// Words 0 to be tried: each value of either half, beside the other half of the file of
+/// one batch, and the upper half also alone.
+pub fn words_0(edition: Edition) -> impl Iterator<Item = u32> {
+    let halves = 0..1 << 16;
+    let lower = halves.clone().map(move |half| edition.mark() + half);
+    lower.chain(halves.flat_map(|half| [half << 16, (half << 16) + 1]))
+}
 
 /// A file, its elements, and the first word of each, with where the next one would begin.
 pub struct Day {

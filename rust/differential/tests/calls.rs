@@ -7,6 +7,7 @@
 use differential::{bytes, holding, named, words, Lent};
 use inputs::files::{
     damage_word_0, element_words, not_an_element, short_words_of, widths, Damaged, Edition, KIND,
+    LARGER,
 };
 use inputs::pairs::end_of;
 use inputs::tables::{dense, first_unlike_identity};
@@ -977,11 +978,12 @@ fn to_short_with_faults_together() {
     }
 }
 
-/// The same of nine: a short file can have three words for a small element.
+/// The same of ten: a short file can have three words for a small element, and more
+/// batches than any full one (document 02, U9).
 #[test]
 fn to_full_with_faults_together() {
     for seed in seeds("calls, to_full with faults together") {
-        converters_faults_together(seed, Edition::Short, 9);
+        converters_faults_together(seed, Edition::Short, 10);
     }
 }
 
@@ -990,7 +992,7 @@ fn converters_faults_together(seed: u64, from: Edition, count: usize) {
     for k in [1, 2, 4] {
         for (name, elements) in widths(&mut random, k) {
             for choice in 0..1 << count {
-                let faults: [bool; 9] = std::array::from_fn(|fault| choice >> fault & 1 == 1);
+                let faults: [bool; 10] = std::array::from_fn(|fault| choice >> fault & 1 == 1);
                 let about = format!("seed {seed}: k = {k}, {name}, {faults:?}");
                 converts_or_refuses(&about, &mut random, from, &elements, faults);
             }
@@ -999,19 +1001,23 @@ fn converters_faults_together(seed: u64, from: Edition, count: usize) {
 }
 
 /// The file of these elements with some of the faults: below 4 bytes, kind, mark and value
-/// of word 0, its end; kinds, values and widths of elements, room. The end of a full file
-/// is looked at before the elements, that of a short one after them.
+/// of word 0, its end; kinds, values and widths of elements, room; more batches than a full
+/// file has. The end of a full file is looked at before the elements, that of a short one
+/// after them.
 fn converts_or_refuses(
     about: &str,
     random: &mut Random,
     from: Edition,
     honest: &[u64],
-    [below_4, kind, mark, value, end, wrong_kind, no_element, room, long]: [bool; 9],
+    [below_4, kind, mark, value, end, wrong_kind, no_element, room, long, larger]: [bool; 10],
 ) {
     let faults = [wrong_kind, no_element, long];
     let (elements, of_element) = elements_with(random, from, honest, faults);
     let faults = [below_4, kind, mark, value, end];
-    let word_0 = from.word_0(honest.len() / 12);
+    let word_0 = match larger {
+        true => from.word_0(random.pick(&LARGER)),
+        false => from.word_0(honest.len() / 12),
+    };
     let file = file_with(random, word_0, &elements, faults);
     let of_end = end.then_some(Refusal::FileLength);
     let of_elements = match from {
@@ -1022,7 +1028,7 @@ fn converts_or_refuses(
         below_4.then_some(Refusal::FileLength),
         kind.then_some(Refusal::Kind { word: 0 }),
         mark.then_some(Refusal::SameEdition),
-        value.then_some(Refusal::Value { word: 0 }),
+        (value || larger).then_some(Refusal::Value { word: 0 }),
         of_elements[0],
         of_elements[1],
         room.then_some(Refusal::DestinationLength),

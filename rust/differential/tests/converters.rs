@@ -1,15 +1,16 @@
-//! The converters between the two editions of the board file (document 02, U8): days of
-//! every k and width there and back, then files with everything wrong in turn, and bytes
-//! at random, each lent to both converters. The answer is that of the input's reader, but
-//! for 19 and for 8, which comes last; whatever is accepted has the same claim and taps in
-//! the other edition, and converts back to the starting bytes. A converter is named here
-//! by the edition it starts from.
+//! The converters between the two editions of the board file (document 02, U8 and U9):
+//! days of every k of the full edition and every width there and back, then files with
+//! everything wrong in turn, larger ones, and bytes at random, each lent to both
+//! converters. The answer is that of the input's reader, but for 19, for the 14 of a short
+//! file that has no full form, and for 8, which comes last; whatever is accepted has the
+//! same claim and taps in the other edition, and converts back to the starting bytes. A
+//! converter is named here by the edition it starts from.
 
-use differential::files::{any_file, days, tails, Day, ENDS};
+use differential::files::{any_file, days, k_of_short, tails, words_0, Day, ENDS};
 use differential::{bytes, named, same_verdict, seeds, words};
-use inputs::files::{any_widths, element_words, Edition, KIND, MARK, PERMITTED};
+use inputs::files::{any_widths, element_words, is_larger, Edition, IN_FULL, KIND, LARGER, MARK};
 use inputs::*;
-use lemoncolumn::{batches, short_batches, tap_words};
+use lemoncolumn::{batches, file_bytes, tap_words};
 use second::field::P;
 use second::Refusal;
 use std::collections::BTreeMap;
@@ -45,7 +46,7 @@ fn convert_into(
 fn read(edition: Edition, file: &[u8]) -> Result<Vec<u64>, Refusal> {
     let k = match edition {
         Edition::Full => batches(file.len()),
-        Edition::Short => short_batches(file),
+        Edition::Short => k_of_short(file),
     };
     let mut taps = words(k.map_or(0, tap_words));
     let claim = match edition {
@@ -62,6 +63,7 @@ fn read(edition: Edition, file: &[u8]) -> Result<Vec<u64>, Refusal> {
 fn convert(from: Edition, file: &[u8], about: &str) -> Result<Vec<u8>, Refusal> {
     let wanted = from.other();
     let expected = match read(from, file) {
+        _ if from == Edition::Short && is_larger(file) => Err(Refusal::Value { word: 0 }),
         Ok(elements) => Ok(wanted.file(&elements)),
         Err(Refusal::Value { word: 0 }) if wanted.is_marked(file) => Err(Refusal::SameEdition),
         Err(refusal) => Err(refusal),
@@ -107,7 +109,7 @@ fn both(seed: u64, ks: &[usize]) -> impl Iterator<Item = Day> + '_ {
 #[test]
 fn there_and_back() {
     for seed in seeds("converters, there and back") {
-        for day in both(seed, &PERMITTED) {
+        for day in both(seed, &IN_FULL) {
             let about = &day.name;
             let (file, wanted) = (day.file(), day.edition.other());
             let converted = wanted.file(&day.elements);
@@ -126,7 +128,7 @@ fn there_and_back() {
 #[test]
 fn other_destinations() {
     for seed in seeds("converters, other destinations") {
-        for day in both(seed, &PERMITTED) {
+        for day in both(seed, &IN_FULL) {
             let file = day.file();
             let exact = day.edition.other().file(&day.elements).len();
             let mut lengths = vec![0, 4, file.len(), 8 * tap_words(day.k)];
@@ -227,17 +229,15 @@ fn element_at_an_end(day: &Day, place: usize, end: u128) {
     assert_eq!(convert(day.edition, &in_one, &about), converted, "{about}");
 }
 
-/// Each value of either half of word 0, with the other as it is, lent to both converters:
-/// one of them is the file's, and ten say another k.
+/// Each value of either half of word 0, lent to both converters: one of them is the
+/// file's, and ten say another k that both editions have.
 #[test]
 fn every_word_0() {
     for seed in seeds("converters, every word 0") {
         for edition in EDITIONS {
             let elements = any_widths(&mut Random::new(seed), 1);
             let day = Day::new(seed, edition, 1, ("any widths", elements));
-            let lower = (0..1 << 16).map(|half| edition.mark() + half);
-            let upper = (0..1 << 16).map(|half| (half << 16) + 1);
-            for word in lower.chain(upper) {
+            for word in words_0(edition) {
                 for from in EDITIONS {
                     converts_word_0(&day, word, from);
                 }
@@ -253,8 +253,9 @@ fn converts_word_0(day: &Day, word: u32, from: Edition) {
     let mut file = day.file();
     file[..4].copy_from_slice(&word.to_le_bytes());
     let answer = convert_into(from, &file, from.other().file(&day.elements).len(), &about);
+    // To the full edition this is 14 too where the short one has the k.
     let permitted = |&&k: &&usize| from.word_0(k) == word;
-    let expected = match PERMITTED.iter().find(permitted) {
+    let expected = match IN_FULL.iter().find(permitted) {
         _ if word >= KIND => Err(Refusal::Kind { word: 0 }),
         _ if word & MARK != from.mark() => Err(Refusal::SameEdition),
         None => Err(Refusal::Value { word: 0 }),
@@ -263,6 +264,69 @@ fn converts_word_0(day: &Day, word: u32, from: Edition) {
         Some(_) => Err(Refusal::FileLength),
     };
     assert_eq!(answer, expected, "{about}");
+}
+
+/// Short files of 2048 batches, which their reader takes: 14 into every length, whole or
+/// cut, with bytes after them, and with a word of every other kind at either end.
+/// 19 and 13 come before.
+#[test]
+fn larger_files() {
+    for seed in seeds("converters, larger files") {
+        for day in days(seed, Edition::Short, &[2048]) {
+            let about = &day.name;
+            let file = day.file();
+            assert!(read(Edition::Short, &file) == Ok(day.elements.clone()));
+            let last = file.len() - 4;
+            let mut files = vec![
+                file[..4].to_vec(),
+                file[..last].to_vec(),
+                [&file[..], &[0]].concat(),
+            ];
+            for (at, turn) in [4, last]
+                .into_iter()
+                .flat_map(|at| [1, 2, 3].map(|t| (at, t)))
+            {
+                let mut other = file.clone();
+                other[at + 3] = other[at + 3].wrapping_add(64 * turn);
+                files.push(other);
+            }
+            files.push(file);
+            for file in files {
+                let lengths = [0, 4, file.len(), file_bytes(1), file_bytes(day.k)];
+                for length in lengths {
+                    let answer = convert_into(Edition::Short, &file, length, about);
+                    assert_eq!(answer, Err(Refusal::Value { word: 0 }), "{about}");
+                }
+                is_there_already(Edition::Short, &file, about);
+                let mut unmarked = file.clone();
+                unmarked[3] = 0;
+                is_there_already(Edition::Full, &unmarked, about);
+                unmarked[3] = 0xa0;
+                is_there_already(Edition::Full, &unmarked, about);
+            }
+        }
+    }
+}
+
+/// Every k that has no full form in word 0 of small files that are whole, cut or damaged.
+#[test]
+fn larger_counts() {
+    for seed in seeds("converters, larger counts") {
+        let mut random = Random::new(seed);
+        for number in 0..4000 {
+            let k = LARGER[number % LARGER.len()];
+            let mut file = any_file(&mut random, Edition::Short, 2 + number % 2, 1);
+            file[..4].copy_from_slice(&Edition::Short.word_0(k).to_le_bytes());
+            file.truncate(4 + random.place(file.len() - 3));
+            let about = format!("seed {seed}: file {number}, k = {k}");
+            for length in [0, file.len(), file_bytes(1)] {
+                let answer = convert_into(Edition::Short, &file, length, &about);
+                assert_eq!(answer, Err(Refusal::Value { word: 0 }), "{about}");
+            }
+            let answer = convert_into(Edition::Full, &file, file.len(), &about);
+            assert_eq!(answer, Err(Refusal::SameEdition), "{about}");
+        }
+    }
 }
 
 /// Each bit of a file changed, lent to both converters. Where the answer is a file, it is

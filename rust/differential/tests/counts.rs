@@ -147,7 +147,7 @@ fn several_at_once() {
     }
 }
 
-/// For every permitted k and a few c: the first test and the last of the first batch's
+/// For every k up to 1024 and a few c: the first test and the last of the first batch's
 /// 372, the last of the claim's row, the first test of the last batch, and the last of
 /// all.
 #[test]

@@ -131,7 +131,7 @@ fn taps_beside_the_claim() {
     }
 }
 
-/// For every permitted k: first, middle and last taps with c = k, and for a few other
+/// For every k up to 1024: first, middle and last taps with c = k, and for a few other
 /// c the first tap that the claim is not about.
 #[test]
 fn every_k() {

@@ -1,17 +1,18 @@
-//! The short edition of the board file (document 02, U7): days of every k and width there
-//! and back and beside their full files, then files with everything wrong in turn, and
-//! bytes at random. Whatever is accepted is what the writer makes of it again, so that a
-//! claim with its list has one short file. Claim and taps are one list of elements here,
-//! the claim first.
+//! The short edition of the board file (document 02, U7 and U9): days of every k up to
+//! 4096 and every width there and back, those up to 1024 beside their full files, then
+//! files with everything wrong in turn, and bytes at random. Whatever is accepted is what
+//! the writer makes of it again, so that a claim with its list has one short file. Claim
+//! and taps are one list of elements here, the claim first.
 
-use differential::files::{any_file, tails, Day, ENDS};
+use differential::files::{any_file, k_of_short, tails, words_0, Day, ENDS};
 use differential::{bytes, named, same_verdict, seeds, words};
-use inputs::files::{any_widths, claim_of, element_words, Edition, KIND, MARK, PERMITTED};
+use inputs::files::{any_widths, claim_of, element_words, Edition, IN_FULL, KIND, LARGER, MARK};
+use inputs::taps::PERMITTED;
 use inputs::*;
 use lemoncolumn::{file_bytes, short_batches, short_file_bytes, tap_words};
 use second::field::P;
 use second::Refusal;
-use std::collections::BTreeMap;
+use std::collections::{BTreeMap, BTreeSet};
 
 /// What both write, into the length that `short_file_bytes` says.
 fn written(elements: &[u64], about: &str) -> Result<Vec<u8>, Refusal> {
@@ -44,7 +45,7 @@ fn read_into(file: &[u8], destination: usize, about: &str) -> Result<Vec<u64>, R
 
 /// The same, with room for the taps that word 0 says, where it says any.
 fn read(file: &[u8], about: &str) -> Result<Vec<u64>, Refusal> {
-    read_into(file, short_batches(file).map_or(0, tap_words), about)
+    read_into(file, k_of_short(file).map_or(0, tap_words), about)
 }
 
 /// Short files for each of these k.
@@ -55,16 +56,91 @@ fn days(seed: u64, ks: &[usize]) -> Vec<Day> {
 #[test]
 fn there_and_back() {
     for seed in seeds("short files, there and back") {
-        for day in days(seed, &PERMITTED) {
+        for day in days(seed, &IN_FULL) {
+            assert_eq!(short_batches(&day.file()), Some(day.k), "{}", day.name);
+            goes_there_and_back(&day);
+        }
+    }
+}
+
+fn goes_there_and_back(day: &Day) {
+    let about = &day.name;
+    let file = day.file();
+    assert_eq!(written(&day.elements, about), Ok(file.clone()), "{about}");
+    assert_eq!(read(&file, about), Ok(day.elements.clone()), "{about}");
+    let exact = tap_words(day.k);
+    for other in [0, 1, exact - 1, exact + 1, exact + 12] {
+        let refused = Err(Refusal::DestinationLength);
+        assert_eq!(read_into(&file, other, about), refused, "{about}");
+    }
+}
+
+/// Days that no full file has: its writer gives 5, whatever the room.
+#[test]
+fn larger_files_there_and_back() {
+    for seed in seeds("short files, larger ones there and back") {
+        for day in days(seed, &LARGER[..2]) {
             let about = &day.name;
-            let file = day.file();
-            assert_eq!(short_batches(&file), Some(day.k), "{about}");
-            assert_eq!(written(&day.elements, about), Ok(file.clone()), "{about}");
-            assert_eq!(read(&file, about), Ok(day.elements.clone()), "{about}");
-            let exact = tap_words(day.k);
-            for other in [0, 1, exact - 1, exact + 1, exact + 12] {
-                let refused = Err(Refusal::DestinationLength);
-                assert_eq!(read_into(&file, other, about), refused, "{about}");
+            goes_there_and_back(&day);
+            for room in [0, file_bytes(1), file_bytes(day.k)] {
+                let mut full = bytes(room);
+                let (claim, taps) = (claim_of(&day.elements), &day.elements[4..]);
+                let packed = lemoncolumn::pack(taps, claim, &mut full);
+                let expected = second::pack(taps, claim, &mut full);
+                assert_eq!(expected, Err(Refusal::TapLength), "{about}");
+                same_verdict(packed, expected, about);
+                assert!(full.is_untouched(), "{about}");
+            }
+        }
+    }
+}
+
+/// Files of 2048 batches cut, with bytes after them, and with a few words wrong.
+#[test]
+fn larger_files_damaged() {
+    for seed in seeds("short files, larger ones damaged") {
+        let mut random = Random::new(seed);
+        let mut seen = BTreeMap::new();
+        for number in 0..160 {
+            let about = format!("seed {seed}: file {number}, k = 2048");
+            let mut file = any_file(&mut random, Edition::Short, 2 + number % 2, 2048);
+            if number % 8 == 0 {
+                file = days(seed, &[2048])[number / 8 % 5].file();
+            }
+            if number % 16 == 0 {
+                file.truncate(random.below(file.len()));
+            }
+            let answer = read(&file, &about).map_or_else(Refusal::number, |_| 0);
+            *seen.entry(answer).or_insert(0) += 1;
+        }
+        for number in [0, 12, 13, 14, 18] {
+            assert!(seen.contains_key(&number), "seed {seed}: {seen:?}");
+        }
+    }
+}
+
+/// Word 0 of more batches, and then too few elements: 8 where there is no room for so many
+/// taps, else 12, or what is wrong with an element.
+#[test]
+fn larger_files_that_end_early() {
+    for seed in seeds("short files, larger ones that end early") {
+        let day = &days(seed, &[1])[4];
+        for k in LARGER {
+            let head = Edition::Short.word_0(k).to_le_bytes();
+            let file = [&head[..], &day.file()[4..]].concat();
+            for length in [4, 5, 7, 8, file.len() - 1, file.len()] {
+                let about = format!("{}, k = {k} in word 0, {length} bytes", day.name);
+                let (cut, no_room) = (&file[..length], Err(Refusal::DestinationLength));
+                assert_eq!(read_into(cut, tap_words(1), &about), no_room, "{about}");
+            }
+            let about = format!("{}, k = {k} in word 0", day.name);
+            let refused = Err(Refusal::FileLength);
+            assert_eq!(read(&file, &about), refused, "{about}");
+            if k <= 4096 {
+                let wrong = [&file[..], &(2 * KIND).to_le_bytes()].concat();
+                let word = day.words.len() as u64;
+                let refused = Err(Refusal::Kind { word });
+                assert_eq!(read(&wrong, &about), refused, "{about}");
             }
         }
     }
@@ -98,7 +174,7 @@ fn read_full(file: &[u8], k: usize, about: &str) -> Result<Vec<u64>, Refusal> {
 #[test]
 fn full_and_short_of_the_same_day() {
     for seed in seeds("short files, full and short of the same day") {
-        for day in days(seed, &PERMITTED) {
+        for day in days(seed, &IN_FULL) {
             let (about, elements) = (&day.name, &day.elements);
             let mut full = vec![0; file_bytes(day.k)];
             let packed = lemoncolumn::pack(&elements[4..], claim_of(elements), &mut full);
@@ -156,7 +232,7 @@ fn every_cut() {
 #[test]
 fn bytes_after_the_last_element() {
     for seed in seeds("short files, bytes after the last element") {
-        for day in days(seed, &PERMITTED) {
+        for day in days(seed, &IN_FULL) {
             for tail in tails() {
                 let about = format!("{}, then {tail:?}", day.name);
                 let file = [day.file(), tail].concat();
@@ -225,8 +301,8 @@ fn element_at_an_end(day: &Day, place: usize, end: u128) {
     assert_eq!(answer, Ok(elements), "{about}");
 }
 
-/// Each value of either half of word 0, with the other as it is: one of them is the
-/// file's, and ten say another k.
+/// Each value of either half of word 0: one of them is the file's, and eighteen say
+/// another k, of which fifteen stand in the lower half.
 #[test]
 fn every_word_0() {
     for seed in seeds("short files, every word 0") {
@@ -234,20 +310,63 @@ fn every_word_0() {
         let elements = any_widths(&mut random, 1);
         let day = Day::new(seed, Edition::Short, 1, ("any widths", elements));
         let mut file = day.file();
-        let lower = (0..1 << 16).map(|half: u32| MARK + half);
-        let upper = (0..1 << 16).map(|half: u32| (half << 16) + 1);
-        for word in lower.chain(upper) {
+        let mut others = BTreeSet::new();
+        for word in words_0(Edition::Short) {
             let about = format!("{}, word 0 is {word:08x}", day.name);
             file[..4].copy_from_slice(&word.to_le_bytes());
-            let k = PERMITTED.iter().find(|&&k| MARK + k as u32 == word);
-            let expected = match k {
+            let expected = match k_of_short(&file) {
                 Some(1) => Ok(day.elements.clone()),
                 Some(_) => Err(Refusal::DestinationLength),
                 None if word < KIND => Err(Refusal::Value { word: 0 }),
                 None => Err(Refusal::Kind { word: 0 }),
             };
             assert_eq!(read_into(&file, 16, &about), expected, "{about}");
+            others.extend(k_of_short(&file));
         }
+        assert_eq!(Vec::from_iter(others), PERMITTED);
+    }
+}
+
+/// Word 0 with each one and each two of its bits 0 to 29, beside the mark and without it:
+/// both readers and both converters. A k is one set bit, and the full edition has those
+/// up to 1024; what comes next is 8 in the short reader, and else 12.
+#[test]
+fn every_one_and_two_bits_of_word_0() {
+    for one in 0..30 {
+        for two in one..30 {
+            let bits = 1 << one | 1 << two;
+            word_0_alone(bits);
+            word_0_alone(MARK | bits);
+        }
+    }
+}
+
+fn word_0_alone(word: u32) {
+    let about = format!("word 0 is {word:08x}, alone");
+    let file = word.to_le_bytes();
+    let (value, ends) = (Refusal::Value { word: 0 }, Refusal::FileLength);
+    let in_short = k_of_short(&file).map_or(value, |_| Refusal::DestinationLength);
+    assert_eq!(read_into(&file, 15, &about), Err(in_short), "{about}");
+    let in_full = IN_FULL.iter().find(|&&k| k as u32 == word);
+    let in_full = in_full.map_or(value, |_| ends);
+    assert_eq!(read_full(&file, 1, &about), Err(in_full), "{about}");
+
+    let count = word & !MARK;
+    let has_full_form = IN_FULL.iter().any(|&k| k as u32 == count);
+    let refusal = |wanted: Edition| match has_full_form {
+        _ if wanted.is_marked(&file) => Refusal::SameEdition,
+        true => ends,
+        false => value,
+    };
+    for room in [0, 4, 84, 244] {
+        let (mut proved, mut other) = (bytes(room), bytes(room));
+        let converted = lemoncolumn::to_short(&file, &mut proved);
+        same_verdict(converted, Err(refusal(Edition::Short)), &about);
+        same_verdict(converted, second::to_short(&file, &mut other), &about);
+        let converted = lemoncolumn::to_full(&file, &mut proved);
+        same_verdict(converted, Err(refusal(Edition::Full)), &about);
+        same_verdict(converted, second::to_full(&file, &mut other), &about);
+        assert!(proved.is_untouched() && other.is_untouched(), "{about}");
     }
 }
 

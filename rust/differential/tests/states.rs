@@ -55,7 +55,7 @@ fn hashed_one_by_one(table: Good, taps: Vec<u64>, seed: u64) {
     }
 }
 
-/// Every permitted k, each under any accepted table.
+/// Every k up to 1024, each under any accepted table.
 #[test]
 fn every_k() {
     for seed in seeds("states, every k") {

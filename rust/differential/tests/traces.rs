@@ -1,6 +1,7 @@
 //! Traces of every kind that a checker could wave through: each cell altered by
 //! itself, each of the 52 constraints failing alone, claims of another c, words that
-//! are not canonical at either end, every length, and the largest k.
+//! are not canonical at either end, every length, and every k up to 1024. Those of more
+//! batches are in larger.rs.
 
 use differential::{same_verdict, seeds, some_cs, words};
 use inputs::tables::{dense, good, s, z, Good};
@@ -207,7 +208,7 @@ fn lengths() {
     }
 }
 
-/// From the taps to the trace and back, for every permitted k and some c.
+/// From the taps to the trace and back, for every k up to 1024 and some c.
 #[test]
 fn every_k() {
     for seed in seeds("every_k") {

@@ -95,7 +95,7 @@ fn rows_31() {
     }
 }
 
-/// Every permitted k, each under any accepted table.
+/// Every k up to 1024, each under any accepted table.
 #[test]
 fn every_k() {
     for seed in seeds("unhash, every k") {

@@ -66,9 +66,9 @@ fn check_case(day: Day) -> CheckCase {
     }
 }
 
-/// Lengths of traces that are not 384k with k permitted; 1152, 1920 and 786432
-/// are 384k with k = 3, 5 and 2048.
-pub const LENGTHS: [usize; 12] = [0, 1, 12, 32, 372, 383, 385, 767, 769, 1152, 1920, 786432];
+/// Lengths of traces that are not 384k with k permitted; 1152, 1920 and 589824
+/// are 384k with k = 3, 5 and 1536.
+pub const LENGTHS: [usize; 12] = [0, 1, 12, 32, 372, 383, 385, 767, 769, 1152, 1920, 589824];
 
 /// What of a lent day is damaged.
 pub struct Damaged {
@@ -211,6 +211,7 @@ fn read_off_corners(seed: u64) -> Vec<ReadOffCase> {
     cases.extend(every_c(&mut random));
     cases.extend(refused_lengths(&honest));
     cases.extend(refused_words(&honest));
+    cases.extend(larger_traces(&honest));
     for column in 0..4 {
         cases.push(wrong_claim(&honest, column));
     }
@@ -289,6 +290,37 @@ fn refused_words(honest: &Day) -> Vec<ReadOffCase> {
         cases.push(case);
     }
     cases
+}
+
+/// Zeros of 2048 batches (document 02, U9), with everything wrong, mended one thing after
+/// the other: 17, 8, 9, 10 at either end, and 11 with claims that end before 1024 batches
+/// and after.
+fn larger_traces(honest: &Day) -> Vec<ReadOffCase> {
+    let (k, last) = (2048, 786431);
+    let fails = |c| failed(k, c, (0, 9));
+    let steps = [
+        (2049, 24579, P, Some(0), Refusal::ClaimBatches),
+        (2048, 24579, P, Some(0), Refusal::DestinationLength),
+        (2048, 24580, P, Some(0), claim_word(3)),
+        (2048, 24580, 0, Some(0), trace_word(0)),
+        (1025, 24580, 0, Some(last), trace_word(last)),
+        (2048, 24580, 0, None, fails(2048)),
+        (1025, 24580, 0, None, fails(1025)),
+        (1, 24580, 0, None, fails(1)),
+    ];
+    let case = |(c, destination, claim, spoilt, refusal): (_, _, _, Option<usize>, _)| {
+        let name = format!("zeros, k = {k}, c = {c}, into {destination}, {refusal:?}");
+        let mut case = read_off_case(name, honest, Some(refusal));
+        case.trace = vec![0; 384 * k];
+        if let Some(index) = spoilt {
+            case.trace[index] = P;
+        }
+        case.claim = [0, 0, 0, claim];
+        case.c = c;
+        case.destination = destination;
+        case
+    };
+    steps.map(case).to_vec()
 }
 
 /// 11 at the claim's row.

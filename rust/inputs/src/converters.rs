@@ -1,10 +1,10 @@
 //! The cases of the converters between the full and the short edition of the board file
-//! (document 02, U8). A converter is named here by the edition it starts from. Claim and
-//! taps are one list of elements, the claim first.
+//! (document 02, U8 and U9). A converter is named here by the edition it starts from.
+//! Claim and taps are one list of elements, the claim first.
 
 use crate::cases::{damage, first_of, join, lent_destination, ConvertCase, UnpackCase};
-use crate::files::{any_widths, claim_of, lent_file, unpack_cases, widths};
-use crate::files::{Damaged, Edition, LentFile, PERMITTED};
+use crate::files::{any_widths, claim_of, is_larger, lent_file, unpack_cases, widths};
+use crate::files::{Damaged, Edition, LentFile, IN_FULL};
 use crate::random::Random;
 use crate::short_files::{lent_short_file, unpack_short_cases, with, LARGE, SMALL};
 use second::Refusal;
@@ -52,12 +52,12 @@ fn lengths(from: Edition, elements: &[u64]) -> [usize; 6] {
     [exact, exact - 1, exact + 1, 0, input, taps]
 }
 
-/// Every permitted k in all widths; of k = 1 into every length up to the full file's and
-/// beyond, and each element in turn at the ends of both widths, also into the lengths of
-/// one who takes it for another width.
+/// Every k of the full edition in all widths; of k = 1 into every length up to the full
+/// file's and beyond, and each element in turn at the ends of both widths, also into the
+/// lengths of one who takes it for another width.
 fn honest(random: &mut Random, from: Edition) -> Vec<ConvertCase> {
     let mut cases = vec![];
-    for k in PERMITTED {
+    for k in IN_FULL {
         for (name, elements) in widths(random, k) {
             let name = format!("k = {k}, {name}");
             let lengths = lengths(from, &elements);
@@ -101,10 +101,12 @@ fn relent(from: Edition, case: &UnpackCase, refusal: Option<Refusal>) -> [Conver
 }
 
 /// A file that its reader takes or refuses: the converter answers the same, but for 19 in
-/// place of 14 where the mark is the wanted edition's. Where the reader answers 8, its
-/// case does not tell what else is wrong.
+/// place of 14 where the mark is the wanted edition's, and for 14 where word 0 has a k that
+/// the full edition has not. Where the reader answers 8, its case does not tell what else
+/// is wrong.
 fn as_its_reader(from: Edition, case: &UnpackCase) -> Vec<ConvertCase> {
     let refusal = match case.refusal {
+        _ if from == Edition::Short && is_larger(&case.file) => Some(Refusal::Value { word: 0 }),
         Some(Refusal::DestinationLength) => return vec![],
         Some(Refusal::Value { word: 0 }) if from.other().is_marked(&case.file) => {
             Some(Refusal::SameEdition)
@@ -135,7 +137,7 @@ fn any_bytes(random: &mut Random, from: Edition) -> ConvertCase {
     let refusal = match file.first_chunk_mut::<4>() {
         None => Refusal::FileLength,
         Some(word) => {
-            word[2] |= 1;
+            word[2] |= 16; // bit 20, which is spare in both editions
             word[3] = word[3] % 64 + 64 * kind;
             match kind {
                 0 if from.other().is_marked(word) => Refusal::SameEdition,
@@ -149,23 +151,31 @@ fn any_bytes(random: &mut Random, from: Edition) -> ConvertCase {
     lent(from, name, &[0; 20], &file, destination, Some(refusal))
 }
 
-/// What a converter answers: 19 in place of the reader's 14 for the mark, and the
-/// destination last.
+/// What a converter answers: 19 in place of the reader's 14 for the mark, after its other
+/// 14 that for more batches than the full edition has, and the destination last.
 fn converted_into(file: &LentFile, no_room: Option<Refusal>) -> Option<Refusal> {
     let already = file.other_edition.then_some(Refusal::SameEdition);
-    first_of(&[file.start, already, file.head, file.elements, no_room])
+    first_of(&[
+        file.start,
+        already,
+        file.head,
+        file.larger,
+        file.elements,
+        no_room,
+    ])
 }
 
 /// A call with these things damaged: cut below 4 bytes, word 0's kind, its mark, its
-/// other bits, the length; kinds and values of elements, and in a short file small ones
-/// in three words; the destination.
-fn damaged_case(random: &mut Random, from: Edition, damaged: [bool; 9]) -> ConvertCase {
-    let [cut, kind, mark, head, length, kinds, values, long, room] = damaged;
+/// other bits, in a short file by a k that a full one can't have, the length; kinds and
+/// values of elements, and in a short file small ones in three words; the destination.
+fn damaged_case(random: &mut Random, from: Edition, damaged: [bool; 10]) -> ConvertCase {
+    let [cut, kind, mark, head, larger, length, kinds, values, long, room] = damaged;
     let damaged = Damaged {
         cut,
         kind,
         mark,
         head,
+        larger,
         length,
         kinds,
         values,
@@ -179,6 +189,7 @@ fn damaged_case(random: &mut Random, from: Edition, damaged: [bool; 9]) -> Conve
     };
     let exact = match from {
         Edition::Full => Edition::Short.file(&elements).len(),
+        Edition::Short if larger => 144 * k + 100,
         Edition::Short => 144 * file.k + 100,
     };
     let (destination, no_room) = lent_destination(random, exact, room);
@@ -211,7 +222,7 @@ fn convert_cases(seed: u64, n: usize, from: Edition) -> Vec<ConvertCase> {
         let mut damaged = damage(&mut random, number);
         // Most of the combinations shall reach the elements.
         if number % 8 >= 4 && random.one_in(2) {
-            damaged[..5].fill(false);
+            damaged[..6].fill(false);
         }
         damaged_case(&mut random, from, damaged)
     };
@@ -227,8 +238,8 @@ pub fn to_short_cases(seed: u64, n: usize) -> Vec<ConvertCase> {
 }
 
 /// From the short edition to the full one: 12 (below 4), word 0's 13, 19, word 0's 14,
-/// each element's 13, 14 and 18 with 12 where the file ends, 12 for bytes after the last,
-/// 8. The corner cases and `n` others.
+/// 14 for more than 1024 batches, each element's 13, 14 and 18 with 12 where the file
+/// ends, 12 for bytes after the last, 8. The corner cases and `n` others.
 pub fn to_full_cases(seed: u64, n: usize) -> Vec<ConvertCase> {
     convert_cases(seed, n, Edition::Short)
 }

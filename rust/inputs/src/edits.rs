@@ -5,7 +5,7 @@ use crate::checks::{lent_day, Damaged, LENGTHS};
 use crate::random::Random;
 use crate::tables::{damaged_tables, dense, special_tables};
 use crate::taps::some_c;
-use crate::traces::{broken, day, honest_days, with_faults, Day};
+use crate::traces::{broken, day, failed, honest_days, with_faults, Day};
 use second::field::{add, P};
 use second::Refusal;
 
@@ -105,6 +105,7 @@ fn edit_corners(seed: u64) -> Vec<EditCase> {
     cases.extend(refused_numbers(&mut random, &honest));
     cases.extend(refused_words(&honest));
     cases.extend(refused_traces(&mut random));
+    cases.extend(larger_traces(&honest));
     // Every choice of what is damaged.
     for choice in 0..1 << 8 {
         let damaged = std::array::from_fn(|thing| choice >> thing & 1 == 1);
@@ -247,6 +248,31 @@ fn refused_traces(random: &mut Random) -> Vec<EditCase> {
         }
     }
     cases
+}
+
+/// Zeros of 2048 batches (document 02, U9), with everything wrong, mended one thing after
+/// the other: 17, 15, 9, 10, 6 and 11.
+fn larger_traces(honest: &Day) -> Vec<EditCase> {
+    let k = 2048;
+    let steps = [
+        (2049, 6145, P, P, P, Refusal::ClaimBatches),
+        (2048, 6145, P, P, P, Refusal::NoSuchTap),
+        (2048, 6144, P, P, P, claim_word(3)),
+        (2048, 6144, 0, P, P, trace_word(786431)),
+        (2048, 6144, 0, 0, P, tap_word(2)),
+        (2048, 6144, 0, 0, 0, failed(k, 2048, (0, 9))),
+        (1025, 6144, 0, 0, 0, failed(k, 1025, (0, 9))),
+    ];
+    let case = |(c, tap, claim, cell, new, refusal)| {
+        let name = format!("zeros, k = {k}, c = {c}, tap {tap}, {refusal:?}");
+        let mut case = refused(name, honest, tap, [0, 0, new, 0], refusal);
+        case.trace = vec![0; 384 * k];
+        case.trace[384 * k - 1] = cell;
+        case.claim = [0, 0, 0, claim];
+        case.c = c;
+        case
+    };
+    steps.map(case).to_vec()
 }
 
 /// A case with these things damaged, in the order of the refusals.

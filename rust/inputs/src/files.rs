@@ -1,5 +1,5 @@
-//! Board files (document 01, "The board file"; the short edition: document 02, U7),
-//! what of them is damaged, and the cases of Pack and Unpack of the full edition.
+//! Board files (document 01, "The board file"; the short edition: document 02, U7 and
+//! U9), what of them is damaged, and the cases of Pack and Unpack of the full edition.
 
 use crate::cases::{
     claim_word, damage, first_of, join, lent_claim, lent_destination, tap_word, PackCase,
@@ -9,16 +9,24 @@ use crate::random::Random;
 use crate::taps::{self, lent_list, list};
 use second::field::P;
 use second::Refusal;
+use std::ops::Range;
 
 /// One in the two bits of a word's kind.
 pub const KIND: u32 = 1 << 30;
 /// Bit 29 of word 0, which marks the short edition.
 pub const MARK: u32 = 1 << 29;
-/// Every permitted k.
-pub const PERMITTED: [usize; 11] = [1, 2, 4, 8, 16, 32, 64, 128, 256, 512, 1024];
-/// Values of bits 0 to 15 of word 0 that are no permitted k.
-pub const NO_K: [u32; 14] = [
+/// Every k of the full edition.
+pub const IN_FULL: [usize; 11] = [1, 2, 4, 8, 16, 32, 64, 128, 256, 512, 1024];
+/// Every k that it has not.
+pub const LARGER: [usize; 8] = [2048, 4096, 8192, 16384, 32768, 65536, 131072, 262144];
+/// Values of bits 0 to 15 of word 0 that are no k of the full edition.
+pub const NO_FULL_K: [u32; 14] = [
     0, 3, 5, 6, 7, 12, 1023, 1025, 2048, 4096, 8192, 16384, 32768, 65535,
+];
+/// Values of bits 0 to 19 of word 0 that are no permitted k; 524288 is bit 19 alone.
+pub const NO_SHORT_K: [u32; 20] = [
+    0, 3, 5, 6, 7, 12, 1023, 1025, 2047, 2049, 32769, 65535, 65537, 196608, 262143, 262145, 393216,
+    524288, 524289, 1048575,
 ];
 
 /// The 32-bit words of a file, by division.
@@ -89,6 +97,30 @@ impl Edition {
         }
     }
 
+    /// The edition that the mark of word 0 says.
+    fn of(word: u32) -> Edition {
+        match word & MARK {
+            0 => Edition::Full,
+            _ => Edition::Short,
+        }
+    }
+
+    /// Bits of word 0 between k and the mark, which are zero.
+    pub fn spare_bits(self) -> Range<usize> {
+        match self {
+            Edition::Full => 16..29,
+            Edition::Short => 20..29,
+        }
+    }
+
+    /// Counts in word 0 that the edition has not.
+    pub fn no_k(self) -> &'static [u32] {
+        match self {
+            Edition::Full => &NO_FULL_K,
+            Edition::Short => &NO_SHORT_K,
+        }
+    }
+
     /// Word 0 of k batches.
     pub fn word_0(self, k: usize) -> u32 {
         self.mark() + k as u32
@@ -120,6 +152,13 @@ impl Edition {
     pub fn file(self, elements: &[u64]) -> Vec<u8> {
         bytes(&self.words(elements.len() / 12, elements))
     }
+}
+
+/// Whether word 0 is that of a short file which has no full form.
+pub fn is_larger(file: &[u8]) -> bool {
+    let word = file.first_chunk().copied().map(u32::from_le_bytes);
+    let larger = LARGER.map(|k| Edition::Short.word_0(k));
+    word.is_some_and(|word| larger.contains(&word))
 }
 
 /// The claim of a list that begins with it.
@@ -187,6 +226,8 @@ pub struct Damaged {
     pub mark: bool,
     /// Word 0's spare bits or k.
     pub head: bool,
+    /// A k in a short file's word 0 that the full edition has not.
+    pub larger: bool,
     /// Another length than k's, or a k that is not the length's.
     pub length: bool,
     /// Kinds of elements' words.
@@ -208,6 +249,8 @@ pub struct LentFile {
     pub other_edition: bool,
     /// Word 0's 14, or 12 for a full file's length.
     pub head: Option<Refusal>,
+    /// A short file's 14 on its way to the full edition.
+    pub larger: Option<Refusal>,
     /// From word 1 on.
     pub elements: Option<Refusal>,
 }
@@ -257,6 +300,7 @@ pub fn lent_file(random: &mut Random, honest: &[u32], damaged: Damaged) -> LentF
         start: refused_start(damaged),
         other_edition: damaged.mark,
         head: first_of(&[value, length]),
+        larger: None,
         elements,
     }
 }
@@ -264,10 +308,12 @@ pub fn lent_file(random: &mut Random, honest: &[u32], damaged: Damaged) -> LentF
 /// Word 0 of either edition: a spare bit, or a k that is not permitted; the other
 /// edition's mark; another kind.
 pub fn damage_word_0(random: &mut Random, word: &mut u32, damaged: Damaged) {
+    let edition = Edition::of(*word);
     if damaged.head && random.one_in(2) {
-        *word |= 1 << (16 + random.below(13));
+        let spare = edition.spare_bits();
+        *word |= 1 << (spare.start + random.below(spare.len()));
     } else if damaged.head {
-        *word = *word & MARK | random.pick(&NO_K);
+        *word = edition.mark() | random.pick(edition.no_k());
     }
     if damaged.mark {
         *word ^= MARK;
@@ -332,7 +378,7 @@ fn damage_elements(
 fn pack_corners(seed: u64) -> Vec<PackCase> {
     let mut random = Random::new(seed);
     let mut cases = vec![];
-    for k in PERMITTED {
+    for k in IN_FULL {
         let taps = random.canonicals(12 * k + 4);
         let claim = std::array::from_fn(|_| random.canonical());
         let file = bytes_of(k, &claim, &taps);
@@ -364,6 +410,16 @@ fn refused_lists() -> Vec<PackCase> {
     for length in taps::LENGTHS {
         let name = format!("{length} tap words");
         push(name, vec![P; length], [P; 4], 243, Refusal::TapLength);
+    }
+    // Lists that a short file may have, also into the length that a full one would have.
+    for k in [2048, 4096] {
+        for destination in [243, 144 * k + 100] {
+            let name = format!("k = {k}, into {destination}");
+            let refusal = Refusal::TapLength;
+            push(name, vec![P; 12 * k + 4], [P; 4], destination, refusal);
+            let name = format!("k = {k}, zeros into {destination}");
+            push(name, vec![0; 12 * k + 4], [0; 4], destination, refusal);
+        }
     }
     for length in [0, 1, 100, 243, 245, 388] {
         let refusal = Refusal::DestinationLength;
@@ -493,7 +549,7 @@ fn unpack_corners(seed: u64) -> Vec<UnpackCase> {
 /// full ones.
 fn short_files(random: &mut Random) -> Vec<UnpackCase> {
     let mut cases = vec![];
-    for k in PERMITTED {
+    for k in IN_FULL.into_iter().chain([2048]) {
         for (name, elements) in widths(random, k) {
             cases.push(UnpackCase {
                 name: format!("short file, k = {k}, {name}"),
@@ -514,8 +570,14 @@ fn heads(file: &SmallFile) -> Vec<UnpackCase> {
     for bit in 16..30 {
         cases.push(file.with_head(1 | 1 << bit, Refusal::Value { word: 0 }));
     }
-    for k in NO_K {
+    for k in NO_FULL_K {
         cases.push(file.with_head(k, Refusal::Value { word: 0 }));
+    }
+    // A count of the short edition, with its mark and without.
+    for k in LARGER {
+        let refusal = Refusal::Value { word: 0 };
+        cases.push(file.with_head(k as u32, refusal));
+        cases.push(file.with_head(MARK + k as u32, refusal));
     }
     for k in [2, 4, 8, 512, 1024] {
         cases.push(file.with_head(k, Refusal::FileLength));
@@ -557,7 +619,7 @@ pub fn unpack_cases(seed: u64, n: usize) -> Vec<UnpackCase> {
             length: early && flags[3],
             kinds: flags[5],
             values: flags[6],
-            long: false,
+            ..Damaged::default()
         };
         let k = random.pick(&[1, 1, 1, 2, 2, 4, 8, 16, 128]);
         let taps = list(&mut random, k);

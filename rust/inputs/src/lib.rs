@@ -14,6 +14,7 @@
 //! 10. `pairs`: Unhash (document 02, U5)
 //! 11. `short_files`: Pack and Unpack of the short edition (document 02, U7)
 //! 12. `converters`: from the full edition to the short one and back (document 02, U8)
+//! 13. `limits`: lengths of lists and traces around the limits of k (document 02, U9)
 //!
 //! For each operation there is a kind of case and a function that makes its
 //! corner cases and `n` random ones from a seed; the same seed makes the same
@@ -32,6 +33,7 @@ pub mod checks;
 pub mod converters;
 pub mod edits;
 pub mod files;
+pub mod limits;
 pub mod pairs;
 pub mod program;
 pub mod random;

@@ -112,8 +112,12 @@ fn files_of_one_word() -> Vec<(String, Vec<u8>, &'static str)> {
         (32, "refused 12"),
         (1024, "refused 12"),
         (2048, "refused 14 0"),
+        (0x10000, "refused 14 0"),
         (0x10001, "refused 14 0"),
+        (0x40000, "refused 14 0"),
         (0x20000001, "refused 14 0"),
+        (0x20000800, "refused 14 0"),
+        (0x20040000, "refused 14 0"),
         (0x40000001u32, "refused 13 0"),
     ] {
         let name = format!("word 0 alone, {word:x}");
@@ -136,7 +140,7 @@ pub fn clear_cases(seed: u64, n: usize) -> Vec<ClearCase> {
             length: flags[5],
             kinds: flags[6],
             values: flags[7],
-            long: false,
+            ..Damaged::default()
         };
         let k = random.pick(&[1, 1, 1, 1, 2, 2, 4, 8, 16]);
         let good = good(&mut random);

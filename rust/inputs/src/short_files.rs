@@ -1,17 +1,17 @@
-//! The cases of Pack and Unpack of the short edition (document 02, U7). Claim and taps
-//! are one list of elements here, the claim first.
+//! The cases of Pack and Unpack of the short edition (document 02, U7 and U9). Claim and
+//! taps are one list of elements here, the claim first.
 
 use crate::cases::{
     claim_word, damage, first_of, join, lent_claim, lent_destination, other_length, tap_word,
     PackCase, UnpackCase,
 };
 use crate::files::{
-    any_widths, bytes, claim_of, damage_word_0, element_words, not_an_element, refused_start,
-    short_element, short_words_of, widths, words_of, Damaged, LentFile, SmallFile, KIND, MARK,
-    NO_K, PERMITTED,
+    any_widths, bytes, claim_of, damage_word_0, element_words, is_larger, not_an_element,
+    refused_start, short_element, short_words_of, widths, words_of, Damaged, Edition, LentFile,
+    SmallFile, IN_FULL, KIND, LARGER, MARK,
 };
 use crate::random::Random;
-use crate::taps::{lent_words, some_k, LENGTHS};
+use crate::taps::{lent_words, some_k, LENGTHS, PERMITTED};
 use second::field::P;
 use second::Refusal;
 
@@ -42,6 +42,11 @@ const NO_ELEMENTS: [u128; 11] = [
     1 << 89,
     (1 << 90) - 1,
 ];
+
+/// The k of whole files here; those of more batches are made where word 0 decides.
+fn whole() -> impl Iterator<Item = usize> {
+    IN_FULL.into_iter().chain([2048])
+}
 
 /// The list with one element replaced.
 pub fn with(elements: &[u64], place: usize, element: u64) -> Vec<u64> {
@@ -79,7 +84,7 @@ fn pack_case(
 fn pack_corners(seed: u64) -> Vec<PackCase> {
     let mut random = Random::new(seed);
     let mut cases = vec![];
-    for k in PERMITTED {
+    for k in whole() {
         for (name, elements) in widths(&mut random, k) {
             let length = short_length(&elements);
             let name = format!("k = {k}, {name}");
@@ -91,6 +96,7 @@ fn pack_corners(seed: u64) -> Vec<PackCase> {
         let refusal = Some(Refusal::TapLength);
         cases.push(pack_case(name, &vec![P; length + 4], 83, refusal));
     }
+    cases.extend(larger_lists(&mut random));
     for (name, elements) in widths(&mut random, 1) {
         cases.extend(packed_into(name, &elements));
         cases.extend(packed_elements(name, &elements));
@@ -100,6 +106,32 @@ fn pack_corners(seed: u64) -> Vec<PackCase> {
     for choice in 0..1 << 6 {
         let damaged = std::array::from_fn(|thing| choice >> thing & 1 == 1);
         cases.push(lent_pack_case(&mut random, damaged));
+    }
+    cases
+}
+
+/// Lists of 24580 words, which no full file has: 8 beside the exact length and into the
+/// full edition's, 9, and 6 at either end.
+fn larger_lists(random: &mut Random) -> Vec<PackCase> {
+    let k = 2048;
+    let honest = any_widths(random, k);
+    let exact = short_length(&honest);
+    let mut cases = vec![];
+    for length in [0, exact - 4, exact + 4, 144 * k + 100] {
+        let refusal = Some(Refusal::DestinationLength);
+        cases.push(pack_case(format!("k = {k}"), &honest, length, refusal));
+    }
+    for place in [0, 3, 4, 12 * k + 7] {
+        let mut elements = honest.clone();
+        elements[place] = P;
+        elements[12 * k + 7] = P;
+        let refusal = match place {
+            0..4 => claim_word(place),
+            _ => tap_word(place - 4),
+        };
+        let name = format!("k = {k}, p at {place}");
+        let length = short_length(&elements);
+        cases.push(pack_case(name, &elements, length, Some(refusal)));
     }
     cases
 }
@@ -298,7 +330,7 @@ impl Short {
 fn unpack_corners(seed: u64) -> Vec<UnpackCase> {
     let mut random = Random::new(seed);
     let mut cases = vec![];
-    for k in PERMITTED {
+    for k in whole() {
         for (name, elements) in widths(&mut random, k) {
             let words = short_words_of(k, &elements);
             let name = format!("k = {k}, {name}");
@@ -314,6 +346,7 @@ fn unpack_corners(seed: u64) -> Vec<UnpackCase> {
         cases.extend(heads(&short));
     }
     cases.extend(other_ks(&mut random));
+    cases.extend(larger_files(&mut random));
     // Every choice of what is damaged, each several times.
     for choice in 0..1 << 11 {
         let damaged = std::array::from_fn(|thing| choice >> thing & 1 == 1);
@@ -434,12 +467,14 @@ fn values(short: &Short) -> Vec<UnpackCase> {
     cases
 }
 
-/// Each spare bit, k not permitted, no mark; also where the file ends there and the
-/// destination is another.
+/// Each spare bit alone and beside a k, k not permitted, no mark; also where the file ends
+/// there and the destination is another.
 fn heads(short: &Short) -> Vec<UnpackCase> {
-    let spare = (16..29).map(|bit| MARK + 1 + (1 << bit));
-    let no_k = NO_K.map(|k| MARK + k);
-    let no_mark = [0, 1, 2, 3, 1024, 2048, 0x10001];
+    let edition = Edition::Short;
+    let spare = |k| edition.spare_bits().map(move |bit| MARK + k + (1 << bit));
+    let spare = [0, 1, 2048, 1 << 18].into_iter().flat_map(spare);
+    let no_k = edition.no_k().iter().map(|k| MARK + k);
+    let no_mark = [0, 1, 2, 3, 1024, 2048, 0x10000, 0x10001, 1 << 18];
     let mut cases = vec![];
     for head in spare.chain(no_k).chain(no_mark) {
         let whole = short.file.with_head(head, Refusal::Value { word: 0 });
@@ -464,10 +499,48 @@ fn other_ks(random: &mut Random) -> Vec<UnpackCase> {
             let mut early = unpack_case(k, name, &elements, &words);
             early.refusal = Some(Refusal::DestinationLength);
             let mut exact = early.clone();
-            exact.name += ", with its destination";
-            exact.destination = 12 * other + 4;
-            exact.refusal = Some(Refusal::FileLength);
-            cases.extend([early, exact]);
+            cases.push(early);
+            // The destinations of more batches are long.
+            if other <= 4096 {
+                exact.name += ", with its destination";
+                exact.destination = 12 * other + 4;
+                exact.refusal = Some(Refusal::FileLength);
+                cases.push(exact);
+            }
+        }
+    }
+    cases
+}
+
+/// Files of more batches that end early: right after word 0, in an element, and after
+/// some; with the destination of that k, 12, and with that of one batch, 8. Then a wrong
+/// element, which is refused before the end is seen.
+fn larger_files(random: &mut Random) -> Vec<UnpackCase> {
+    let mut cases = vec![];
+    let elements = any_widths(random, 1);
+    for k in LARGER {
+        let words = short_words_of(k, &elements);
+        let whole = 4 * words.len();
+        for length in [4, 5, 7, whole - 1, whole] {
+            let name = format!("k = {k}, cut to {length} bytes");
+            let mut cut = unpack_case(1, name, &elements, &words);
+            cut.file.truncate(length);
+            cut.refusal = Some(Refusal::DestinationLength);
+            cases.push(cut);
+        }
+        if k <= 4096 || k >= 65536 {
+            let name = format!("k = {k}, cut after 20 elements");
+            let mut cut = unpack_case(k, name, &elements, &words);
+            cut.refusal = Some(Refusal::FileLength);
+            cases.push(cut);
+        }
+        if k <= 4096 {
+            let words = [&words[..], &[2 * KIND]].concat();
+            let name = format!("k = {k}, element 20 of kind 2");
+            let mut wrong = unpack_case(k, name, &elements, &words);
+            let word = words.len() as u64 - 1;
+            wrong.refusal = Some(Refusal::Kind { word });
+            cases.push(wrong);
         }
     }
     cases
@@ -595,12 +668,14 @@ pub fn lent_short_file(random: &mut Random, elements: &[u64], damaged: Damaged) 
     let wrong = [damaged.kinds, damaged.values, damaged.long];
     let (written, refused) = lent_elements(random, elements, wrong);
     let other_k = damaged.length && random.one_in(3);
-    let k = match (elements.len() / 12, random.pick(&PERMITTED)) {
+    let k = match (elements.len() / 12, random.pick(&IN_FULL)) {
+        _ if damaged.larger => random.pick(&LARGER),
         (k, other) if other_k && other != k => other,
         (k, _) if other_k => 2 * k,
         (k, _) => k,
     };
     let mut word = MARK + k as u32;
+    let larger = is_larger(&word.to_le_bytes());
     damage_word_0(random, &mut word, damaged);
     let mut bytes = bytes(&[&[word], &written.concat()[..]].concat());
     if damaged.length && !other_k {
@@ -619,6 +694,7 @@ pub fn lent_short_file(random: &mut Random, elements: &[u64], damaged: Damaged) 
         start: refused_start(damaged),
         other_edition: damaged.mark,
         head: damaged.head.then_some(Refusal::Value { word: 0 }),
+        larger: larger.then_some(Refusal::Value { word: 0 }),
         elements: after,
     }
 }
@@ -633,6 +709,7 @@ fn lent_unpack_case(random: &mut Random, damaged: [bool; 9]) -> UnpackCase {
         kind,
         mark,
         head,
+        larger: false,
         length,
         kinds,
         values,

@@ -9,10 +9,16 @@ use crate::tables::{damaged_tables, dense, good, lent, special_tables, LentTable
 use second::field::P;
 use second::Refusal;
 
-/// Lengths of lists that are not 12k + 4 with k permitted. 4, 40, 64, 76 and
-/// 24580 are 12k + 4 with k = 0, 3, 5, 6 and 2048.
-pub const LENGTHS: [usize; 16] = [
-    0, 1, 3, 4, 8, 12, 15, 17, 27, 29, 40, 64, 76, 12291, 12293, 24580,
+/// Every permitted k, to 2^18 (document 02, U9).
+pub const PERMITTED: [usize; 19] = [
+    1, 2, 4, 8, 16, 32, 64, 128, 256, 512, 1024, 2048, 4096, 8192, 16384, 32768, 65536, 131072,
+    262144,
+];
+
+/// Lengths of lists that are not 12k + 4 with k permitted. 4, 40, 64, 76, 18436 and
+/// 24592 are 12k + 4 with k = 0, 3, 5, 6, 1536 and 2049.
+pub const LENGTHS: [usize; 19] = [
+    0, 1, 3, 4, 8, 12, 15, 17, 27, 29, 40, 64, 76, 12291, 12293, 18436, 24579, 24581, 24592,
 ];
 
 /// A permitted k, mostly small.
@@ -211,6 +217,17 @@ fn build_corners(seed: u64) -> Vec<BuildCase> {
         taps[index] = P;
         let refusal = Some(tap_word(index));
         push(format!("p at {index}"), table, taps, 768, refusal);
+    }
+    // 24580 words, which pass 5.
+    for (index, destination) in [(0, 768), (0, 786432), (24579, 786432)] {
+        let mut taps = vec![P - 1; 24580];
+        taps[index] = P;
+        let refusal = match destination {
+            768 => Refusal::DestinationLength,
+            _ => tap_word(index),
+        };
+        let name = format!("k = 2048, p at {index}, into {destination}");
+        push(name, table, taps, destination, Some(refusal));
     }
     cases
 }

@@ -3,7 +3,8 @@
 //! refused call must leave what is lent as it was, and what is written must be
 //! right.
 
-use inputs::tables::Good;
+use inputs::limits::{list_lengths, list_words, trace_lengths, trace_words, FIRST_ABOVE};
+use inputs::tables::{z, Good};
 use inputs::traces::{with_faults, Fault};
 use inputs::*;
 use second::field::sub;
@@ -382,6 +383,71 @@ fn to_full() {
     let readers: [Reader; 2] = [second::unpack_short, second::unpack];
     let refusals = [0, 8, 12, 13, 14, 18, 19];
     convert(to_full_cases(SEED, 1600), converters, readers, &refusals);
+}
+
+/// 5 where k is not permitted, or not in the full edition; else what comes next, in lists
+/// whose first word is not canonical.
+#[test]
+fn lists_around_the_limits() {
+    let table = z().prepared;
+    let mut words = vec![0; list_words(FIRST_ABOVE)];
+    words[0] = u64::MAX;
+    for length in list_lengths() {
+        let taps = &words[..length.words];
+        let refused = |next: Refusal| Err(length.k.map_or(Refusal::TapLength, |_| next));
+        let answer = second::chain(&table, taps);
+        assert_eq!(answer, refused(tap_word(0)), "{length:?}");
+        let no_room = refused(Refusal::DestinationLength);
+        let answer = second::build(&table, taps, &mut [0; 383]);
+        assert_eq!(answer, no_room, "{length:?}");
+        for yardstick in BOTH {
+            let answer = (yardstick.build)(&table, taps, &mut [0; 383]);
+            assert_eq!(answer, no_room, "{length:?}");
+        }
+        let no_room = no_room.map(|_| ());
+        let answer = second::pack_short(taps, [0; 4], &mut [0; 83]);
+        assert_eq!(answer, no_room, "{length:?}");
+        let in_full = length.k.filter(|&k| k <= 1024);
+        let refusal = in_full.map_or(Refusal::TapLength, |_| Refusal::DestinationLength);
+        let answer = second::pack(taps, [0; 4], &mut [0; 243]);
+        assert_eq!(answer, Err(refusal), "{length:?}");
+    }
+}
+
+/// 7 where k is not permitted; else what comes next, in zeros that are not looked at.
+#[test]
+fn traces_around_the_limits() {
+    let table = z().prepared;
+    let mut words = vec![0; trace_words(FIRST_ABOVE)];
+    for length in trace_lengths() {
+        let trace = &mut words[..length.words];
+        let refused = |next: Refusal| Err(length.k.map_or(Refusal::TraceLength, |_| next));
+        let k = length.k.unwrap_or(1);
+        let no_c = refused(Refusal::ClaimBatches);
+        let no_room = refused(Refusal::DestinationLength);
+        let answer = second::edit(&table, trace, [0; 4], k, 3 * k + 1, [0; 4]);
+        assert_eq!(
+            answer.err(),
+            refused(Refusal::NoSuchTap).err(),
+            "{length:?}"
+        );
+        for c in [0, k + 1] {
+            let answer = second::check(&table, trace, [0; 4], c);
+            assert_eq!(answer, no_c, "{length:?}");
+            for yardstick in BOTH {
+                let answer = (yardstick.check)(&table, trace, [0; 4], c);
+                assert_eq!(answer, no_c, "{length:?}");
+            }
+        }
+        for c in [1, k] {
+            let answer = second::read_off(&table, trace, [0; 4], c, &mut [0; 15]);
+            assert_eq!(answer, no_room, "{length:?}");
+            for yardstick in BOTH {
+                let answer = (yardstick.read_off)(&table, trace, [0; 4], c, &mut [0; 15]);
+                assert_eq!(answer, no_room, "{length:?}");
+            }
+        }
+    }
 }
 
 #[test]

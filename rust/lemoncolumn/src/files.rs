@@ -8,7 +8,9 @@ use crate::{file_bytes, Refusal, RAW_WORDS};
 pub const RAW_BYTES: usize = 8 * RAW_WORDS;
 
 /// The largest permitted number of batches.
-pub const MOST_BATCHES: usize = 1024;
+pub const MOST_BATCHES: usize = 1 << 18;
+/// The largest of a board file in the full edition.
+pub const MOST_FILE_BATCHES: usize = 1024;
 
 /// Bytes of a word of a board file.
 const WORD_BYTES: usize = 4;
@@ -22,9 +24,9 @@ const ELEMENT_BYTES: usize = 3 * WORD_BYTES;
 /// low 30 bits.
 const UPPER_PAYLOADS: u64 = 0x3fff_ffff_3fff_ffff;
 
-/// Whether this is a permitted number of batches.
-fn is_permitted(k: usize) -> bool {
-    k.count_ones() == 1 && k <= MOST_BATCHES
+/// Whether this is a permitted number of batches, where there may be so many.
+fn is_permitted(k: usize, most: usize) -> bool {
+    k.count_ones() == 1 && k <= most
 }
 
 /// The words of a raw table's file; refusal 1 where it has another length.
@@ -39,17 +41,19 @@ pub fn raw_table(file: &[u8]) -> Result<[u64; RAW_WORDS], Refusal> {
     Ok(raw)
 }
 
-/// The k of a board file of this length, if a permitted k has it. A file of any
-/// other length is refused before `unpack` looks at its destination.
+/// The k of a board file of this length, if a permitted k up to [`MOST_FILE_BATCHES`]
+/// has it. A file of any other length is refused before `unpack` looks at its
+/// destination.
 pub fn batches(bytes: usize) -> Option<usize> {
     let k = bytes.checked_sub(file_bytes(0))? / (file_bytes(1) - file_bytes(0));
-    (is_permitted(k) && file_bytes(k) == bytes).then_some(k)
+    (is_permitted(k, MOST_FILE_BATCHES) && file_bytes(k) == bytes).then_some(k)
 }
 
 /// Bytes of the short file of a list of taps and a claim, which
 /// [`pack_short`](crate::pack_short) asks for: 4 for word 0, 4 for an element below
 /// 2^30 and 12 for any other, one that is not canonical included. That is 48k + 36 where
-/// all are below 2^30, and [`file_bytes`] where none is.
+/// all are below 2^30, and [`file_bytes`] where none is, also for a k that has no full
+/// file.
 pub fn short_file_bytes(taps: &[u64], claim: [u64; 4]) -> usize {
     let words = |&element: &u64| match element >> ONE_WORD_BITS {
         0 => 1,
@@ -59,14 +63,14 @@ pub fn short_file_bytes(taps: &[u64], claim: [u64; 4]) -> usize {
     WORD_BYTES * (1 + elements)
 }
 
-/// The k in word 0 of a short file, if these bytes begin as one does: its length does
-/// not say it. Any other file is refused before [`unpack_short`](crate::unpack_short)
-/// looks at its destination.
+/// The k in word 0 of a short file, bits 0 to 19, if these bytes begin as one does: its
+/// length does not say it. Any other file is refused before
+/// [`unpack_short`](crate::unpack_short) looks at its destination.
 pub fn short_batches(file: &[u8]) -> Option<usize> {
     let word = u32::from_le_bytes(*file.first_chunk::<WORD_BYTES>()?);
-    // Too large where the mark is not set, or any bit above k.
+    // Too large where the mark is not set, or any bit from 19 on.
     let k = (word ^ SHORT_MARK) as usize;
-    is_permitted(k).then_some(k)
+    is_permitted(k, MOST_BATCHES).then_some(k)
 }
 
 /// Bytes of the short file of a full one, which [`to_short`](crate::to_short) asks for:
@@ -87,8 +91,9 @@ pub fn to_short_bytes(file: &[u8]) -> Option<usize> {
 }
 
 /// Bytes of the full file of a short one, which [`to_full`](crate::to_full) asks for:
-/// those of the k that [`short_batches`] finds. Any other file is refused before the
-/// converter looks at its destination.
+/// those of the k that [`short_batches`] finds, if it is at most [`MOST_FILE_BATCHES`].
+/// Any other file is refused before the converter looks at its destination.
 pub fn to_full_bytes(short_file: &[u8]) -> Option<usize> {
-    short_batches(short_file).map(file_bytes)
+    let k = short_batches(short_file)?;
+    is_permitted(k, MOST_FILE_BATCHES).then(|| file_bytes(k))
 }

@@ -19,7 +19,7 @@ mod refusal;
 
 pub use files::{
     batches, raw_table, short_batches, short_file_bytes, to_full_bytes, to_short_bytes,
-    MOST_BATCHES, RAW_BYTES,
+    MOST_BATCHES, MOST_FILE_BATCHES, RAW_BYTES,
 };
 pub use interface::INTERFACE;
 pub use refusal::{decode, Refusal};
@@ -39,7 +39,7 @@ pub const STATE_WORDS: usize = 12;
 /// Words of two taps.
 pub const PAIR_WORDS: usize = 8;
 
-/// Words of the tap list of k batches.
+/// Words of the tap list of k batches, k a power of two up to [`MOST_BATCHES`].
 pub const fn tap_words(k: usize) -> usize {
     12 * k + 4
 }
@@ -49,7 +49,7 @@ pub const fn trace_words(k: usize) -> usize {
     384 * k
 }
 
-/// Bytes of the board file of k batches.
+/// Bytes of the board file of k batches, which has at most [`MOST_FILE_BATCHES`].
 pub const fn file_bytes(k: usize) -> usize {
     144 * k + 100
 }
@@ -293,7 +293,8 @@ pub fn edit(
 }
 
 /// Writes the board file of a list of taps and a claim. The file has no c: its claim
-/// is about all of its taps, c = k.
+/// is about all of its taps, c = k. A list of more than [`MOST_FILE_BATCHES`], which has
+/// a short file alone, is [`Refusal::TapLength`].
 pub fn pack(taps: &[u64], claim: [u64; 4], file: &mut [u8]) -> Result<(), Refusal> {
     let [c0, c1, c2, c3] = claim;
     let code = call(|| unsafe {
@@ -329,7 +330,8 @@ pub fn unpack(file: &[u8], taps: &mut [u64]) -> Result<[u64; 4], Refusal> {
 
 /// Writes the short edition of the board file of a list of taps and a claim, where an
 /// element below 2^30 has one word and any other three; [`short_file_bytes`] says how
-/// many bytes that takes. A claim with its list has one short file.
+/// many bytes that takes. A claim with its list has one short file, and it may be of
+/// [`MOST_BATCHES`].
 ///
 /// ```
 /// use lemoncolumn::*;
@@ -443,7 +445,26 @@ pub fn to_short(file: &[u8], short_file: &mut [u8]) -> Result<(), Refusal> {
 /// Writes the full edition of a short file, from which [`to_short`] makes the same
 /// bytes again. [`to_full_bytes`] says how many bytes it takes. The file is tested as
 /// [`unpack_short`] tests it; where it is a full one already, the answer is
-/// [`Refusal::SameEdition`]. The length of the destination is tested last.
+/// [`Refusal::SameEdition`], and where it has more than [`MOST_FILE_BATCHES`],
+/// [`Refusal::WrongValue`] with word 0. The length of the destination is tested last.
+///
+/// ```
+/// use lemoncolumn::*;
+///
+/// // A season is packed in the short edition alone, and has no full file.
+/// let k = 2 * MOST_FILE_BATCHES;
+/// let taps = vec![290; tap_words(k)];
+/// let mut short_file = vec![0; short_file_bytes(&taps, [0; 4])];
+/// pack_short(&taps, [0; 4], &mut short_file)?;
+/// assert_eq!(short_batches(&short_file), Some(k));
+///
+/// let mut file = vec![0; file_bytes(k)];
+/// assert_eq!(pack(&taps, [0; 4], &mut file), Err(Refusal::TapLength));
+/// assert_eq!(to_full_bytes(&short_file), None);
+/// let converted = to_full(&short_file, &mut file);
+/// assert_eq!(converted, Err(Refusal::WrongValue { word: 0 }));
+/// # Ok::<(), Refusal>(())
+/// ```
 pub fn to_full(short_file: &[u8], file: &mut [u8]) -> Result<(), Refusal> {
     let code = call(|| unsafe {
         lemoncolumn_to_full(

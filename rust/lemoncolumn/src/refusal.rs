@@ -15,7 +15,8 @@ pub enum Refusal {
     /// 4: M times the stored inverse is unlike the identity; 12 × row + column
     /// of the first such cell.
     WrongInverse { cell: u64 },
-    /// 5: the tap list is not 12k + 4 words with k permitted.
+    /// 5: the tap list is not 12k + 4 words with k permitted; for a full file, k up to
+    /// [`crate::MOST_FILE_BATCHES`].
     TapLength,
     /// 6: a tap word, or a cell lent to [`crate::unhash`], is not canonical; the
     /// lowest index.
@@ -41,8 +42,9 @@ pub enum Refusal {
     FileLength,
     /// 13: a file word has the wrong kind; its index in 32-bit words.
     WrongKind { word: u64 },
-    /// 14: spare bits, a file of the other edition or a k not permitted (index 0), or
-    /// an element that is not canonical (its first word).
+    /// 14: spare bits, a file of the other edition, a k not permitted, or one above
+    /// [`crate::MOST_FILE_BATCHES`] in or for a full file (index 0), or an element that
+    /// is not canonical (its first word).
     WrongValue { word: u64 },
     /// 15: the tap number is above 3k.
     NoSuchTap,

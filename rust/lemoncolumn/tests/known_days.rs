@@ -1,7 +1,7 @@
 //! Document 01's known days, with cells 4 to 11 of the hashes (document 02, U3), the
 //! counts of refusal 11 (U4), edits, pairs found again (U5), claims that end before the
-//! rows do (U6), short files (U7), and files converted (U8), worked out by hand, through
-//! the safe calls.
+//! rows do (U6), short files (U7), files converted (U8), and a season of 2048 batches (U9),
+//! worked out by hand, through the safe calls.
 
 use lemoncolumn::*;
 
@@ -129,18 +129,32 @@ fn refused_unhashes() {
     assert_eq!(unhashed, Err(Refusal::NoPair));
 }
 
+/// 24580 words, 2048 batches, get 5 from the full edition's writer alone (document 02, U9).
 #[test]
 fn lengths_and_words() {
     let z = table(0, 0);
-    for (words, answer) in [
-        (16, Ok([0; 4])),
-        (0, Err(Refusal::TapLength)),
-        (15, Err(Refusal::TapLength)),
-        (40, Err(Refusal::TapLength)),
-        (12292, Ok([0; 4])),
-        (24580, Err(Refusal::TapLength)),
+    let (passed, refused) = (Ok([0; 4]), Err(Refusal::TapLength));
+    for (words, chained, packed) in [
+        (16, passed, true),
+        (0, refused, false),
+        (15, refused, false),
+        (40, refused, false),
+        (12292, passed, true),
+        (24580, passed, false),
+        (24579, refused, false),
+        (24581, refused, false),
+        (36868, refused, false),
     ] {
-        assert_eq!(chain(&z, &vec![0; words]), answer, "{words}");
+        let taps = vec![0; words];
+        assert_eq!(chain(&z, &taps), chained, "{words}");
+        let mut trace = vec![7; words / 12 * 384];
+        assert_eq!(build(&z, &taps, &mut trace), chained, "{words}");
+        // Into no room: 8 comes after 5.
+        let refusal = match packed {
+            true => Refusal::DestinationLength,
+            false => Refusal::TapLength,
+        };
+        assert_eq!(pack(&taps, [P; 4], &mut []), Err(refusal), "{words}");
     }
     assert!(hash(&z, [P - 1; 8]).is_ok());
     assert_eq!(hash(&z, [P; 8]), Err(Refusal::TapWord { index: 0 }));
@@ -395,6 +409,10 @@ fn short_files() {
         (2, 0x2000_0002, 132, 388),
         (16, 0x2000_0010, 804, 2404),
         (1024, 0x2000_0400, 49_188, 147_556),
+        (2048, 0x2000_0800, 98_340, 295_012),
+        (32_768, 0x2000_8000, 1_572_900, 4_718_692),
+        (65_536, 0x2001_0000, 3_145_764, 9_437_284),
+        (262_144, 0x2004_0000, 12_582_948, 37_748_836),
     ] {
         for (element, words, length) in [
             (0, &[0xc000_0000][..], shortest),
@@ -405,10 +423,10 @@ fn short_files() {
             let expected = bytes(&[&[head], &words.repeat(12 * k + 8)[..]].concat());
             let mut file = vec![7; length];
             assert_eq!(pack_short(&taps, claim, &mut file), Ok(()), "k = {k}");
-            assert_eq!(file, expected, "k = {k}");
+            assert!(file == expected, "k = {k}");
             let mut read = vec![7; 12 * k + 4];
             assert_eq!(unpack_short(&file, &mut read), Ok(claim), "k = {k}");
-            assert_eq!(read, taps, "k = {k}");
+            assert!(read == taps, "k = {k}");
         }
     }
 }
@@ -470,6 +488,9 @@ fn refused_short_packs() {
     for (taps, claim, length, refusal) in [
         (vec![p; 15], [p; 4], 0, Refusal::TapLength),
         (vec![0; 40], [0; 4], 180, Refusal::TapLength),
+        (vec![0; 24579], [0; 4], 98_336, Refusal::TapLength),
+        (vec![0; 36868], [0; 4], 147_492, Refusal::TapLength),
+        (vec![p; 24580], [p; 4], 98_340, Refusal::DestinationLength),
         (vec![0; 16], [0; 4], 83, Refusal::DestinationLength),
         (vec![0; 16], [0; 4], 85, Refusal::DestinationLength),
         (vec![0; 16], [0; 4], 92, Refusal::DestinationLength),
@@ -483,7 +504,8 @@ fn refused_short_packs() {
     ] {
         let mut file = vec![7; length];
         let packed = pack_short(&taps, claim, &mut file);
-        assert_eq!(packed, Err(refusal), "{taps:?}, {claim:?}, {length} bytes");
+        let words = taps.len();
+        assert_eq!(packed, Err(refusal), "{words}, {claim:?}, {length} bytes");
         assert_eq!(file, vec![7; length], "{refusal}");
     }
     let mut file = [7; 92];
@@ -517,7 +539,7 @@ fn refused(convert: Converter, file: &[u8]) -> Refusal {
     refusals[0]
 }
 
-/// 8 comes right after word 0.
+/// 8 comes right after word 0, whose count is bits 0 to 19. 2^19 is no k.
 #[test]
 fn word_0_of_a_short_file() {
     let (kind, value) = (
@@ -533,7 +555,17 @@ fn word_0_of_a_short_file() {
         (0x3000_0001, value),
         (0x2000_0000, value),
         (0x2000_0003, value),
-        (0x2000_0800, value),
+        (0x2000_0c00, value),
+        (0x2006_0000, value),
+        (0x2008_0000, value),
+        (0x200c_0000, value),
+        (0x2010_0000, value),
+        (0x2010_0001, value),
+        (0x2000_0002, Refusal::DestinationLength),
+        (0x2000_0400, Refusal::DestinationLength),
+        (0x2000_0800, Refusal::DestinationLength),
+        (0x2001_0000, Refusal::DestinationLength),
+        (0x2004_0000, Refusal::DestinationLength),
     ] {
         let mut words = short_zeros();
         words[0] = head;
@@ -722,7 +754,8 @@ fn a_converted_file_of_both_widths() {
 }
 
 /// 13 comes before 19, and 19, which goes by the mark alone, before 14 and 12: word 0 of a
-/// full file of zeros, of a short one, and by itself.
+/// full file of zeros, of a short one, and by itself. From 2048 batches on there is no full
+/// file, which is 14 too, before the elements.
 #[test]
 fn word_0_of_a_file_to_convert() {
     let (kind, value) = (
@@ -740,12 +773,19 @@ fn word_0_of_a_file_to_convert() {
         (0x2000_0000, same, value),
         (0x2000_0003, same, value),
         (0x2000_0800, same, value),
+        (0x2000_8000, same, value),
+        (0x2001_0000, same, value),
+        (0x2004_0000, same, value),
+        (0x2008_0000, same, value),
+        (0x2010_0001, same, value),
         (0x2001_0001, same, value),
         (0x3000_0001, same, value),
         (0x3fff_ffff, same, value),
         (0x0000_0000, value, same),
         (0x0000_0003, value, same),
         (0x0000_0800, value, same),
+        (0x0000_8000, value, same),
+        (0x0004_0000, value, same),
         (0x0001_0001, value, same),
         (0x1000_0001, value, same),
         (0x1fff_ffff, value, same),
@@ -830,4 +870,69 @@ fn damaged_full_files_to_convert() {
         let cut = &honest[..length];
         assert_eq!(refused(to_short, cut), Refusal::FileLength, "{length}");
     }
+}
+
+/// Zero taps under A, 2048 batches: each of the 6144 hashes adds 1 to cell 0. The last row is
+/// 32 x 2048 - 1, and there the claim's tests are the last four of 372 x 2048.
+#[test]
+fn a_season() {
+    let a = table(0, 1);
+    let (k, tests) = (2048, 761_856);
+    let mut trace = vec![7; 786_432];
+    let output = [6144, 0, 0, 0];
+    assert_eq!(build(&a, &[0; 24580], &mut trace), Ok(output));
+    assert_eq!(check(&a, &trace, output, k), Ok(tests));
+    assert_eq!(check(&a, &trace, [3, 0, 0, 0], 1), Ok(tests));
+    assert_eq!(check(&a, &trace, [3075, 0, 0, 0], 1025), Ok(tests));
+    let refused = check(&a, &trace, [6143, 0, 0, 0], k);
+    assert_eq!(refused, Err(eleven(65_535, 49, 761_853)));
+    let refused = check(&a, &trace, output, k + 1);
+    assert_eq!(refused, Err(Refusal::ClaimBatches));
+    let mut taps = vec![7; 24580];
+    assert_eq!(read_off(&a, &trace, output, k, &mut taps), Ok(tests));
+    assert_eq!(taps, vec![0; 24580]);
+
+    let refused = edit(&a, &mut trace, output, k, 6145, [0; 4]);
+    assert_eq!(refused, Err(Refusal::NoSuchTap));
+    let edited = edit(&a, &mut trace, output, k, 6144, [1, 2, 3, 4]);
+    assert_eq!(edited, Ok(output));
+    assert_eq!(trace[786_420..], [6144, 0, 0, 0, 1, 2, 3, 4, 0, 0, 0, 0]);
+    let edited = edit(&a, &mut trace, output, k, 0, [5, 6, 7, 9]);
+    assert_eq!(edited, Ok([6149, 6, 7, 9]));
+    assert_eq!(
+        read_off(&a, &trace, [6149, 6, 7, 9], k, &mut taps),
+        Ok(tests)
+    );
+    let mut altered = vec![0; 24580];
+    altered[..4].copy_from_slice(&[5, 6, 7, 9]);
+    altered[24576..].copy_from_slice(&[1, 2, 3, 4]);
+    assert_eq!(taps, altered);
+}
+
+/// 2^19 batches: 5 for the list, 7 for the trace, 14 for the count, before all that comes
+/// after them.
+#[test]
+fn more_batches_than_a_season() {
+    let z = table(0, 0);
+    let taps = vec![0; 12 * (1 << 19) + 4];
+    let refused = Err(Refusal::TapLength);
+    assert_eq!(chain(&z, &taps), refused);
+    assert_eq!(build(&z, &taps, &mut []), refused);
+    assert_eq!(pack(&taps, [P; 4], &mut []), Err(Refusal::TapLength));
+    let packed = pack_short(&taps, [P; 4], &mut []);
+    assert_eq!(packed, Err(Refusal::TapLength));
+
+    let mut trace = vec![0; 384 << 19];
+    let refused = check(&z, &trace, [P; 4], 0);
+    assert_eq!(refused, Err(Refusal::TraceLength));
+    let refused = read_off(&z, &trace, [P; 4], 0, &mut []);
+    assert_eq!(refused, Err(Refusal::TraceLength));
+    let refused = edit(&z, &mut trace, [P; 4], 0, usize::MAX, [P; 4]);
+    assert_eq!(refused, Err(Refusal::TraceLength));
+
+    let mut file = bytes(&[0x2008_0000]);
+    file.resize(48 * (1 << 19) + 36, 0);
+    let value = Refusal::WrongValue { word: 0 };
+    assert_eq!(unpack_short(&file, &mut []), Err(value));
+    assert_eq!(to_full(&file, &mut []), Err(value));
 }

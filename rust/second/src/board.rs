@@ -1,4 +1,5 @@
-//! The board file (document 01, "The board file").
+//! The board file (document 01, "The board file"), which document 02 calls its full
+//! edition.
 
 use crate::constraints::test_claim;
 use crate::field::P;
@@ -9,7 +10,9 @@ use crate::refusal::Refusal;
 pub const PAYLOAD_BITS: u32 = 30;
 const PAYLOAD_MASK: u32 = (1 << PAYLOAD_BITS) - 1;
 /// Bits 0 to 15 of word 0 hold k.
-const K_MASK: u32 = 0xffff;
+const K_BITS: u32 = 16;
+/// The most batches of a full file, fewer than elsewhere (document 02, U9).
+pub const MOST_FULL_BATCHES: usize = 1024;
 
 /// Bytes of the file of k batches: word 0, then claim and taps, three words an
 /// element.
@@ -17,9 +20,10 @@ pub fn file_bytes(k: usize) -> usize {
     4 * (1 + 3 * (TAP + list_words(k)))
 }
 
-/// Pack: 5, 8, 9, 6. No table, no hash.
+/// Pack: 5, 8, 9, 6. No table, no hash. A list of more than 1024 batches gets 5 here.
 pub fn pack(taps: &[u64], claim: [u64; TAP], destination: &mut [u8]) -> Result<(), Refusal> {
-    let k = k_of_list(taps.len()).ok_or(Refusal::TapLength)?;
+    let k = k_of_list(taps.len()).filter(|&k| k <= MOST_FULL_BATCHES);
+    let k = k.ok_or(Refusal::TapLength)?;
     if destination.len() != file_bytes(k) {
         return Err(Refusal::DestinationLength);
     }
@@ -39,7 +43,7 @@ pub fn unpack(file: &[u8], destination: &mut [u64]) -> Result<[u64; TAP], Refusa
     if file.len() < 4 {
         return Err(Refusal::FileLength);
     }
-    let k = test_k(read_payload(file, 0, 0)?)?;
+    let k = test_full_head(read_payload(file, 0, 0)?)?;
     if file.len() != file_bytes(k) {
         return Err(Refusal::FileLength);
     }
@@ -78,11 +82,26 @@ pub fn bytes_of(words: &[u32]) -> Vec<u8> {
     words.iter().flat_map(|word| word.to_le_bytes()).collect()
 }
 
-/// The k in what is below word 0's kind; 14 when another bit is set, or k is not
-/// permitted.
-pub fn test_k(payload: u32) -> Result<usize, Refusal> {
-    if payload & !K_MASK == 0 && is_permitted(payload as usize) {
-        Ok(payload as usize)
+/// The k in what is below a full file's kind of word 0; 14 when a bit above k is set, or
+/// the edition has no such k.
+pub fn test_full_head(payload: u32) -> Result<usize, Refusal> {
+    test_full_k(test_k(payload, K_BITS)?)
+}
+
+/// The k in the lowest `bits` bits; 14 when another bit is set, or k is not permitted.
+pub fn test_k(payload: u32, bits: u32) -> Result<usize, Refusal> {
+    let k = payload as usize;
+    if payload >> bits == 0 && is_permitted(k) {
+        Ok(k)
+    } else {
+        Err(Refusal::Value { word: 0 })
+    }
+}
+
+/// A permitted k; 14 when it is above that of any full file.
+pub fn test_full_k(k: usize) -> Result<usize, Refusal> {
+    if k <= MOST_FULL_BATCHES {
+        Ok(k)
     } else {
         Err(Refusal::Value { word: 0 })
     }

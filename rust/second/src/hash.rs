@@ -1,4 +1,4 @@
-//! Hash and chain (document 01, "Hash and chain"; document 02, U3; 004,
+//! Hash and chain (document 01, "Hash and chain"; document 02, U3 and U9; 004,
 //! Algorithm 1 and equation (1)).
 
 use crate::field::{add, cube, first_not_canonical, mul, root};
@@ -11,15 +11,15 @@ pub const TAP: usize = 4;
 pub const ROUNDS: usize = 10;
 /// Hashes of a batch.
 pub const HASHES: usize = 3;
-/// The largest permitted k.
-pub const LARGEST_K: usize = 1024;
+/// The most batches, which is the largest permitted k (document 02, U9).
+pub const MOST_BATCHES: usize = 1 << 18;
 
 /// The twelve cells of a hash under way, and of its final state.
 pub type State = [u64; CELLS];
 
-/// Is k permitted: from 1 to 1024, with exactly one set bit?
+/// Is k permitted: from 1 to 2^18, with exactly one set bit?
 pub fn is_permitted(k: usize) -> bool {
-    (1..=LARGEST_K).contains(&k) && k.count_ones() == 1
+    (1..=MOST_BATCHES).contains(&k) && k.count_ones() == 1
 }
 
 /// Words of a list of 3k + 1 taps.
@@ -29,7 +29,8 @@ pub fn list_words(k: usize) -> usize {
 
 /// The permitted k whose lists have this many words.
 pub fn k_of_list(words: usize) -> Option<usize> {
-    (1..=LARGEST_K).find(|&k| is_permitted(k) && list_words(k) == words)
+    let k = words / (TAP * HASHES); // 12k + 4 words, of which the division leaves 4
+    (is_permitted(k) && list_words(k) == words).then_some(k)
 }
 
 /// The state before the first round: (left, right, four zeros) plus K_0.

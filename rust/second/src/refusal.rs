@@ -14,7 +14,8 @@ pub enum Refusal {
     /// 4: M times the stored inverse is unlike the identity; 12 x row + column
     /// of the first such cell.
     InverseCell { cell: u64 },
-    /// 5: the tap list is not 12k + 4 words with k permitted.
+    /// 5: the tap list is not 12k + 4 words with k permitted, or for a full file with k
+    /// above 1024 (document 02, U9).
     TapLength,
     /// 6: a tap word, or a cell lent to Unhash, is not canonical; the lowest index.
     TapWord { index: u64 },
@@ -39,8 +40,8 @@ pub enum Refusal {
     FileLength,
     /// 13: a file word has the wrong kind; its index in 32-bit words.
     Kind { word: u64 },
-    /// 14: spare bits, a file of the other edition or a k not permitted (index 0), or
-    /// an element that is not canonical (its first word).
+    /// 14: spare bits, a file of the other edition, a k not permitted or too large for a
+    /// full file (index 0), or an element that is not canonical (its first word).
     Value { word: u64 },
     /// 15: the tap number is above 3k.
     NoSuchTap,

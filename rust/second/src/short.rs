@@ -1,4 +1,4 @@
-//! The short edition of the board file (document 02, U7).
+//! The short edition of the board file (document 02, U7 and U9).
 
 use crate::board::{
     bytes_of, element_words, join, kind, read_element, read_payload, read_word, test_k,
@@ -10,6 +10,8 @@ use crate::refusal::Refusal;
 
 /// Bit 29 of word 0.
 pub const MARK: u32 = 1 << 29;
+/// Bits 0 to 19 of word 0 hold k (document 02, U9); 20 to 28 are zero.
+const SHORT_K_BITS: u32 = 20;
 
 /// Bytes of the file: word 0, then what the elements need. One that is not canonical is
 /// above 2^30, so that it counts as three words.
@@ -39,11 +41,7 @@ pub fn pack_short(taps: &[u64], claim: [u64; TAP], destination: &mut [u8]) -> Re
 /// by element 12 where the file ends, 13, 14, 18, then 12 for bytes after the last.
 /// Writes the taps and returns the claim.
 pub fn unpack_short(file: &[u8], destination: &mut [u64]) -> Result<[u64; TAP], Refusal> {
-    let head = read_payload(file, 0, 0)?;
-    if !is_marked(head) {
-        return Err(Refusal::Value { word: 0 });
-    }
-    let k = test_k(head & !MARK)?;
+    let k = test_short_head(read_payload(file, 0, 0)?)?;
     if destination.len() != list_words(k) {
         return Err(Refusal::DestinationLength);
     }
@@ -64,6 +62,16 @@ pub fn unpack_short(file: &[u8], destination: &mut [u64]) -> Result<[u64; TAP], 
 /// Is word 0 that of a short file?
 pub fn is_marked(head: u32) -> bool {
     head & MARK != 0
+}
+
+/// The k in what is below a short file's kind of word 0; 14 when the mark is not set or a
+/// bit between it and k is, or k is not permitted.
+pub fn test_short_head(payload: u32) -> Result<usize, Refusal> {
+    if is_marked(payload) {
+        test_k(payload & !MARK, SHORT_K_BITS)
+    } else {
+        Err(Refusal::Value { word: 0 })
+    }
 }
 
 /// Is it an element of one word?

@@ -1,8 +1,7 @@
 //! The trace (document 01, "The trace"; 004, 3.1).
 
 use crate::hash::{
-    input, is_permitted, k_of_list, output, rounds, start, tap, test_tap_words, HASHES, LARGEST_K,
-    TAP,
+    input, is_permitted, k_of_list, output, rounds, start, tap, test_tap_words, HASHES, TAP,
 };
 use crate::refusal::Refusal;
 use crate::table::{Table, CELLS};
@@ -19,7 +18,8 @@ pub fn trace_words(k: usize) -> usize {
 
 /// The permitted k whose traces have this many words.
 pub fn k_of_trace(words: usize) -> Option<usize> {
-    (1..=LARGEST_K).find(|&k| is_permitted(k) && trace_words(k) == words)
+    let k = words / BATCH;
+    (is_permitted(k) && trace_words(k) == words).then_some(k)
 }
 
 /// Build: 1, 2, 4, 5, 8, 6. Writes the trace and returns the chain's output.

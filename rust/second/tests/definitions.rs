@@ -7,6 +7,8 @@ mod common;
 use common::*;
 use second::constraints::{tests, Test};
 use second::field::{self, P};
+use second::hash::{is_permitted, k_of_list};
+use second::trace::k_of_trace;
 use second::{
     build, chain, check, edit, hash, pack, pack_short, prepare, read_off, to_full, to_short,
     unhash, unpack, unpack_short, Refusal,
@@ -432,38 +434,61 @@ fn edits_there_and_back() {
     }
 }
 
+/// More than 1024 batches (document 02, U9), with claims that end after more, too.
 #[test]
-fn the_largest_permitted_k() {
+fn a_trace_of_2048_batches() {
     let mut random = Random(8);
     let table = prepared(&random_raw(&mut random));
-    let taps = random.canonicals(12292);
-    let mut trace = vec![7; 384 * 1024];
+    let taps = random.canonicals(24580);
+    let mut trace = vec![7; 384 * 2048];
     let claim = build(&table, &taps, &mut trace).expect("builds");
-    let mut read = vec![7; 12292];
-    let answer = read_off(&table, &trace, claim, 1024, &mut read);
-    assert_eq!(answer, Ok(372 * 1024));
+    let mut read = vec![7; 24580];
+    let answer = read_off(&table, &trace, claim, 2048, &mut read);
+    assert_eq!(answer, Ok(372 * 2048));
     assert_eq!(read, taps);
-    let row = 384 * 1024 - 12;
+    let row = 384 * 2048 - 12;
     trace[row] = (trace[row] + 1) % P;
     assert_eq!(
-        check(&table, &trace, claim, 1024),
+        check(&table, &trace, claim, 2048),
         Err(Refusal::Constraint {
-            row: 32 * 1024 - 2,
+            row: 32 * 2048 - 2,
             constraint: 33,
-            tests: 372 * 1024 - 4 - 11,
+            tests: 372 * 2048 - 4 - 11,
         })
     );
     // Under a claim that ends earlier the last row has no test of its own.
-    let row_31 = 384 * 513 - 12;
+    let row_31 = 384 * 1025 - 12;
     let claim = trace[row_31..row_31 + 4].try_into().expect("four words");
     assert_eq!(
-        check(&table, &trace, claim, 513),
+        check(&table, &trace, claim, 1025),
         Err(Refusal::Constraint {
-            row: 32 * 1024 - 2,
+            row: 32 * 2048 - 2,
             constraint: 33,
-            tests: 372 * 1024 - 11,
+            tests: 372 * 2048 - 11,
         })
     );
+}
+
+/// "Permit k to 2^18": every number to 2^20, and every length of a list and of a trace
+/// of fewer than 4096 batches, and beside those of more.
+#[test]
+fn permitted_counts_and_their_lengths() {
+    let all: Vec<usize> = permitted().collect();
+    let found: Vec<usize> = (0..=1 << 20).filter(|&k| is_permitted(k)).collect();
+    assert_eq!(found, all);
+    assert!((20..64).all(|bit| !is_permitted(1 << bit)));
+    let list = |words: usize| all.iter().copied().find(|k| 12 * k + 4 == words);
+    let trace = |words: usize| all.iter().copied().find(|k| 384 * k == words);
+    let beside = |exact: usize| exact - 400..exact + 400;
+    let lists = (12..21).flat_map(|bit| beside((12 << bit) + 4));
+    for words in (0..12 * 4096).chain(lists) {
+        assert_eq!(k_of_list(words), list(words), "{words}");
+    }
+    let traces = (12..21).flat_map(|bit| beside(384 << bit));
+    for words in (0..384 * 4096).chain(traces).chain([usize::MAX]) {
+        assert_eq!(k_of_trace(words), trace(words), "{words}");
+    }
+    assert_eq!(k_of_list(usize::MAX), None);
 }
 
 /// Every k up to 8 with every c from 1 to k. Row 31 of batch c - 1 has four tests more
@@ -561,7 +586,7 @@ fn day_of_any_widths(random: &mut Random, k: usize) -> (Vec<u64>, [u64; 4]) {
 #[test]
 fn short_files_there_and_back() {
     let mut random = Random(20);
-    for k in [1, 2, 16, 1024] {
+    for k in [1, 2, 16, 1024, 2048, 4096] {
         let (taps, claim) = day_of_any_widths(&mut random, k);
         let mut words = vec![(1 << 29) + k as u64];
         for &element in claim.iter().chain(&taps) {
@@ -576,8 +601,6 @@ fn short_files_there_and_back() {
         assert_eq!(read, taps);
     }
 }
-
-const PERMITTED: [usize; 11] = [1, 2, 4, 8, 16, 32, 64, 128, 256, 512, 1024];
 
 /// Words of kinds 1 and 2 that are empty.
 const EMPTY: [u8; 8] = [0, 0, 0, 0x40, 0, 0, 0, 0x80];
@@ -629,7 +652,7 @@ fn small_elements(taps: &[u64], claim: [u64; 4]) -> usize {
 #[test]
 fn short_files_from_full_ones_and_back() {
     let mut random = Random(21);
-    for k in PERMITTED {
+    for k in IN_FULL {
         let (taps, claim) = day_of_any_widths(&mut random, k);
         let (full, short) = (full_file(&taps, claim), short_file(&taps, claim));
         assert_eq!(full.len(), 144 * k + 100);
@@ -704,11 +727,12 @@ fn one_short_file_for_each_claim_and_list() {
     assert!(accepted >= 30 * small, "{accepted}");
 }
 
-/// Days of every permitted k: both converters against what is done to the words.
+/// Days of every k of the full edition: both converters against what is done to the
+/// words.
 #[test]
 fn conversions_on_words() {
     let mut random = Random(24);
-    for k in PERMITTED {
+    for k in IN_FULL {
         for _ in 0..4 {
             let (taps, claim) = day_of_any_widths(&mut random, k);
             let elements = claim.iter().chain(&taps);
@@ -725,10 +749,11 @@ fn conversions_on_words() {
 }
 
 /// "Same claim, same taps, other edition, and there and back gives the starting bytes."
+/// A larger short file has no full form.
 #[test]
 fn conversions_there_and_back() {
     let mut random = Random(25);
-    for k in PERMITTED {
+    for k in IN_FULL {
         let (taps, claim) = day_of_any_widths(&mut random, k);
         let (full, short) = (full_file(&taps, claim), short_file(&taps, claim));
         let mut read = vec![7; 12 * k + 4];
@@ -771,14 +796,17 @@ fn lengths_of_conversions() {
     }
 }
 
-/// Room for as many taps as bits 0 to 15 of word 0 say, so that a reader has no 8 to
-/// give: where these bits are no permitted k, it comes to its 14 before.
+/// Room for as many taps as bits 0 to 19 of word 0 say, so that a reader has no 8 to
+/// give: the full one comes to a 14 before where bits 16 to 19 are set. Zeros, which take
+/// no memory before they are written.
 fn room_for_taps(file: &[u8]) -> Vec<u64> {
     let k = match file {
-        [low, high, _, _, ..] => usize::from(*low) + 256 * usize::from(*high),
+        [low, high, upper, _, ..] => {
+            usize::from(*low) + 256 * usize::from(*high) + 65536 * usize::from(*upper & 0xF)
+        }
         _ => 0,
     };
-    vec![7; 12 * k + 4]
+    vec![0; 12 * k + 4]
 }
 
 /// The full reader's refusal, or the short file of what it reads.
@@ -788,11 +816,21 @@ fn short_by_reader(file: &[u8]) -> Result<Vec<u8>, Refusal> {
     Ok(short_file(&taps, claim))
 }
 
-/// The short reader's refusal, or the full file of what it reads.
+/// The short reader's refusal, or the full file of what it reads. In between, 14 where
+/// word 0 is in order and has more batches than any full file.
 fn full_by_reader(short_file: &[u8]) -> Result<Vec<u8>, Refusal> {
+    let larger = |head: &[u8]| LARGER.iter().any(|&k| head == short_head(k));
+    if short_file.get(..4).is_some_and(larger) {
+        return Err(Refusal::Value { word: 0 });
+    }
     let mut taps = room_for_taps(short_file);
     let claim = unpack_short(short_file, &mut taps)?;
     Ok(full_file(&taps, claim))
+}
+
+/// Word 0 of a short file, in bytes.
+fn short_head(k: usize) -> Vec<u8> {
+    low_byte_first(&[(1 << 29) + k as u64])
 }
 
 /// A converter with what must come of each file.
@@ -895,6 +933,10 @@ fn conversions_of_damaged_files() {
         for case in 0..6000 {
             let [full, short] = both_editions(&mut random, 1 << (case % 3));
             let mut file = if number == 0 { full } else { short };
+            if case % 16 == 0 {
+                let larger = short_head(LARGER[case / 16 % LARGER.len()]);
+                file.splice(..4, larger).for_each(drop);
+            }
             for _ in 0..case % 4 {
                 damage(&mut random, &mut file);
             }
@@ -913,4 +955,156 @@ fn conversions_of_damaged_files() {
         };
         assert_eq!(seen, every);
     }
+}
+
+/// What U7 read in word 0: kind 0, the mark, bits 16 to 28 zero, and a k of one set bit
+/// in bits 0 to 15, from 1 to 1024.
+fn k_by_u7(word: u32) -> Option<usize> {
+    let (kind, mark, spare) = (word >> 30, word >> 29 & 1, word >> 16 & 0x1FFF);
+    let k = (word & 0xFFFF) as usize;
+    let is_k = (1..=1024).contains(&k) && k.count_ones() == 1;
+    (kind == 0 && mark == 1 && spare == 0 && is_k).then_some(k)
+}
+
+/// What U7 read in a short file: claim and taps, as one list of elements.
+fn read_by_u7(file: &[u8]) -> Option<Vec<u64>> {
+    let (words, more) = file.as_chunks::<4>();
+    let words: Vec<u32> = words.iter().map(|&word| u32::from_le_bytes(word)).collect();
+    let (&head, mut rest) = words.split_first()?;
+    let mut elements = vec![];
+    for _ in 0..12 * k_by_u7(head)? + 8 {
+        let element;
+        (element, rest) = element_by_u7(rest)?;
+        elements.push(element);
+    }
+    (rest.is_empty() && more.is_empty()).then_some(elements)
+}
+
+/// The first element of these words, and those after it.
+fn element_by_u7(words: &[u32]) -> Option<(u64, &[u32])> {
+    let payload = |word: u32| (word & 0x3FFFFFFF) as u128;
+    match *words {
+        [word, ..] if word >> 30 == 3 => Some((payload(word) as u64, &words[1..])),
+        [high, middle, low, ..] if [high, middle, low].map(|word| word >> 30) == [1, 2, 3] => {
+            let element = (payload(high) << 60) + (payload(middle) << 30) + payload(low);
+            let needs_three = (1 << 30..P as u128).contains(&element);
+            needs_three.then_some((element as u64, &words[3..]))
+        }
+        _ => None,
+    }
+}
+
+/// What the reader takes, where there is room: claim and taps, as one list of elements.
+fn read_now(file: &[u8]) -> Option<Vec<u64>> {
+    let mut taps = room_for_taps(file);
+    let claim = unpack_short(file, &mut taps).ok()?;
+    Some([&claim[..], &taps].concat())
+}
+
+/// Words that may stand at the start of a file: each value of either half beside some of
+/// the other, each with at most three bits set, and others of few bits.
+fn words_0(random: &mut Random) -> Vec<u32> {
+    let mut words: Vec<u32> = (0..=0xFFFF)
+        .flat_map(|half: u32| [half, 0x20000000 + half, half << 16, 1 + (half << 16)])
+        .collect();
+    let bits = 0..32;
+    for one in bits.clone() {
+        for two in bits.clone() {
+            words.extend(bits.clone().map(|three| 1 << one | 1 << two | 1 << three));
+        }
+    }
+    for _ in 0..50_000 {
+        let few = random.word() & random.word() & random.word();
+        words.push(few as u32);
+        words.push(few as u32 & 0x1FFFFFFF | 0x20000000);
+    }
+    words.sort();
+    words.dedup();
+    words
+}
+
+/// "Short files already stored keep their meaning byte for byte." Of all words 0 that U7
+/// took, each has its file with the same claim and taps, and that file is written still;
+/// of the others, those are taken now that have one of bits 11 to 18.
+#[test]
+fn short_files_already_stored() {
+    let mut random = Random(30);
+    let days = IN_FULL.map(|k| day_of_any_widths(&mut random, k));
+    let mut taken = 0;
+    for word in words_0(&mut random) {
+        let head = low_byte_first(&[word as u64]);
+        let Some(k) = k_by_u7(word) else {
+            let answer = unpack_short(&head, &mut []).expect_err("no room");
+            let is_k = answer == Refusal::DestinationLength;
+            let larger = LARGER.iter().any(|&k| head == short_head(k));
+            assert_eq!(is_k, larger, "{word:08x}");
+            continue;
+        };
+        let (taps, claim) = &days[k.ilog2() as usize];
+        let file = [&head, &short_file(taps, *claim)[4..]].concat();
+        let elements = [&claim[..], taps].concat();
+        assert_eq!(read_by_u7(&file), Some(elements.clone()), "{word:08x}");
+        assert_eq!(read_now(&file), Some(elements), "{word:08x}");
+        assert_eq!(short_file(taps, *claim), file, "{word:08x}");
+        taken += 1;
+    }
+    assert_eq!(taken, 11);
+}
+
+/// Damaged files that U7 took are taken with the same claim and taps, and the others are
+/// not: with more batches in word 0, they end too early.
+#[test]
+fn damaged_short_files_already_stored() {
+    let mut random = Random(31);
+    let (mut taken, mut refused) = (0, 0);
+    for case in 0..6000 {
+        let [_, mut file] = both_editions(&mut random, 1 << (case % 3));
+        if case % 16 == 0 {
+            let larger = short_head(LARGER[case / 16 % LARGER.len()]);
+            file.splice(..4, larger).for_each(drop);
+        }
+        for _ in 0..case % 4 {
+            damage(&mut random, &mut file);
+        }
+        let elements = read_by_u7(&file);
+        assert_eq!(read_now(&file), elements, "{file:x?}");
+        match elements {
+            Some(_) => taken += 1,
+            None => refused += 1,
+        }
+    }
+    assert!(taken > 1000 && refused > 1000, "{taken}, {refused}");
+}
+
+/// The uniqueness of files above 1024 batches: a file with each bit of word 0 changed,
+/// and with other bits changed and words left out or twice, here and there. What is
+/// accepted is what the writer makes of it.
+#[test]
+fn one_short_file_of_2048_batches() {
+    let mut random = Random(32);
+    let (taps, claim) = day_of_any_widths(&mut random, 2048);
+    let file = short_file(&taps, claim);
+    let mut others: Vec<Vec<u8>> = changed_bits(&file).take(32).collect();
+    for _ in 0..100 {
+        let byte = random.word() as usize % file.len();
+        let mut other = file.clone();
+        other[byte] ^= 1 << (random.word() % 8);
+        others.push(other);
+        let word = random.word() as usize % (file.len() / 4);
+        let (before, from) = file.split_at(4 * word);
+        others.push([before, &from[4..]].concat());
+        others.push([before, &from[..4], from].concat());
+    }
+    let mut accepted = 0;
+    let mut read = vec![7; 24580];
+    for other in others {
+        let Ok(claimed) = unpack_short(&other, &mut read) else {
+            continue;
+        };
+        assert!((claimed, &read) != (claim, &taps));
+        assert!(short_file(&read, claimed) == other);
+        accepted += 1;
+    }
+    // A bit of an element below its kind, as most of the 100 are.
+    assert!((50..=100).contains(&accepted), "{accepted}");
 }

@@ -2,8 +2,9 @@
 //! expected values stand in document 01, and the count 362 in document 02, U4; the
 //! other counts, what edits answer and leave, cells 4 to 11 of the hashes (document
 //! 02, U3), the pairs that end in a state (U5), claims that end before the rows do
-//! (U6), short files (U7), and their conversion from and to full ones (U8), are worked
-//! out by hand from its definitions.
+//! (U6), short files (U7), their conversion from and to full ones (U8), and those of
+//! more than 1024 batches (U9), are worked out by hand from its definitions. That 24580
+//! words get 5 is true of the full writer alone since U9.
 
 mod common;
 use common::*;
@@ -359,7 +360,7 @@ fn outputs_of_edits_for_each_c() {
 
 #[test]
 fn lengths_of_tap_lists() {
-    for words in [0, 15, 40, 24580] {
+    for words in [0, 15, 40] {
         let taps = vec![0; words];
         assert_eq!(chain(&z(), &taps), Err(Refusal::TapLength), "{words}");
         let built = build(&z(), &taps, &mut [0; 384]);
@@ -369,17 +370,43 @@ fn lengths_of_tap_lists() {
         let packed = pack_short(&taps, NO_CLAIM, &mut [0; 84]);
         assert_eq!(packed, Err(Refusal::TapLength), "{words}");
     }
-    for (words, k) in [(16, 1), (12292, 1024)] {
+    for (words, k, packed) in [
+        (16, 1, Ok(())),
+        (12292, 1024, Ok(())),
+        (24580, 2048, Err(Refusal::TapLength)),
+    ] {
         let taps = vec![0; words];
         assert_eq!(chain(&z(), &taps), Ok(NO_CLAIM), "{words}");
         let mut trace = vec![7; 384 * k];
         assert_eq!(build(&z(), &taps, &mut trace), Ok(NO_CLAIM), "{words}");
         assert_eq!(trace, vec![0; 384 * k]);
         let mut file = vec![7; 144 * k + 100];
-        assert_eq!(pack(&taps, NO_CLAIM, &mut file), Ok(()), "{words}");
+        assert_eq!(pack(&taps, NO_CLAIM, &mut file), packed, "{words}");
         let mut file = vec![7; 48 * k + 36];
         assert_eq!(pack_short(&taps, NO_CLAIM, &mut file), Ok(()), "{words}");
     }
+}
+
+/// Under Z zeros are a trace of any k. The claim's tests come last with c = k, and with
+/// c = 1025 right after the 372 of the first 1025 batches; the last tap is w_6144.
+#[test]
+fn the_zero_trace_of_2048_batches() {
+    let mut trace = vec![0; 786432];
+    for c in [1025, 2048] {
+        assert_eq!(check(&z(), &trace, NO_CLAIM, c), Ok(761856), "{c}");
+    }
+    let refused = check(&z(), &trace, [1, 0, 0, 0], 2048);
+    assert_eq!(failed_at(refused), (65535, 49, 761853));
+    let refused = check(&z(), &trace, [1, 0, 0, 0], 1025);
+    assert_eq!(failed_at(refused), (32799, 49, 381301));
+    let edited = edit(&z(), &mut trace, NO_CLAIM, 2048, 6145, [5; 4]);
+    assert_eq!(edited, Err(Refusal::NoSuchTap));
+    let edited = edit(&z(), &mut trace, NO_CLAIM, 2048, 6144, [8; 4]);
+    assert_eq!(edited, Ok(NO_CLAIM));
+    // Row 21 of the last batch is the first that it touches, with the root of 8.
+    let row = 12 * (32 * 2047 + 21);
+    assert!(trace[..row].iter().all(|&cell| cell == 0));
+    assert_eq!(trace[row..row + 12], [0, 0, 0, 0, 2, 2, 2, 2, 0, 0, 0, 0]);
 }
 
 #[test]
@@ -515,8 +542,9 @@ fn a_short_file_of_both_widths() {
     assert_eq!(taps, elements[4..]);
 }
 
-/// k, word 0 and the bytes of the short file of zeros.
-const SHORT_DAYS: [(usize, u32, usize); 11] = [
+/// k, word 0 and the bytes of the short file of zeros. The first eleven are those of the
+/// full edition.
+const SHORT_DAYS: [(usize, u32, usize); 19] = [
     (1, 0x20000001, 84),
     (2, 0x20000002, 132),
     (4, 0x20000004, 228),
@@ -528,23 +556,36 @@ const SHORT_DAYS: [(usize, u32, usize); 11] = [
     (256, 0x20000100, 12324),
     (512, 0x20000200, 24612),
     (1024, 0x20000400, 49188),
+    (2048, 0x20000800, 98340),
+    (4096, 0x20001000, 196644),
+    (8192, 0x20002000, 393252),
+    (16384, 0x20004000, 786468),
+    (32768, 0x20008000, 1572900),
+    (65536, 0x20010000, 3145764),
+    (131072, 0x20020000, 6291492),
+    (262144, 0x20040000, 12582948),
 ];
 
-/// Zeros have 4 bytes each, and 48k + 36 with word 0; where each element is p - 1, the
-/// short file is as long as the full one.
+/// Zeros have 4 bytes each, and 48k + 36 with word 0.
 #[test]
-fn short_files_of_every_k() {
+fn short_files_of_zeros_of_every_k() {
     for (k, head, length) in SHORT_DAYS {
         let mut words: Vec<u32> = vec![head];
         words.resize(length / 4, 0xC0000000);
         let mut file = vec![7; length];
         let packed = pack_short(&vec![0; 12 * k + 4], NO_CLAIM, &mut file);
         assert_eq!(packed, Ok(()), "{k}");
-        assert_eq!(file, bytes(&words), "{k}");
+        assert!(file == bytes(&words), "{k}");
         let mut taps = vec![7; 12 * k + 4];
         assert_eq!(unpack_short(&file, &mut taps), Ok(NO_CLAIM), "{k}");
-        assert_eq!(taps, vec![0; 12 * k + 4], "{k}");
+        assert!(taps == vec![0; 12 * k + 4], "{k}");
+    }
+}
 
+/// Where each element is p - 1, the short file is as long as the full one.
+#[test]
+fn short_files_without_a_small_element() {
+    for (k, head, _) in SHORT_DAYS.into_iter().take_while(|day| day.0 <= 4096) {
         let mut words: Vec<u32> = vec![head];
         for _ in 0..12 * k + 8 {
             words.extend([0x40000002, 0x80000050, 0xC0000000]);
@@ -553,10 +594,51 @@ fn short_files_of_every_k() {
         let mut file = vec![7; 144 * k + 100];
         let packed = pack_short(&largest, [P - 1; 4], &mut file);
         assert_eq!(packed, Ok(()), "{k}");
-        assert_eq!(file, bytes(&words), "{k}");
+        assert!(file == bytes(&words), "{k}");
+        let mut taps = vec![7; 12 * k + 4];
         assert_eq!(unpack_short(&file, &mut taps), Ok([P - 1; 4]), "{k}");
-        assert_eq!(taps, largest, "{k}");
+        assert!(taps == largest, "{k}");
     }
+}
+
+/// From 2048 batches on there is no full file: none is read, none written, and a short
+/// one is not converted, be it of zeros or of p - 1.
+#[test]
+fn no_full_files_of_more_than_1024_batches() {
+    for (k, head, length) in SHORT_DAYS[11..13].iter().copied() {
+        let refused = Err(Refusal::Value { word: 0 });
+        let mut short = vec![head];
+        short.resize(length / 4, 0xC0000000);
+        let answer = converted(to_full, &bytes(&short), 144 * k + 100);
+        assert_eq!(answer, refused, "{k}");
+        let mut short = vec![head];
+        short.extend([0x40000002, 0x80000050, 0xC0000000].repeat(12 * k + 8));
+        let answer = converted(to_full, &bytes(&short), 144 * k + 100);
+        assert_eq!(answer, refused, "{k}");
+
+        let mut full = vec![head - 0x20000000];
+        full.extend([0x40000000, 0x80000000, 0xC0000000].repeat(12 * k + 8));
+        assert_eq!(4 * full.len(), 144 * k + 100);
+        let answer = unpack(&bytes(&full), &mut vec![7; 12 * k + 4]);
+        assert_eq!(answer, Err(Refusal::Value { word: 0 }), "{k}");
+        let answer = converted(to_short, &bytes(&full), length);
+        assert_eq!(answer, refused, "{k}");
+        let taps = vec![0; 12 * k + 4];
+        let packed = pack(&taps, NO_CLAIM, &mut vec![7; 144 * k + 100]);
+        assert_eq!(packed, Err(Refusal::TapLength), "{k}");
+    }
+}
+
+/// 2^19 is no count in the short edition either, as long as its file may be.
+#[test]
+fn no_file_of_524288_batches() {
+    let taps = vec![0; 6291460];
+    let packed = pack_short(&taps, NO_CLAIM, &mut vec![7; 25165860]);
+    assert_eq!(packed, Err(Refusal::TapLength));
+    let mut file = bytes(&[0x20080000]);
+    file.resize(25165860, 0xC0);
+    let answer = unpack_short(&file, &mut vec![0; 6291460]);
+    assert_eq!(answer, Err(Refusal::Value { word: 0 }));
 }
 
 /// Each reader refuses the other edition on word 0. With the mark, the full file of
@@ -660,7 +742,7 @@ fn conversions_of_every_k() {
     let largest = [0x40000002, 0x80000050, 0xC0000000];
     let zero = ([0x40000000, 0x80000000, 0xC0000000], &[0xC0000000][..]);
     let largest = (largest, &largest[..]);
-    for (k, head, length) in SHORT_DAYS {
+    for (k, head, length) in SHORT_DAYS[..11].iter().copied() {
         for (claim, taps, short_length) in [
             (zero, zero, length),
             (largest, zero, 48 * k + 68),

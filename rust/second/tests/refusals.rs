@@ -487,6 +487,129 @@ fn tap_numbers() {
     }
 }
 
+/// Zeros of so many words, of which a call reads few: pages that nobody writes to take
+/// no memory.
+fn zeros(words: usize) -> Vec<u64> {
+    vec![0; words]
+}
+
+/// Traces of every permitted k pass 7, and no others do: what is answered is the refusal
+/// that comes next, or 7 with all that comes next wrong (document 02, U9).
+#[test]
+fn lengths_of_traces() {
+    let mut words = zeros(384 << 19);
+    for k in permitted() {
+        let trace = &mut words[..384 * k];
+        for c in [0, k + 1] {
+            let refused = Err(Refusal::ClaimBatches);
+            assert_eq!(check(&z(), trace, [P; 4], c), refused, "c = {c}, k = {k}");
+        }
+        for c in [1, k] {
+            let refused = Err(Refusal::ClaimWord { index: 3 });
+            let answer = check(&z(), trace, [0, 0, 0, P], c);
+            assert_eq!(answer, refused, "c = {c}, k = {k}");
+            let answer = read_off(&z(), trace, [P; 4], c, &mut [7; 15]);
+            assert_eq!(answer, Err(Refusal::DestinationLength), "k = {k}");
+            let answer = read_off(&z(), trace, [0, 0, 0, P], c, &mut zeros(12 * k + 4));
+            assert_eq!(answer, refused, "c = {c}, k = {k}");
+            let answer = edit(&z(), trace, [P; 4], c, 3 * k + 1, [P; 4]);
+            assert_eq!(answer, Err(Refusal::NoSuchTap), "k = {k}");
+            let answer = edit(&z(), trace, [0, P, 0, 0], c, 3 * k, [P; 4]);
+            let refused = Err(Refusal::ClaimWord { index: 1 });
+            assert_eq!(answer, refused, "c = {c}, k = {k}");
+        }
+    }
+    for k in NOT_PERMITTED.into_iter().chain(permitted()) {
+        for length in [384 * k, 384 * k + 1, 384 * k + 12, 384 * k + 383] {
+            let is_trace = length == 384 * k && permitted().any(|other| other == k);
+            if !is_trace && length <= words.len() {
+                trace_refused(&mut words[..length]);
+            }
+        }
+    }
+}
+
+fn trace_refused(trace: &mut [u64]) {
+    let refused = Err(Refusal::TraceLength);
+    let length = trace.len();
+    assert_eq!(check(&z(), trace, [P; 4], 0), refused, "{length}");
+    let answer = read_off(&z(), trace, [P; 4], 0, &mut [7; 15]);
+    assert_eq!(answer, refused, "{length}");
+    let answer = edit(&z(), trace, [P; 4], 0, usize::MAX, [P; 4]);
+    assert_eq!(answer, Err(Refusal::TraceLength), "{length}");
+}
+
+/// The first word of the largest trace is not canonical, or makes the first test fail.
+#[test]
+fn words_and_tests_of_262144_batches() {
+    let k = 262144;
+    let mut trace = zeros(384 * k);
+    for c in [1, k] {
+        trace[0] = P;
+        let refused = Err(Refusal::TraceWord { index: 0 });
+        assert_eq!(check(&z(), &trace, [0; 4], c), refused, "{c}");
+        trace[0] = 1;
+        let refused = check(&z(), &trace, [0; 4], c);
+        assert_eq!(failed_at(refused), (0, 9, 5), "{c}");
+        trace[0] = 0;
+    }
+    let last = trace.len() - 1;
+    trace[last] = P;
+    let refused = Err(Refusal::TraceWord { index: 100663295 });
+    assert_eq!(check(&z(), &trace, [0; 4], k), refused);
+}
+
+/// Lists of every permitted k pass 5, in the full writer those up to 1024, and no others
+/// do: what is answered is the refusal that comes next, or 5 with all that comes next
+/// wrong.
+#[test]
+fn lengths_of_lists() {
+    let mut words = zeros((12 << 19) + 4);
+    words[0] = P;
+    let tap_word = Refusal::TapWord { index: 0 };
+    for k in permitted() {
+        let taps = &words[..12 * k + 4];
+        assert_eq!(chain(&z(), taps), Err(tap_word), "{k}");
+        let no_room = Refusal::DestinationLength;
+        assert_eq!(build(&z(), taps, &mut [7; 383]), Err(no_room), "{k}");
+        let answer = build(&z(), taps, &mut zeros(384 * k));
+        assert_eq!(answer, Err(tap_word), "{k}");
+
+        let (claim, claim_word) = ([0, P, 0, 0], Refusal::ClaimWord { index: 1 });
+        assert_eq!(pack_short(taps, claim, &mut [7; 83]), Err(no_room), "{k}");
+        let mut file = vec![0; 48 * k + 52]; // p has 12 bytes, here and in the claim
+        assert_eq!(pack_short(taps, claim, &mut file), Err(claim_word), "{k}");
+        let mut file = vec![0; 48 * k + 44];
+        assert_eq!(pack_short(taps, [0; 4], &mut file), Err(tap_word), "{k}");
+
+        let length = Refusal::TapLength;
+        let is_full = IN_FULL.contains(&k);
+        let refusal = if is_full { no_room } else { length };
+        assert_eq!(pack(taps, claim, &mut [7; 243]), Err(refusal), "{k}");
+        let refusal = if is_full { claim_word } else { length };
+        let answer = pack(taps, claim, &mut vec![0; 144 * k + 100]);
+        assert_eq!(answer, Err(refusal), "{k}");
+    }
+    for k in NOT_PERMITTED.into_iter().chain(permitted()) {
+        for length in [12 * k, 12 * k + 3, 12 * k + 4, 12 * k + 5, 12 * k + 8] {
+            let is_list = length == 12 * k + 4 && permitted().any(|other| other == k);
+            if !is_list && length <= words.len() {
+                list_refused(&words[..length]);
+            }
+        }
+    }
+}
+
+fn list_refused(taps: &[u64]) {
+    let (refused, length) = (Err(Refusal::TapLength), taps.len());
+    assert_eq!(chain(&z(), taps), refused, "{length}");
+    assert_eq!(build(&z(), taps, &mut [7; 383]), refused, "{length}");
+    let refused = Err(Refusal::TapLength);
+    assert_eq!(pack(taps, [P; 4], &mut [7; 243]), refused, "{length}");
+    let answer = pack_short(taps, [P; 4], &mut [7; 83]);
+    assert_eq!(answer, refused, "{length}");
+}
+
 /// A trace that is not accepted is refused by an edit that would change nothing
 /// too.
 #[test]
@@ -670,14 +793,14 @@ fn read_short(file: &[u8], destination: usize) -> Result<[u64; 4], Refusal> {
 #[test]
 fn unpack_short_12_13_14_8_then_each_element() {
     // Everything wrong from word 0 on, and more words than any short file has.
-    let mut words = vec![0x40010003];
+    let mut words = vec![0x40100003];
     words.extend([0; 99]);
     let run = |words: &[u32], destination: usize| read_short(&bytes(words), destination);
     let cut = bytes(&words)[..3].to_vec();
     assert_eq!(read_short(&cut, 15), Err(Refusal::FileLength));
     assert_eq!(run(&words, 15), Err(Refusal::Kind { word: 0 }));
-    // No mark, then a spare bit, then a k that is not permitted.
-    for head in [0x00000001, 0x20010001, 0x20000003] {
+    // No mark, then a spare bit, then a k that is not permitted: 3, 65537, 2^19.
+    for head in [0x00000001, 0x20100001, 0x20000003, 0x20010001, 0x20080000] {
         words[0] = head;
         assert_eq!(run(&words, 15), Err(Refusal::Value { word: 0 }));
     }
@@ -857,8 +980,8 @@ fn unpack_short_with_faults_together() {
     }
 }
 
-/// Bits 30 and 31 are its kind, 29 the mark, 16 to 28 spare. Where word 0 is right, what
-/// comes next is 8: no list has 15 words.
+/// Bits 30 and 31 are its kind, 29 the mark, 20 to 28 spare (document 02, U9). Where word
+/// 0 is right, what comes next is 8: no list has 15 words.
 #[test]
 fn word_0_of_a_short_file() {
     let refused = |head: u32| {
@@ -873,19 +996,68 @@ fn word_0_of_a_short_file() {
         let head = kind * 0x40000000;
         assert_eq!(refused(head), Refusal::Kind { word: 0 }, "{head:08x}");
     }
-    for exponent in 0..=10 {
-        let k = 1 << exponent;
+    for k in permitted().map(|k| k as u32) {
         let head = 0x20000000 + k;
         assert_eq!(refused(head), Refusal::DestinationLength, "{head:08x}");
         assert_eq!(refused(k), Refusal::Value { word: 0 }, "{k:08x}");
-        for bit in 16..29 {
+        for bit in 20..29 {
             let head = head + (1 << bit);
             assert_eq!(refused(head), Refusal::Value { word: 0 }, "{head:08x}");
         }
     }
-    for k in [0, 3, 5, 6, 1023, 1025, 2048, 4096, 32768, 65535] {
-        let head = 0x20000000 + k;
+    for k in NOT_PERMITTED {
+        let head = 0x20000000 + k as u32;
         assert_eq!(refused(head), Refusal::Value { word: 0 }, "{head:08x}");
+    }
+}
+
+/// Word 0 alone, with none of its bits 0 to 29 set, each one, and each two, beside the
+/// mark and without it. A k is one set bit: 0 to 18 beside the mark, in the full edition 0
+/// to 10 without it. What comes next is 8 in the short reader, else 12, since the file
+/// ends.
+#[test]
+fn every_one_and_two_bits_of_word_0() {
+    let pairs = (0..30).flat_map(|one| (one..30).map(move |two| 1 << one | 1 << two));
+    let heads: Vec<u32> = [0].into_iter().chain(pairs).collect();
+    assert_eq!(heads.len(), 1 + 30 + 30 * 29 / 2);
+    let marked = heads.iter().map(|head| 0x20000000 | head);
+    for head in marked.chain(heads.iter().copied()) {
+        word_0_alone(head);
+    }
+}
+
+/// What the readers and the converters answer to word 0 alone, of kind 0.
+fn word_0_alone(head: u32) {
+    let is_marked = head & 0x20000000 != 0;
+    let count = (head & 0x1FFFFFFF) as usize;
+    let is_k = permitted().any(|k| k == count);
+    let is_full_k = IN_FULL.contains(&count);
+    let (value, ends) = (Refusal::Value { word: 0 }, Refusal::FileLength);
+    let same = Refusal::SameEdition;
+
+    let file = head.to_le_bytes();
+    let short_reader = match (is_marked, is_k) {
+        (true, true) => Refusal::DestinationLength,
+        _ => value,
+    };
+    assert_eq!(read_short(&file, 15), Err(short_reader), "{head:08x}");
+    let full_reader = match (is_marked, is_full_k) {
+        (false, true) => ends,
+        _ => value,
+    };
+    let answer = unpack(&file, &mut [7; 15]);
+    assert_eq!(answer, Err(full_reader), "{head:08x}");
+    let conversions: [(Converter, bool); 2] = [(to_short, true), (to_full, false)];
+    for (convert, wanted) in conversions {
+        let refusal = match (is_marked == wanted, is_full_k) {
+            (true, _) => same,
+            (false, true) => ends,
+            (false, false) => value,
+        };
+        for room in [0, 4, 244] {
+            let answer = converted(convert, &file, room);
+            assert_eq!(answer, Err(refusal), "{head:08x}");
+        }
     }
 }
 
@@ -905,6 +1077,16 @@ fn destinations_of_a_short_reader() {
     assert_eq!(read_short(&bytes(&words), 28), Ok([0; 4]));
     words[0] = 0x20000001;
     assert_eq!(read_short(&bytes(&words), 16), Err(Refusal::FileLength));
+    for k in LARGER {
+        words[0] = 0x20000000 + k as u32;
+        for length in [0, 16, 28, 12292, 12 * k + 3, 12 * k + 5] {
+            let refused = Err(Refusal::DestinationLength);
+            let answer = unpack_short(&bytes(&words), &mut zeros(length));
+            assert_eq!(answer, refused, "{length}");
+        }
+        let answer = unpack_short(&bytes(&words), &mut zeros(12 * k + 4));
+        assert_eq!(answer, Err(Refusal::FileLength), "{k}");
+    }
 }
 
 /// The last element of three words, whose first is word 20.
@@ -977,15 +1159,17 @@ fn to_short_12_13_19_14_12_then_each_element_8() {
 fn to_full_12_13_19_14_then_each_element_12_8() {
     // Everything wrong from word 0 on, more words than any short file has, and a byte too
     // little room.
-    let mut words = vec![0x40010003];
+    let mut words = vec![0x40100003];
     words.extend([0; 99]);
     let run = |words: &[u32]| converted(to_full, &bytes(words), 243);
     let cut = bytes(&words)[..3].to_vec();
     assert_eq!(converted(to_full, &cut, 243), Err(Refusal::FileLength));
     assert_eq!(run(&words), Err(Refusal::Kind { word: 0 }));
-    words[0] = 0x00010003;
+    words[0] = 0x00100003;
     assert_eq!(run(&words), Err(Refusal::SameEdition));
-    for head in [0x20010003, 0x20010001, 0x20000003] {
+    // A spare bit and a k that is not permitted, each of them, then a k that a full file
+    // can't have.
+    for head in [0x20100003, 0x20100001, 0x20000003, 0x20000800, 0x20040000] {
         words[0] = head;
         assert_eq!(run(&words), Err(Refusal::Value { word: 0 }));
     }
@@ -1078,13 +1262,15 @@ fn to_short_with_faults_together() {
     }
 }
 
-/// The same for a short file. Here the end comes after the elements.
+/// The same for a short file, with ten. Here the end comes after the elements; the second
+/// 14 of word 0 is for more than 1024 batches.
 #[test]
 fn to_full_with_faults_together() {
     let order = [
         Refusal::FileLength,
         Refusal::Kind { word: 0 },
         Refusal::SameEdition,
+        Refusal::Value { word: 0 },
         Refusal::Value { word: 0 },
         Refusal::Kind { word: 2 },
         Refusal::Value { word: 4 },
@@ -1098,26 +1284,72 @@ fn to_full_with_faults_together() {
     full[9] = 0xC0000005;
     for choice in 0..1 << order.len() {
         let has = |fault: usize| choice >> fault & 1 == 1;
-        let mut words = vec![0x20000001, 0x40000002, 0x80000050, 0xC0000000];
+        let head = if has(4) { 0x20000800 } else { 0x20000001 };
+        let mut words = vec![head, 0x40000002, 0x80000050, 0xC0000000];
         words.extend([0x40000000, 0x80000001, 0xC0000000]);
-        if has(6) {
+        if has(7) {
             words.extend([0x40000000, 0x80000000]);
         }
         words.push(0xC0000005);
         words.extend([0xC0000000; 17]);
-        if has(5) {
+        if has(6) {
             words[4] = 0x40000010;
         }
-        if has(4) {
+        if has(5) {
             words[2] = 0xC0000050;
         }
         spoil_word_0(&mut words, has(1), has(2), has(3));
         let first = (0..order.len()).find(|&fault| has(fault));
         let expected = first.map_or(Ok(bytes(&full)), |fault| Err(order[fault]));
-        for file in with_ends(&words, has(7), has(0)) {
-            for length in rooms(244, has(8)) {
+        for file in with_ends(&words, has(8), has(0)) {
+            for length in rooms(244, has(9)) {
                 let answer = converted(to_full, &file, length);
-                assert_eq!(answer, expected, "{choice:09b}");
+                assert_eq!(answer, expected, "{choice:010b}");
+            }
+        }
+    }
+}
+
+/// 14 at word 0 for each k that a full file can't have, whatever comes after word 0 and
+/// whatever the room: nothing, each fault of element 0 or of the last, whole elements, and
+/// more of them. 13 and 19 come before it.
+#[test]
+fn larger_files_to_convert() {
+    let faults = [
+        vec![],
+        vec![0xC0000000],
+        vec![0x00000000],
+        vec![0x80000000],
+        vec![0x40000002],
+        vec![0x40000002, 0x40000050],
+        vec![0x40000002, 0x80000050, 0xC0000001],
+        vec![0x40000000, 0x80000000, 0xC0000005],
+        vec![0xC0000000; 20],
+        vec![0xC0000000; 21],
+        [&[0xC0000000; 19][..], &[0x80000000]].concat(),
+        [&[0xC0000000; 19][..], &[0x40000010, 0x80000000, 0xC0000005]].concat(),
+        [&[0xC0000000; 19][..], &[0x40000000, 0x80000000, 0xC0000005]].concat(),
+    ];
+    for k in LARGER {
+        for elements in &faults {
+            let mut file = bytes(&[&[0x20000000 + k as u32], &elements[..]].concat());
+            for more in 0..4 {
+                for room in [0, 84, 243, 244, 245] {
+                    let answer = converted(to_full, &file, room);
+                    assert_eq!(answer, Err(Refusal::Value { word: 0 }), "{k}, {more}");
+                    let answer = converted(to_short, &file, room);
+                    assert_eq!(answer, Err(Refusal::SameEdition), "{k}, {more}");
+                }
+                file.push(0);
+            }
+            for (byte, refusal) in [
+                (0x00, Refusal::SameEdition),
+                (0x40, Refusal::Kind { word: 0 }),
+                (0x60, Refusal::Kind { word: 0 }),
+                (0xE0, Refusal::Kind { word: 0 }),
+            ] {
+                file[3] = byte;
+                assert_eq!(converted(to_full, &file, 244), Err(refusal), "{k}");
             }
         }
     }
@@ -1191,7 +1423,8 @@ fn the_length_of_a_full_file_before_its_elements() {
 }
 
 /// Every value of either half of word 0, in files of this word alone: where nothing is
-/// wrong with it, there are no elements.
+/// wrong with it, there are no elements. Both converters have k up to 1024, the one by its
+/// reader and the other by what it writes.
 #[test]
 fn word_0_of_a_file_to_convert() {
     let halves = 0..=0xFFFF;
@@ -1200,10 +1433,10 @@ fn word_0_of_a_file_to_convert() {
     for head in heads {
         let marked = head & 0x20000000 != 0;
         let k = head & 0x1FFFFFFF;
-        let permitted = (0..=10).any(|exponent| k == 1 << exponent);
+        let is_k = IN_FULL.contains(&(k as usize));
         let refused = |wanted: bool| match head >> 30 {
             0 if marked == wanted => Refusal::SameEdition,
-            0 if !permitted => Refusal::Value { word: 0 },
+            0 if !is_k => Refusal::Value { word: 0 },
             0 => Refusal::FileLength,
             _ => Refusal::Kind { word: 0 },
         };
@@ -1215,11 +1448,10 @@ fn word_0_of_a_file_to_convert() {
     }
 }
 
-/// Files of every permitted k: zeros, and p - 1 as the last tap's last word.
+/// Files of every k of the full edition: zeros, and p - 1 as the last tap's last word.
 #[test]
 fn destinations_of_the_converters() {
-    for exponent in 0..=10 {
-        let k = 1 << exponent;
+    for k in IN_FULL {
         let mut taps = vec![0; 12 * k + 4];
         taps[12 * k + 3] = P - 1;
         let mut full_file = vec![7; 144 * k + 100];

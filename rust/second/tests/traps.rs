@@ -1,4 +1,4 @@
-//! Document 01's "Traps", one test each, and those of document 02's U3, U5, U6, U7 and U8.
+//! Document 01's "Traps", one test each, and those of document 02's U3 and U5 to U9.
 //! Each is a case where the mistake would give another answer than the one asserted.
 
 mod common;
@@ -6,7 +6,7 @@ use common::*;
 use second::constraints::{tests, Test};
 use second::field::{mul, P};
 use second::{
-    build, chain, check, edit, hash, pack_short, read_off, to_full, to_short, unhash, unpack,
+    build, chain, check, edit, hash, pack, pack_short, read_off, to_full, to_short, unhash, unpack,
     unpack_short, Refusal,
 };
 
@@ -582,7 +582,7 @@ fn refusal_8_before_word_0_or_after_the_elements() {
     };
     assert_eq!(refused(0x60000001), Refusal::Kind { word: 0 });
     assert_eq!(refused(0x00000001), Refusal::Value { word: 0 });
-    assert_eq!(refused(0x20010001), Refusal::Value { word: 0 });
+    assert_eq!(refused(0x20100001), Refusal::Value { word: 0 });
     assert_eq!(refused(0x20000003), Refusal::Value { word: 0 });
     assert_eq!(refused(0x20000001), Refusal::DestinationLength);
     let head = bytes(&[0x20000001]);
@@ -1036,16 +1036,144 @@ fn one_order_of_12_for_both_editions() {
     assert_eq!(full_of(&short), Err(Refusal::Kind { word: 1 }));
 }
 
-/// A file of 2048 batches has no permitted k in either edition, whole as it is.
+/// The full file of zeros of 2048 batches, and the short one.
+fn zeros_of_2048_batches() -> (Vec<u8>, Vec<u8>) {
+    let mut full = vec![0x00000800];
+    full.extend([0x40000000, 0x80000000, 0xC0000000].repeat(12 * 2048 + 8));
+    let mut short = vec![0x20000800];
+    short.resize(12 * 2048 + 9, 0xC0000000);
+    (bytes(&full), bytes(&short))
+}
+
+/// The full edition has no file of 2048 batches, whole as it is: it is not read, nor is
+/// it made of the short one, which its own reader takes.
 #[test]
-fn more_than_1024_batches() {
-    let mut words = vec![0x00000800];
-    words.extend([0x40000000, 0x80000000, 0xC0000000].repeat(12 * 2048 + 8));
+fn more_than_1024_batches_in_the_full_edition() {
+    let (full, short) = zeros_of_2048_batches();
+    let refused = Refusal::Value { word: 0 };
+    let mut taps = vec![7; 24580];
+    assert_eq!(unpack(&full, &mut taps), Err(refused));
+    assert_eq!(converted(to_short, &full, short.len()), Err(refused));
+    assert_eq!(converted(to_full, &short, full.len()), Err(refused));
+    assert_eq!(unpack_short(&short, &mut taps), Ok([0; 4]));
+    assert_eq!(taps, [0; 24580]);
+}
+
+/// 2^16 to 2^18 stand above 16 bits. Cut to those they would be 0, and 14.
+#[test]
+fn a_short_count_of_16_bits() {
+    for (head, list) in [
+        (0x20008000, 393220),
+        (0x20010000, 786436),
+        (0x20020000, 1572868),
+        (0x20040000, 3145732),
+    ] {
+        let file = bytes(&[head]);
+        let answer = unpack_short(&file, &mut vec![0; list]);
+        assert_eq!(answer, Err(Refusal::FileLength), "{head:08x}");
+        let answer = unpack_short(&file, &mut [7; 4]);
+        assert_eq!(answer, Err(Refusal::DestinationLength), "{head:08x}");
+    }
+}
+
+/// Bit 19 belongs to the count and is no k by itself; 20 to 28 do not belong to it, and
+/// with them left out this would be the file of zeros.
+#[test]
+fn a_count_of_20_bits_or_more_taken_for_a_k() {
+    let zeros = bytes(&short_zero_words());
+    for bit in 19..29 {
+        for head in [1 << bit, 1 + (1 << bit)] {
+            let file = with_head(0x20000000 + head, &zeros);
+            let refused = Err(Refusal::Value { word: 0 });
+            assert_eq!(read_short(&file), refused, "{head:08x}");
+            let refused = Err(Refusal::Value { word: 0 });
+            assert_eq!(full_of(&file), refused, "{head:08x}");
+        }
+    }
+}
+
+/// The count of the full edition stays at 16 bits, and those above it are spare.
+#[test]
+fn the_full_count_widened_too() {
+    let zeros = zero_file();
+    for bit in 16..20 {
+        for head in [1 << bit, 1 + (1 << bit)] {
+            let file = with_head(head, &zeros);
+            let refused = Err(Refusal::Value { word: 0 });
+            assert_eq!(unpack(&file, &mut [7; 16]), refused, "{head:08x}");
+            let refused = Err(Refusal::Value { word: 0 });
+            assert_eq!(short_of(&file), refused, "{head:08x}");
+        }
+    }
+}
+
+/// A list of 24580 words gets 5 from the full writer, whatever the room and the words,
+/// and from no one else.
+#[test]
+fn the_limit_of_the_full_edition_elsewhere_or_after_8() {
+    let mut taps = vec![0; 24580];
+    taps[3] = P;
+    for room in [0, 244, 144 * 2048 + 100] {
+        let packed = pack(&taps, [P; 4], &mut vec![7; room]);
+        assert_eq!(packed, Err(Refusal::TapLength), "{room}");
+    }
+    let refused = Err(Refusal::TapWord { index: 3 });
+    assert_eq!(chain(&z(), &taps), refused);
+    assert_eq!(build(&z(), &taps, &mut vec![7; 384 * 2048]), refused);
+    // 8 bytes more for p than for a zero.
+    let packed = pack_short(&taps, [0; 4], &mut vec![7; 48 * 2048 + 44]);
+    assert_eq!(packed, Err(Refusal::TapWord { index: 3 }));
+    let answer = check(&z(), &vec![0; 384 * 2048], [0, P, 0, 0], 2048);
+    assert_eq!(answer, Err(Refusal::ClaimWord { index: 1 }));
+}
+
+/// Each with 14 at word 0 alone: one who says it with the elements, with the writer's 5
+/// or with its 8 answers something else.
+#[test]
+fn a_larger_file_read_before_it_is_refused() {
+    let (full, short) = zeros_of_2048_batches();
     let refused = Err(Refusal::Value { word: 0 });
-    let answer = converted(to_short, &bytes(&words), 48 * 2048 + 36);
-    assert_eq!(answer, refused);
-    let mut words = vec![0x20000800];
-    words.resize(12 * 2048 + 9, 0xC0000000);
-    let answer = converted(to_full, &bytes(&words), 144 * 2048 + 100);
-    assert_eq!(answer, refused);
+    for at in [4, short.len() - 4] {
+        for word in [0x00000000_u32, 0x80000000, 0x40000000] {
+            let mut file = short.clone();
+            file[at..at + 4].copy_from_slice(&word.to_le_bytes());
+            assert_eq!(converted(to_full, &file, full.len()), refused);
+            assert_eq!(full_of(&file), refused);
+        }
+    }
+    for length in [4, 5, short.len() - 1] {
+        let cut = &short[..length];
+        assert_eq!(converted(to_full, cut, full.len()), refused, "{length}");
+        assert_eq!(full_of(cut), refused, "{length}");
+    }
+    let longer = [&short[..], &[0]].concat();
+    assert_eq!(full_of(&longer), refused);
+}
+
+/// 13 and 19 come before it, by the kind and the mark of word 0.
+#[test]
+fn a_larger_file_refused_before_its_kind_or_edition() {
+    let (_, short) = zeros_of_2048_batches();
+    for kind in 1..4 {
+        let file = with_head(0x20000800 + kind * 0x40000000, &short);
+        assert_eq!(full_of(&file), Err(Refusal::Kind { word: 0 }));
+    }
+    let file = with_head(0x00000800, &short);
+    assert_eq!(full_of(&file), Err(Refusal::SameEdition));
+    assert_eq!(short_of(&short), Err(Refusal::SameEdition));
+}
+
+/// The claim ends after more than 1024 batches, where c is counted in 11 bits or held to
+/// the full edition's.
+#[test]
+fn c_held_to_1024() {
+    let trace = vec![0; 384 * 2048];
+    for c in [1025, 2047, 2048] {
+        let answer = check(&z(), &trace, [0, 0, P, 0], c);
+        assert_eq!(answer, Err(Refusal::ClaimWord { index: 2 }), "{c}");
+    }
+    for c in [0, 2049, 4096] {
+        let answer = check(&z(), &trace, [0, 0, P, 0], c);
+        assert_eq!(answer, Err(Refusal::ClaimBatches), "{c}");
+    }
 }

@@ -4,6 +4,9 @@ use crate::montgomery::{cube, from_word, root, short, to_word};
 use crate::table::{first_not_canonical, test, Cells, Table};
 use second::Refusal;
 
+/// The largest permitted k.
+const MOST_BATCHES: usize = 1 << 18;
+
 /// Ten rounds on short cells; `see` is shown each middle state.
 #[inline]
 fn rounds<const LATE: bool>(
@@ -89,5 +92,5 @@ pub fn build<const LATE: bool>(
 /// The permitted k with `each` words times k in all.
 pub fn permitted(words: usize, each: usize) -> Option<usize> {
     let k = words / each;
-    (words.is_multiple_of(each) && k.is_power_of_two() && k <= 1024).then_some(k)
+    (words.is_multiple_of(each) && k.is_power_of_two() && k <= MOST_BATCHES).then_some(k)
 }

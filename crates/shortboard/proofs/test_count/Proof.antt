@@ -5,14 +5,13 @@ use Prim.Native.Nat.{_/_, _^_}
 use borrow.Author.Needs.{needs}
 use borrow.Author.Tests.{eq-eqb, ne-eqb}
 use lib.Dec.{eqb}
-use Rattle.numbers.specs.Numbers.{permitted}
+use Rattle.numbers.specs.Numbers.{permitted, mostBatches}
 use Rattle.refusals.specs.Answers.{unless}
 use Rattle.refusals.specs.declared.Refusal.the-variants.{WrongValue}
 use Rattle.refusals.specs.declared.Answer.{Answer}
 use Rattle.refusals.specs.declared.Answer.the-variants.{Accepted}
 use Rattle.refusals.proofs.Laws.{unless-refused, unless-passed}
-use Rattle.board.specs.Board.{countIn}
-use Rattle.shortboard.specs.ShortBoard.{mostShortBatches, markIn, shortSpareIn, shortCountTest}
+use Rattle.shortboard.specs.ShortBoard.{markIn, shortSpareIn, shortCountTest, shortCountIn}
 use Rattle.shortboard.proofs.Answers.{marked, unmarked}
 use Rattle.shortboard.proofs.test_count.Statement.{statement}
 use Rattle.shortboard.proofs.test_count.Tie as tie
@@ -21,22 +20,22 @@ use Rattle.shortboard.proofs.test_count.Tie as tie
 kinded : (f : tie.Else1) {o : Answer} → let w = f .before .before .args .word .0 in
     o ≡ unless (eqb (markIn w) 1) (WrongValue 0)
     (unless (eqb (shortSpareIn w) 0) (WrongValue 0)
-    (unless (permitted mostShortBatches (countIn w)) (WrongValue 0) Accepted))
+    (unless (permitted mostBatches (shortCountIn w)) (WrongValue 0) Accepted))
     → o ≡ shortCountTest w
 unfolding shortCountTest
 kinded f e = unless-passed _ (eq-eqb _ _ (sym (f .before .kind .ensures) ∙ f .if1 .left)) e
 
 -- and here to k
 spared : (f : tie.Else2) {o : Answer} → let w = f .before .before .before .before .args .word .0 in
-    o ≡ unless (permitted mostShortBatches (countIn w)) (WrongValue 0) Accepted → o ≡ shortCountTest w
+    o ≡ unless (permitted mostBatches (shortCountIn w)) (WrongValue 0) Accepted → o ≡ shortCountTest w
 spared f e =
-    let m = marked _ (ap (λ p. p / 2 ^ 16) (sym (f .before .payload .ensures)) ∙ f .if2 .left) in
+    let m = marked _ (ap (λ p. p / 2 ^ 20) (sym (f .before .payload .ensures)) ∙ f .if2 .left) in
     kinded (f .before .before)
     (unless-passed _ (eq-eqb _ _ (m .0)) (unless-passed _ (eq-eqb _ _ (m .1)) e))
 
 decided : (a : tie.After-is-permitted) → let w = a .before .before .before .before .before .before .args .word .0 in
-    permitted mostShortBatches (countIn w) ≡ a .is-permitted .result
-decided a = ap (permitted mostShortBatches) (sym (a .before .count-in .ensures)) ∙ sym (a .is-permitted .ensures)
+    permitted mostBatches (shortCountIn w) ≡ a .is-permitted .result
+decided a = ap (permitted mostBatches) (sym (a .before .count-in .ensures)) ∙ sym (a .is-permitted .ensures)
 
 kind-requires : tie.Need-kind-requires
 kind-requires c κs = search needs
@@ -50,7 +49,7 @@ payload-requires c κs = search needs
 
 returns-2 : tie.Need-returns-2
 returns-2 c =
-    let bits = ap (λ p. p / 2 ^ 16) (c .before .payload .ensures) in
+    let bits = ap (λ p. p / 2 ^ 20) (c .before .payload .ensures) in
     kinded (c .before .before) (unmarked _ _ _ (λ e. c .if2 .taken (bits ∙ e)) refl)
 
 count-in-requires : tie.Need-count-in-requires

@@ -8,9 +8,9 @@ use Rattle.refusals.specs.Answers.{after}
 use Rattle.refusals.specs.declared.Answer.{Answer}
 use Rattle.refusals.proofs.Laws.{unless-refused, unless-passed, after-refused, after-accepted}
 use Rattle.elements.specs.Words.{wordAt}
-use Rattle.board.specs.Board.{elementCount, countIn, batchesIn}
+use Rattle.board.specs.Board.{elementCount}
 use Rattle.shortreading.specs.Reading.{shortsTest}
-use Rattle.shortboard.specs.ShortBoard.{shortCountTest, unpackShortTest}
+use Rattle.shortboard.specs.ShortBoard.{shortCountTest, unpackShortTest, shortCountIn, shortBatchesIn}
 use Rattle.shortboard.proofs.Answers.{fromRoom}
 use Rattle.shortboard.proofs.test_unpack.Statement.{statement}
 use Rattle.shortboard.proofs.test_unpack.Tie as tie
@@ -36,9 +36,9 @@ counted c e =
     let t = c .before .before .before in
     four (t .before .before) (after-accepted (of-count t) (c .before .enum-told .given .1) e)
 
-batches : (c : tie.After-count-in) → batchesIn (entry c .args .file .now) ≡ c .count-in .result
-unfolding batchesIn
-batches c = ap countIn (sym (c .before .before .before .before .read .ensures)) ∙ sym (c .count-in .ensures)
+batches : (c : tie.After-count-in) → shortBatchesIn (entry c .args .file .now) ≡ c .count-in .result
+unfolding shortBatchesIn
+batches c = ap shortCountIn (sym (c .before .before .before .before .read .ensures)) ∙ sym (c .count-in .ensures)
 
 returns : tie.Need-returns
 unfolding unpackShortTest

@@ -8,11 +8,10 @@ use lib.ListN.{length}
 use Rattle.numbers.specs.Numbers.{tapWords}
 use Rattle.refusals.specs.Refusals.{digest}
 use Rattle.refusals.proofs.Laws.{digest-turned-back, digest-returned, leaves-old, leaves-new}
-use Rattle.board.specs.Board.{batchesIn}
 use Rattle.shortreading.specs.Reading.{firstWord, shortsAt}
 use Rattle.shortreading.proofs.Tests.{accepts, first-add}
 use Rattle.shortboard.specs.ShortBoard.{shortClaimIn, shortTapsIn, unpackShortAnswer, unpackShortLeaves}
-use Rattle.shortboard.specs.ShortBoard.{IsShortBoard}
+use Rattle.shortboard.specs.ShortBoard.{IsShortBoard, shortBatchesIn}
 use Rattle.shortboard.proofs.Answers.{unpack-accepted}
 use borrow.Author.Needs.{needs}
 use Rattle.shortboard.proofs.unpack_short.Statement.{statement}
@@ -24,7 +23,8 @@ start c = c .before .before .before .before .before
 
 board : (c : tie.After-enum-told)
     → let file = start c .args .file .now in
-    IsShortBoard file (batchesIn file) × (length (start c .args .destination .now) ≡ tapWords (batchesIn file))
+    IsShortBoard file (shortBatchesIn file)
+    × (length (start c .args .destination .now) ≡ tapWords (shortBatchesIn file))
 board c = unpack-accepted _ _ (sym (c .before .before .test-unpack .ensures) ∙ c .enum-told .given .1)
 
 test-unpack-requires : tie.Need-test-unpack-requires

@@ -4,17 +4,18 @@ use mathlib.Core.Path.{_≡_, refl, sym, ap, _∙_}
 use mathlib.Core.List.{List}
 use Prim.Native.Nat.{ℕ}
 use borrow.Author.Needs.{needs}
-use borrow.Author.Tests.{eq-eqb, ne-eqb}
+use borrow.Author.Tests.{eq-eqb, ne-eqb, le-leb, lt-leb}
+use lib.Dec.{leb}
 use Rattle.refusals.specs.Answers.{after}
 use Rattle.refusals.specs.declared.Answer.{Answer}
 use Rattle.refusals.proofs.Laws.{unless-refused, unless-passed, after-refused, after-accepted}
 use Rattle.elements.specs.Words.{wordAt}
-use Rattle.board.specs.Board.{elementCount, fileSize, countIn, batchesIn}
+use Rattle.board.specs.Board.{mostFileBatches, elementCount, fileSize}
 use Rattle.shortreading.specs.Reading.{shortsTest}
-use Rattle.shortboard.specs.ShortBoard.{shortCountTest}
+use Rattle.shortboard.specs.ShortBoard.{shortCountIn, shortBatchesIn, shortCountTest}
 use Rattle.editions.proofs.Answers as edition
 use Rattle.tofull.specs.ToFull.{toFullTest}
-use Rattle.tofull.proofs.Answers.{lastTest, fromElements}
+use Rattle.tofull.proofs.Answers.{lastTest, fromElements, fromMost}
 use Rattle.tofull.proofs.test.Statement.{statement}
 use Rattle.tofull.proofs.test.Tie as tie
 
@@ -26,7 +27,7 @@ size m = m .before .before .before .before .args .size
 
 -- the mark is right, and word 0's own tests are left
 marked : (m : tie.After-enum-told) {o : Answer}
-    → o ≡ after (shortCountTest (wordAt (file m) 0)) (fromElements (file m) (size m))
+    → o ≡ after (shortCountTest (wordAt (file m) 0)) (fromMost (file m) (size m))
     → o ≡ toFullTest (file m) (size m)
 unfolding toFullTest
 marked m e = after-accepted (m .before .before .test .ensures) (m .enum-told .given .1) e
@@ -39,26 +40,33 @@ abbrev told : tie.After-count-in → tie.After-enum-told
 told c = c .before .before .before .before .before
 
 counted : (c : tie.After-count-in) {o : Answer} → let m = told c in
-    o ≡ fromElements (file m) (size m) → o ≡ toFullTest (file m) (size m)
+    o ≡ fromMost (file m) (size m) → o ≡ toFullTest (file m) (size m)
 counted c e =
     marked (told c) (after-accepted (of-count (c .before .before .before)) (c .before .enum-told3 .given .1) e)
 
-batches : (c : tie.After-count-in) → batchesIn (file (told c)) ≡ c .count-in .result
-unfolding batchesIn
-batches c = ap countIn (sym (c .before .before .before .before .read .ensures)) ∙ sym (c .count-in .ensures)
+batches : (c : tie.After-count-in) → shortBatchesIn (file (told c)) ≡ c .count-in .result
+unfolding shortBatchesIn
+batches c = ap shortCountIn (sym (c .before .before .before .before .read .ensures)) ∙ sym (c .count-in .ensures)
+
+-- a full file can have so many
+small : (f : tie.Else1) {o : Answer} → let m = told (f .before) in
+    o ≡ fromElements (file m) (size m) → o ≡ toFullTest (file m) (size m)
+small f e =
+    let most = ap (λ b. leb b mostFileBatches) (batches (f .before)) ∙ le-leb _ _ (f .if1 .left) in
+    counted (f .before) (unless-passed _ most e)
 
 -- the elements are accepted, and the destination's length is left
-of-elements : (t : tie.After-test-all) → let f = file (told (t .before)) in
-    t .test-all .result ≡ shortsTest f 1 (elementCount (batchesIn f))
+of-elements : (t : tie.After-test-all) → let f = file (told (t .before .before)) in
+    t .test-all .result ≡ shortsTest f 1 (elementCount (shortBatchesIn f))
 of-elements t =
     t .test-all .ensures
-    ∙ ap (λ b. shortsTest (file (told (t .before))) 1 (elementCount b)) (sym (batches (t .before)))
+    ∙ ap (λ b. shortsTest (file (told (t .before .before))) 1 (elementCount b)) (sym (batches (t .before .before)))
 
-walked : (w : tie.After-enum-told5) {o : Answer} → let m = told (w .before .before .before) in
+walked : (w : tie.After-enum-told5) {o : Answer} → let m = told (w .before .before .before .before) in
     o ≡ lastTest (file m) (size m) → o ≡ toFullTest (file m) (size m)
 walked w e =
     let t = w .before .before in
-    counted (t .before) (after-accepted (of-elements t) (w .enum-told5 .given .1) e)
+    small (t .before) (after-accepted (of-elements t) (w .enum-told5 .given .1) e)
 
 test-requires : tie.Need-test-requires
 test-requires c κs = search needs
@@ -94,6 +102,11 @@ returns-2 c =
 count-in-requires : tie.Need-count-in-requires
 count-in-requires c κs = search needs
 
+returns-3 : tie.Need-returns-3
+returns-3 c =
+    let above = ap (λ b. leb b mostFileBatches) (batches (c .before)) ∙ lt-leb _ _ (c .if1 .taken) in
+    counted (c .before) (unless-refused _ above refl)
+
 mul-test-all : tie.Need-mul-test-all
 mul-test-all c = search needs
 
@@ -102,7 +115,7 @@ add-test-all c = search needs
 
 test-all-requires : tie.Need-test-all-requires
 test-all-requires c κs =
-    let m = told c in
+    let m = told (c .before) in
     edition.accepted _ _ (sym (m .before .before .test .ensures) ∙ m .enum-told .given .1) .four
 
 enum-told-5 : tie.Need-enum-told-5
@@ -111,26 +124,26 @@ enum-told-5 c = search needs
 enum-told-6 : tie.Need-enum-told-6
 enum-told-6 c = search needs
 
-returns-3 : tie.Need-returns-3
-returns-3 c =
-    let t = c .before .before in
-    counted (t .before) (after-refused _ (of-elements t) (c .enum-told6 .given .1))
-
-mul-if1 : tie.Need-mul-if1
-mul-if1 c = search needs
-
-add-if1 : tie.Need-add-if1
-add-if1 c = search needs
-
 returns-4 : tie.Need-returns-4
 returns-4 c =
-    let k = batches (c .before .before .before .before) in
-    walked (c .before) (unless-refused _ (ne-eqb _ _ (λ e. c .if1 .taken (e ∙ ap fileSize k))) refl)
+    let t = c .before .before in
+    small (t .before) (after-refused _ (of-elements t) (c .enum-told6 .given .1))
+
+mul-if2 : tie.Need-mul-if2
+mul-if2 c = search needs
+
+add-if2 : tie.Need-add-if2
+add-if2 c = search needs
 
 returns-5 : tie.Need-returns-5
 returns-5 c =
-    let k = batches (c .before .before .before .before) in
-    walked (c .before) (unless-passed _ (eq-eqb _ _ (c .if1 .left ∙ ap fileSize (sym k))) refl)
+    let k = batches (c .before .before .before .before .before) in
+    walked (c .before) (unless-refused _ (ne-eqb _ _ (λ e. c .if2 .taken (e ∙ ap fileSize k))) refl)
+
+returns-6 : tie.Need-returns-6
+returns-6 c =
+    let k = batches (c .before .before .before .before .before) in
+    walked (c .before) (unless-passed _ (eq-eqb _ _ (c .if2 .left ∙ ap fileSize (sym k))) refl)
 
 pub test-spec : {M : Type 1} → statement M
 test-spec =
@@ -146,13 +159,14 @@ test-spec =
     enum-told-4
     returns-2
     count-in-requires
+    returns-3
     mul-test-all
     add-test-all
     test-all-requires
     enum-told-5
     enum-told-6
-    returns-3
-    mul-if1
-    add-if1
     returns-4
-    returns-5)
+    mul-if2
+    add-if2
+    returns-5
+    returns-6)

@@ -10,11 +10,11 @@ use Rattle.numbers.specs.Numbers.{tapWordBatches}
 use Rattle.elements.specs.Words.{bytesOf}
 use Rattle.elements.specs.Elements.{wordsOf}
 use Rattle.elements.proofs.Laws.{length-words, write-file}
-use Rattle.board.specs.Board.{elementCount, countWord, fileOf, countIn, batchesIn, packed}
+use Rattle.board.specs.Board.{elementCount, countWord, fileOf, packed}
 use Rattle.shortreading.specs.Reading.{shortsAt}
 use Rattle.shortreading.proofs.Tests.{accepts}
 use Rattle.shortreading.proofs.Round.{length-shorts}
-use Rattle.shortboard.specs.ShortBoard.{shortTapsIn}
+use Rattle.shortboard.specs.ShortBoard.{shortTapsIn, shortCountIn, shortBatchesIn}
 use Rattle.shortboard.proofs.Round.{board-elements, taps-length}
 use Rattle.tofull.proofs.write.Statement.{statement}
 use Rattle.tofull.proofs.write.Tie as tie
@@ -26,9 +26,9 @@ abbrev file : tie.After-count-in → List ℕ
 file c = start c .args .file .now
 
 -- k is the file's
-k-is : (c : tie.After-count-in) → c .count-in .result ≡ batchesIn (file c)
-unfolding batchesIn
-k-is c = c .count-in .ensures ∙ ap countIn (c .before .read .ensures)
+k-is : (c : tie.After-count-in) → c .count-in .result ≡ shortBatchesIn (file c)
+unfolding shortBatchesIn
+k-is c = c .count-in .ensures ∙ ap shortCountIn (c .before .read .ensures)
 
 read-requires : tie.Need-read-requires
 read-requires c κs = c .before .before .pre .0 .four
@@ -37,10 +37,10 @@ count-in-requires : tie.Need-count-in-requires
 count-in-requires c κs = search needs
 
 count-word-requires : tie.Need-count-word-requires
-count-word-requires c κs = omega (arith, k-is c, start c .pre .0 .permitted .high)
+count-word-requires c κs = omega (arith, k-is c, start c .pre .1)
 
 write-requires : tie.Need-write-requires
-write-requires c κs = omega (arith, start (c .before .before) .pre .1)
+write-requires c κs = omega (arith, start (c .before .before) .pre .2)
 
 mul-write-elements : tie.Need-mul-write-elements
 mul-write-elements c = omega arith
@@ -54,7 +54,7 @@ write-elements-requires c κs =
     let n = word .before .before .before in
     let h = start n .pre in (
       (λ i l. accepts _ _ (h .0 .elements i (omega (arith, k-is n)))),
-      omega (arith, word .write .kept .1 .1 .0, h .1, k-is n),
+      omega (arith, word .write .kept .1 .1 .0, h .2, k-is n),
     )
 
 same-length : tie.Need-same-length
@@ -71,8 +71,8 @@ returns c =
     let k = n .count-in .result in
     let xs : List ℕ = shortsAt f 1 (elementCount k) in
     let size : length (start n .args .destination .now) ≡ 4 * (1 + length (wordsOf xs)) =
-    omega (arith, start n .pre .1, k-is n, length-words xs, length-shorts f 1 (elementCount k)) in
-    let batches : batchesIn f ≡ tapWordBatches (length (shortTapsIn f)) = omega (arith, taps-length f) in
+    omega (arith, start n .pre .2, k-is n, length-words xs, length-shorts f 1 (elementCount k)) in
+    let batches : shortBatchesIn f ≡ tapWordBatches (length (shortTapsIn f)) = omega (arith, taps-length f) in
     write-file (start n .args .destination .now) _ _ (wordsOf xs) _ (countWord k) size (count .count-word .ensures)
     (word .write .ensures) (elements .write-elements .ensures)
     ∙ ap (λ b. bytesOf (countWord b ∷ wordsOf (shortsAt f 1 (elementCount b)))) (k-is n)

@@ -15,7 +15,7 @@ use Rattle.elements.specs.Elements.{elementsAt, elementsTest}
 use Rattle.elements.proofs.Tests.{accepted, tests-none, tests-on, tests-stop}
 use Rattle.elements.proofs.Round.{length-elements, cell-elements}
 use Rattle.shortwords.specs.Short.{isSmall, allBytesNeeded}
-use Rattle.shortwords.proofs.Words.{most-one, threes-next, threes-all}
+use Rattle.shortwords.proofs.Words.{isThree, most-one, count-next, threes-all}
 use Rattle.toshort.proofs.test_elements.Statement.{statement}
 use Rattle.toshort.proofs.test_elements.Tie as tie
 
@@ -113,7 +113,7 @@ loop-again c =
     let loop = at .loop in (
       omega arith,
       omega (arith, at-most c),
-      threes-next (list at) (loop .i) _ _ (loop .inv .2) (counted c),
+      count-next isThree (list at) (loop .i) _ _ (loop .inv .2) (counted c),
       tests-on _ 1 _ (loop .i) (of-element .result) (omega arith) (of-element .ensures) (told .enum-told .given .1)
           ∙ loop .inv .3,
     )

@@ -45,7 +45,7 @@ counted p = p .before .before .before
 
 permitted : (p : tie.After-known-told)
     → let n = words (counted p) in let k = p .before .k .given .0 .0 in
-    (isTapLength mostBatches n ≡ true) × (tapWordBatches n ≡ k) × (k ≤ 1024)
+    (isTapLength mostBatches n ≡ true) × (tapWordBatches n ≡ k) × (k ≤ mostBatches)
 permitted p =
     let n = words (counted p) in
     let t = tap-permitted mostBatches n (counted p .tap-batches .ensures) (p .before .k .given .1) in

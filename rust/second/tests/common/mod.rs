@@ -112,6 +112,39 @@ pub fn bytes(words: &[u32]) -> Vec<u8> {
     words.iter().flat_map(|word| word.to_le_bytes()).collect()
 }
 
+/// Every permitted k: 1 to 2^18 = 262144.
+pub fn permitted() -> impl Iterator<Item = usize> {
+    (0..=18).map(|exponent| 1 << exponent)
+}
+
+/// Those of the full edition: 1 to 1024.
+pub const IN_FULL: [usize; 11] = [1, 2, 4, 8, 16, 32, 64, 128, 256, 512, 1024];
+
+/// Those that it does not have.
+pub const LARGER: [usize; 8] = [2048, 4096, 8192, 16384, 32768, 65536, 131072, 262144];
+
+/// Numbers around the limits that are no permitted k; the last but one is 2^19.
+pub const NOT_PERMITTED: [usize; 18] = [
+    0,
+    3,
+    5,
+    6,
+    1023,
+    1025,
+    1536,
+    2047,
+    2049,
+    65535,
+    65537,
+    3 << 16,
+    (1 << 18) - 1,
+    (1 << 18) + 1,
+    3 << 17,
+    (1 << 19) - 1,
+    1 << 19,
+    (1 << 19) + 1,
+];
+
 /// A converter takes a file and a destination.
 pub type Converter = fn(&[u8], &mut [u8]) -> Result<(), Refusal>;
 
