@@ -1,9 +1,9 @@
 #!/bin/sh
 # A season at full size (document 02, U9), with the library that tests/library.sh built. The library's memory beside
-# what is lent: it asks nobody for any, and has none of its own that can be written. Then rust/bench runs the operations
-# on 262144 batches, once each, compares their answers, and measures stack and time of each: the stack is that of a
-# single batch. Prints its table; fails where something is missing or wrong, or where a batch takes twice what it takes
-# at k = 1024. The goal of 1.1 is the benchmark's: here others may use the machine.
+# what is lent: it asks nobody for any, and has none of its own that can be written. Then rust/bench builds, checks,
+# edits, reads off, packs and unpacks 262144 batches, compares the answers, and measures stack and time of each: the
+# stack is that of a single batch. Prints its table; fails where something is missing or wrong, or where a batch takes
+# twice what it takes at k = 1024. The goal of 1.1 is the benchmark's: here others may use the machine.
 set -eu
 cd "$(dirname "$0")/.."
 
