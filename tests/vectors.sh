@@ -8,27 +8,27 @@ cd "$(dirname "$0")/.."
 # FUNCTION COUNT: a function of the archive with such loops, and how many vector multiplications (pmuludq, two of 32
 # bits each) it has with the kit of kit.txt. More is as good; an edit that needs fewer says so here.
 loops='
+hash::montgomery_cubes 11
 inverse::add_row 6
 lemoncolumn_prepare 6
-matrix::times 19
 mixing::mix 10
 mixing::ready 20
-roots::roots 23
-steps::montgomery_cubes 11
+roots::joined 11
+roots::scaled_roots 6
 '
 # FUNCTION COUNT: a function that multiplies words, and how many multiplications it has that leave 128 bits (`mul` with
 # one operand). Prepare has one, which divides an index by 24; the other functions of the archive have it only where they
 # divide a length or a number of a row, hash or tap by a constant.
 products='
 hash::first_step 0
+hash::montgomery_cubes 0
 hash::second_step 0
 inverse::add_row 0
 lemoncolumn_prepare 1
-matrix::times 0
 mixing::mix 0
 mixing::ready 0
-roots::roots 0
-steps::montgomery_cubes 0
+roots::joined 0
+roots::scaled_roots 0
 '
 
 work=$(mktemp -d)

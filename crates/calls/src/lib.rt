@@ -2,6 +2,7 @@
 // return words where these find no room.
 ghost use mathlib.Core.Path.{_≡_};
 ghost use Rattle.calls.specs.Calls.{hashNoRoom, chainNoRoom, editNoRoom};
+use mixing::READY_WORDS;
 use numbers::BATCH_WORDS;
 use numbers::BatchCount;
 use numbers::MOST_BATCHES;
@@ -37,7 +38,8 @@ pub fn chain_no_room(table: &[u64], taps: &[u64]) -> Answer
 pub fn edit_no_room(table: &[u64], trace: &[u64], c: usize, tap: usize) -> Answer
     ensures { λ r. ⌜ r ≡ editNoRoom (now (table .entry)) (now (trace .entry)) c tap ⌝ }
 {
-    let opening = checker::test_opening(table, trace, c);
+    let mut room = [0u64; READY_WORDS];
+    let opening = checker::test_opening(table, trace, c, &mut room);
     let Answer::Accepted = opening else {
         return opening;
     };

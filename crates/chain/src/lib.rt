@@ -5,8 +5,10 @@ ghost use Prim.Native.Nat.{_+_, _*_, _<_, _≤_, _^_};
 ghost use lib.ListN.{length, take, replicate};
 ghost use Rattle.words.specs.Words.{AllCanonical};
 ghost use Rattle.table.specs.Table.{IsTable};
+ghost use Rattle.table.specs.ReadyHelpers.{matrixReady};
 ghost use Rattle.hash.specs.Hash.{input, tap, outputAt};
 ghost use Rattle.chain.specs.Answers.{chainTest, chainAnswer};
+use mixing::READY_WORDS;
 use numbers::BATCH_TAP_WORDS;
 use numbers::BatchCount;
 use numbers::HashNumber;
@@ -54,26 +56,28 @@ pub fn input_of(hash: HashNumber, last: [u64; WIDTH], taps: &[u64]) -> [u64; WID
     next_input(last, [taps[at], taps[at + 1], taps[at + 2], taps[at + 3]])
 }
 
-// The state that begins with the output of so many hashes.
-fn last_state(table: &[u64], taps: &[u64], hashes: usize) -> [u64; WIDTH]
+// The state that begins with the output of so many hashes. M comes made ready.
+fn last_state(ready: &[u64], table: &[u64], taps: &[u64], hashes: usize) -> [u64; WIDTH]
     requires { ⌜
         IsTable (now table) × (hashes < 2 ^ 32)
-        × (4 * hashes + 4 ≤ length (now taps)) × AllCanonical (now taps) ⌝ }
+        × (4 * hashes + 4 ≤ length (now taps)) × AllCanonical (now taps) × (now ready ≡ matrixReady (now table)) ⌝ }
     ensures { λ r. ⌜ take 4 r ≡ outputAt (now (table .entry)) (now (taps .entry)) hashes ⌝ }
 {
     let mut state = chain_start(taps);
     for h in 0..hashes {
-        let next = hash::final_state(table, input_of(HashNumber(h), state, taps));
+        let next = hash::final_state(ready, table, input_of(HashNumber(h), state, taps));
         state = next;
     }
     state
 }
 
-// What Chain tests: 1, 2, 4, 5, 6.
-fn test_chain(table: &[u64], taps: &[u64]) -> Answer
-    ensures { λ r. ⌜ r ≡ chainTest (now (table .entry)) (now (taps .entry)) ⌝ }
+// What Chain tests: 1, 2, 4, 5, 6. The table test leaves M made ready.
+fn test_chain(table: &[u64], taps: &[u64], ready: &mut [u64; READY_WORDS]) -> Answer
+    ensures { λ r. ⌜
+        (r ≡ chainTest (now (table .entry)) (now (taps .entry)))
+        × (IsTable (now (table .entry)) → now (ready .exit) ≡ matrixReady (now (table .entry))) ⌝ }
 {
-    let of_table = table::test(table);
+    let of_table = table::test_ready(table, ready);
     let Answer::Accepted = of_table else {
         return of_table;
     };
@@ -91,11 +95,12 @@ fn test_chain(table: &[u64], taps: &[u64]) -> Answer
 pub fn chain(table: &[u64], taps: &[u64]) -> DigestAnswer
     ensures { λ r. ⌜ r ≡ chainAnswer (now (table .entry)) (now (taps .entry)) ⌝ }
 {
-    let answer = test_chain(table, taps);
+    let mut ready = [0u64; READY_WORDS];
+    let answer = test_chain(table, taps, &mut ready);
     let Answer::Accepted = answer else {
         return DigestAnswer::Refused(answer.refusal());
     };
     let k = taps.len() / BATCH_TAP_WORDS;
-    let last = last_state(table, taps, 3 * k);
+    let last = last_state(&ready, table, taps, 3 * k);
     DigestAnswer::Accepted(Digest(last[0], last[1], last[2], last[3]))
 }

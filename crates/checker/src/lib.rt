@@ -7,7 +7,9 @@ ghost use Rattle.numbers.specs.Numbers.{traceWords};
 ghost use Rattle.refusals.specs.Answers.{unless, testsAfter};
 ghost use Rattle.table.specs.Table.{IsTable};
 ghost use Rattle.constraints.specs.Constraints.{tests, constraintTest};
+ghost use Rattle.table.specs.ReadyHelpers.{matrixReady};
 ghost use Rattle.checker.specs.Answers.{openingTest, traceTest, checkAnswer};
+use mixing::READY_WORDS;
 use numbers::BATCH_WORDS;
 use numbers::BatchCount;
 use numbers::MOST_BATCHES;
@@ -15,11 +17,18 @@ use refusals::Answer;
 use refusals::Refusal;
 use refusals::TestsAnswer;
 
-// 1, 2, 4; 7; 17: how Check, Read-off and Edit begin.
-pub fn test_opening(table: &[u64], trace: &[u64], c: usize) -> Answer
-    ensures { λ r. ⌜ r ≡ openingTest (now (table .entry)) (now (trace .entry)) c ⌝ }
+// 1, 2, 4; 7; 17: how Check, Read-off and Edit begin. The table test leaves M made ready for the walk.
+pub fn test_opening(
+    table: &[u64],
+    trace: &[u64],
+    c: usize,
+    ready: &mut [u64; READY_WORDS],
+) -> Answer
+    ensures { λ r. ⌜
+        (r ≡ openingTest (now (table .entry)) (now (trace .entry)) c)
+        × (IsTable (now (table .entry)) → now (ready .exit) ≡ matrixReady (now (table .entry))) ⌝ }
 {
-    let of_table = table::test(table);
+    let of_table = table::test_ready(table, ready);
     let Answer::Accepted = of_table else {
         return of_table;
     };
@@ -63,6 +72,7 @@ pub fn test_words(trace: &[u64]) -> Answer
 
 // 11: the walk, for a trace of canonical words.
 pub fn test_constraints(
+    ready: &[u64],
     table: &[u64],
     trace: &[u64],
     claim: &[u64; 4],
@@ -70,18 +80,25 @@ pub fn test_constraints(
     k: usize,
 ) -> TestsAnswer
     requires { ⌜ IsTable (now table) × AllCanonical (now trace) × (length (now trace) ≡ traceWords k) × (c ≤ k)
-        × (k < 2 ^ 32) ⌝ }
+        × (k < 2 ^ 32) × (now ready ≡ matrixReady (now table)) ⌝ }
     ensures { λ r. ⌜ r ≡ testsAfter (constraintTest (now (table .entry)) (now (trace .entry)) (now (claim .entry)) c k)
         (length (tests k c)) ⌝ }
 {
-    let m = steps::forward_ready(table);
     let inverse = steps::back_ready(table);
-    walk::walk_tests(&m, &inverse, table, trace, claim, c, k)
+    walk::walk_tests(ready, &inverse, table, trace, claim, c, k)
 }
 
 // 9; 10; 11: how Check and Read-off end.
-pub fn test_trace(table: &[u64], trace: &[u64], claim: &[u64; 4], c: usize, k: usize) -> TestsAnswer
-    requires { ⌜ IsTable (now table) × (length (now trace) ≡ traceWords k) × (c ≤ k) × (k < 2 ^ 32) ⌝ }
+pub fn test_trace(
+    ready: &[u64],
+    table: &[u64],
+    trace: &[u64],
+    claim: &[u64; 4],
+    c: usize,
+    k: usize,
+) -> TestsAnswer
+    requires { ⌜ IsTable (now table) × (length (now trace) ≡ traceWords k) × (c ≤ k) × (k < 2 ^ 32)
+        × (now ready ≡ matrixReady (now table)) ⌝ }
     ensures { λ r. ⌜ r ≡ testsAfter (traceTest (now (table .entry)) (now (trace .entry)) (now (claim .entry)) c k)
         (length (tests k c)) ⌝ }
 {
@@ -93,16 +110,17 @@ pub fn test_trace(table: &[u64], trace: &[u64], claim: &[u64; 4], c: usize, k: u
     let Answer::Accepted = of_words else {
         return TestsAnswer::Refused(of_words.refusal());
     };
-    test_constraints(table, trace, claim, c, k)
+    test_constraints(ready, table, trace, claim, c, k)
 }
 
 // Check: 1, 2, 4; 7; 17; 9; 10; 11.
 pub fn check(table: &[u64], trace: &[u64], claim: [u64; 4], c: usize) -> TestsAnswer
     ensures { λ r. ⌜ r ≡ checkAnswer (now (table .entry)) (now (trace .entry)) claim c ⌝ }
 {
-    let opening = test_opening(table, trace, c);
+    let mut ready = [0u64; READY_WORDS];
+    let opening = test_opening(table, trace, c, &mut ready);
     let Answer::Accepted = opening else {
         return TestsAnswer::Refused(opening.refusal());
     };
-    test_trace(table, trace, &claim, c, trace.len() / BATCH_WORDS)
+    test_trace(&ready, table, trace, &claim, c, trace.len() / BATCH_WORDS)
 }

@@ -5,6 +5,7 @@ ghost use Rattle.refusals.specs.Answers.{testsAfter};
 ghost use Rattle.numbers.specs.Numbers.{traceWordBatches};
 ghost use Rattle.constraints.specs.Constraints.{tests};
 ghost use Rattle.edit.specs.Answers.{editTest, editAnswer, editLeaves};
+use mixing::READY_WORDS;
 use numbers::BATCH_WORDS;
 use numbers::BatchNumber;
 use numbers::TapNumber;
@@ -27,7 +28,8 @@ fn test_edit(
         (editTest (now (table .entry)) (now (trace .entry)) (now (claim .entry)) c (tap .0) (now (words .entry)))
         (length (tests (traceWordBatches (length (now (trace .entry)))) c)) ⌝ }
 {
-    let opening = checker::test_opening(table, trace, c);
+    let mut ready = [0u64; READY_WORDS];
+    let opening = checker::test_opening(table, trace, c, &mut ready);
     let Answer::Accepted = opening else {
         return TestsAnswer::Refused(opening.refusal());
     };
@@ -47,7 +49,7 @@ fn test_edit(
     if bad != words.len() {
         return TestsAnswer::Refused(Refusal::TapWord(bad));
     }
-    checker::test_constraints(table, trace, claim, c, k)
+    checker::test_constraints(&ready, table, trace, claim, c, k)
 }
 
 // Edit writes when every test has passed.
@@ -67,8 +69,9 @@ pub fn edit(
     match answer {
         TestsAnswer::Accepted(_) => {
             let k = trace.len() / BATCH_WORDS;
+            let ready = table::matrix_ready(table);
             let inverse = steps::back_ready(table);
-            rewriting::rewrite(&inverse, table, k, tap, words, trace);
+            rewriting::rewrite(&ready, &inverse, table, k, tap, words, trace);
             // The claim's row begins with the output of the altered list's first 3c + 1 taps.
             let row = rows::cells(trace, BatchNumber(c - 1).row(31));
             DigestAnswer::Accepted(Digest(row[0], row[1], row[2], row[3]))

@@ -1,2 +1,3 @@
 pub mod Hash
 pub mod Answers
+pub mod HashHelpers

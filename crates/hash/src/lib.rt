@@ -1,36 +1,37 @@
 // The Rescue hash (document 01, "Hash and chain").
 ghost use mathlib.Core.Path.{_≡_};
 ghost use Prim.Native.Nat.{_<_};
+ghost use Rattle.lists.specs.Lists.{cell, tab};
 ghost use Rattle.words.specs.Words.{CanonicalTo};
 ghost use Rattle.numbers.specs.Numbers.{width};
 ghost use Rattle.table.specs.Table.{IsTable, firstStepConstant, secondStepConstant};
-ghost use Rattle.hash.specs.Hash.{cubes, plus, mix, firstStep, secondStep, stateAt, finalState};
+ghost use Rattle.table.specs.ReadyHelpers.{matrixReady};
+ghost use Rattle.hash.specs.Hash.{plus, firstStep, secondStep, stateAt, finalState};
+ghost use Rattle.hash.specs.HashHelpers.{montgomeryCube};
 ghost use Rattle.hash.specs.Answers.{hashTest, hashAnswer};
 use fp::Fp;
+use mixing::READY_WORDS;
 use numbers::WIDTH;
 use refusals::Answer;
 use refusals::Refusal;
 use refusals::State;
 use refusals::StateAnswer;
 
-// Every cell cubed.
-fn cubes(s: [u64; WIDTH]) -> [u64; WIDTH]
+// 2^(64 (THIRD - 2)) mod p: roots of cells that were taken for words of Montgomery's form come out divided by 2^128.
+const ROOT: u64 = 678424015035724853;
+
+// The cube of every cell, divided by 2^128.
+pub fn montgomery_cubes(s: [u64; WIDTH]) -> [u64; WIDTH]
     requires { ⌜ CanonicalTo width s ⌝ }
-    ensures { λ r. ⌜ r ≡ cubes s ⌝ }
+    ensures { λ r. ⌜ (r ≡ tab width (λ j. montgomeryCube (cell s j))) × CanonicalTo width r ⌝ }
 {
+    let q = montgomery::quotient(s[0]);
     let mut out = [0u64; WIDTH];
     for j in 0..WIDTH {
-        out[j] = Fp(s[j]).cube().0;
+        let x = s[j];
+        out[j] = montgomery::times(montgomery::times(x, x, q), x, q);
     }
     out
-}
-
-// M times s.
-fn mix(table: &[u64], s: [u64; WIDTH]) -> [u64; WIDTH]
-    requires { ⌜ IsTable (now table) × CanonicalTo width s ⌝ }
-    ensures { λ r. ⌜ r ≡ mix (now (table .entry)) s ⌝ }
-{
-    matrix::times(table::matrix(table), s)
 }
 
 // The state before round 0: the input plus K_0.
@@ -72,42 +73,47 @@ fn plus_second_step(table: &[u64], round: usize, s: [u64; WIDTH]) -> [u64; WIDTH
     out
 }
 
-// The first step of the round, to its middle state.
-pub fn first_step(table: &[u64], round: usize, s: [u64; WIDTH]) -> [u64; WIDTH]
-    requires { ⌜ IsTable (now table) × (round < 10) × CanonicalTo width s ⌝ }
+// The first step of the round, to its middle state. Here and below M comes made ready, once a call: times 2^128, for
+// which roots and cubes make up.
+pub fn first_step(ready: &[u64], table: &[u64], round: usize, s: [u64; WIDTH]) -> [u64; WIDTH]
+    requires { ⌜
+        IsTable (now table) × (round < 10) × CanonicalTo width s × (now ready ≡ matrixReady (now table)) ⌝ }
     ensures { λ r. ⌜ r ≡ firstStep (now (table .entry)) round s ⌝ }
 {
-    let mixed = mix(table, roots::roots(s));
+    let mixed = mixing::mix(ready, roots::scaled_roots(s, ROOT));
     plus_first_step(table, round, mixed)
 }
 
 // The second step of the round, from its middle state.
-pub fn second_step(table: &[u64], round: usize, s: [u64; WIDTH]) -> [u64; WIDTH]
-    requires { ⌜ IsTable (now table) × (round < 10) × CanonicalTo width s ⌝ }
+pub fn second_step(ready: &[u64], table: &[u64], round: usize, s: [u64; WIDTH]) -> [u64; WIDTH]
+    requires { ⌜
+        IsTable (now table) × (round < 10) × CanonicalTo width s × (now ready ≡ matrixReady (now table)) ⌝ }
     ensures { λ r. ⌜ r ≡ secondStep (now (table .entry)) round s ⌝ }
 {
-    let mixed = mix(table, cubes(s));
+    let mixed = mixing::mix(ready, montgomery_cubes(s));
     plus_second_step(table, round, mixed)
 }
 
 // The state after the ten rounds.
-pub fn final_state(table: &[u64], input: [u64; WIDTH]) -> [u64; WIDTH]
-    requires { ⌜ IsTable (now table) × CanonicalTo width input ⌝ }
+pub fn final_state(ready: &[u64], table: &[u64], input: [u64; WIDTH]) -> [u64; WIDTH]
+    requires { ⌜ IsTable (now table) × CanonicalTo width input × (now ready ≡ matrixReady (now table)) ⌝ }
     ensures { λ r. ⌜ r ≡ finalState (now (table .entry)) input ⌝ }
 {
     let mut state = plus_initial(table, input);
     for round in 0..10 {
-        let next = second_step(table, round, first_step(table, round, state));
+        let next = second_step(ready, table, round, first_step(ready, table, round, state));
         state = next;
     }
     state
 }
 
-// What Hash tests, and Unhash before its 16: 1, 2, 4, 6.
-pub fn test_hash(table: &[u64], words: &[u64]) -> Answer
-    ensures { λ r. ⌜ r ≡ hashTest (now (table .entry)) (now (words .entry)) ⌝ }
+// What Hash tests, and Unhash before its 16: 1, 2, 4, 6. The table test leaves M made ready.
+pub fn test_hash(table: &[u64], words: &[u64], ready: &mut [u64; READY_WORDS]) -> Answer
+    ensures { λ r. ⌜
+        (r ≡ hashTest (now (table .entry)) (now (words .entry)))
+        × (IsTable (now (table .entry)) → now (ready .exit) ≡ matrixReady (now (table .entry))) ⌝ }
 {
-    let of_table = table::test(table);
+    let of_table = table::test_ready(table, ready);
     let Answer::Accepted = of_table else {
         return of_table;
     };
@@ -122,7 +128,8 @@ pub fn test_hash(table: &[u64], words: &[u64]) -> Answer
 pub fn hash(table: &[u64], words: [u64; 8]) -> StateAnswer
     ensures { λ r. ⌜ r ≡ hashAnswer (now (table .entry)) words ⌝ }
 {
-    let answer = test_hash(table, &words);
+    let mut ready = [0u64; READY_WORDS];
+    let answer = test_hash(table, &words, &mut ready);
     let Answer::Accepted = answer else {
         return StateAnswer::Refused(answer.refusal());
     };
@@ -140,6 +147,6 @@ pub fn hash(table: &[u64], words: [u64; 8]) -> StateAnswer
         0,
         0,
     ];
-    let last = final_state(table, input);
+    let last = final_state(&ready, table, input);
     StateAnswer::Accepted(State::of(last))
 }

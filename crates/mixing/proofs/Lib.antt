@@ -1,2 +1,3 @@
 pub mod Unweighting
 pub mod ReadyWords
+pub mod Scaled

@@ -10,6 +10,7 @@ ghost use Rattle.constraints.specs.ReadOff.{readInput, readWord, readTaps};
 ghost use Rattle.steps.specs.StepHelpers.{backReady};
 ghost use Rattle.readoff.specs.Answers.{readOffAnswer, readOffLeaves};
 ghost use Rattle.readoff.specs.TapHelpers.{HasTap};
+use mixing::READY_WORDS;
 use numbers::BATCH_TAP_WORDS;
 use numbers::BATCH_WORDS;
 use numbers::HashNumber;
@@ -76,7 +77,8 @@ fn test_read_off(
 ) -> TestsAnswer
     ensures { λ r. ⌜ r ≡ readOffAnswer (now (table .entry)) (now (trace .entry)) (now (claim .entry)) c size ⌝ }
 {
-    let opening = checker::test_opening(table, trace, c);
+    let mut ready = [0u64; READY_WORDS];
+    let opening = checker::test_opening(table, trace, c, &mut ready);
     let Answer::Accepted = opening else {
         return TestsAnswer::Refused(opening.refusal());
     };
@@ -84,7 +86,7 @@ fn test_read_off(
     if size != BATCH_TAP_WORDS * k + TAP_WORDS {
         return TestsAnswer::Refused(Refusal::DestinationLength);
     }
-    checker::test_trace(table, trace, claim, c, k)
+    checker::test_trace(&ready, table, trace, claim, c, k)
 }
 
 // Read-off: it writes when every test has passed, and all taps, whatever c is.

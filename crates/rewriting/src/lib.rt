@@ -3,6 +3,7 @@
 ghost use mathlib.Core.Path.{_≡_};
 ghost use Prim.Native.Nat.{_+_};
 ghost use Rattle.table.specs.Table.{IsTable};
+ghost use Rattle.table.specs.ReadyHelpers.{matrixReady};
 ghost use Rattle.trace.specs.Trace.{trace as trace-of};
 ghost use Rattle.constraints.specs.ReadOff.{readTaps};
 ghost use Rattle.steps.specs.StepHelpers.{backReady};
@@ -49,8 +50,10 @@ fn last_before(
     readoff::read_input(inverse, table, trace, tap.hash())
 }
 
-// The rows from the hash that takes the tap in to the end. Each hash's tap is read before its rows are written.
+// The rows from the hash that takes the tap in to the end. Each hash's tap is read before its rows are written. M comes
+// made ready, as its inverse does.
 pub fn rewrite(
+    ready: &[u64],
     inverse: &[u64],
     table: &[u64],
     k: usize,
@@ -58,7 +61,9 @@ pub fn rewrite(
     words: [u64; 4],
     trace: &mut [u64],
 )
-    requires { ⌜ (now inverse ≡ backReady (now table)) × Rewritable (now table) (now trace) k (tap .0) words ⌝ }
+    requires { ⌜
+        (now inverse ≡ backReady (now table)) × Rewritable (now table) (now trace) k (tap .0) words
+        × (now ready ≡ matrixReady (now table)) ⌝ }
     ensures { λ r. ⌜ now (trace .exit)
         ≡ trace-of (now (table .entry))
         (altered (readTaps (now (table .entry)) (now (trace .entry)) k) (tap .0) words) k ⌝ }
@@ -71,7 +76,7 @@ pub fn rewrite(
         let hash = HashNumber(h);
         let next = next_tap(inverse, table, trace, hash, tap, words);
         let input = chain::next_input(state, next);
-        let last = trace::write_hash(table, hash, input, trace);
+        let last = trace::write_hash(ready, table, hash, input, trace);
         state = last;
     }
 }

@@ -3,16 +3,17 @@
 -- Assumes nothing.
 use mathlib.Core.Path.{_≡_, sym, ap, ap₂, _∙_}
 use mathlib.Core.List.{List}
-use Prim.Native.Nat.{ℕ, _/_, _%_, _^_, _<_}
+use Prim.Native.Nat.{ℕ, _+_, _*_, _/_, _%_, _^_, _<_}
+use native.Mathlib.Nat.{mul-one, mod-eq-of-lt}
 use native.Mathlib.Omega.{arith}
 use lib.ListN.{replicate, getD-replicate}
 use Rattle.lists.specs.Lists.{cell, tab}
 use Rattle.lists.proofs.Tab.{cell-tab, tab-ext}
-use Rattle.field.specs.Field.{mul, power, third, root}
+use Rattle.field.specs.Field.{P, mul, power, third, root}
 use Rattle.field.specs.MontgomeryHelpers.{divided, timesWord}
-use Rattle.field.proofs.Forms.{divided-lt, divided-times, divided-enter, times-comm, times-one-word}
-use Rattle.field.proofs.Power.{times-one, times-even, times-odd, one-times}
-use Rattle.words.specs.Words.{CanonicalTo}
+use Rattle.field.proofs.Forms.{divided-lt, divided-times, times-comm, times-scaled}
+use Rattle.field.proofs.Modular.{pw-zero, pw-suc}
+use Rattle.field.proofs.Power.{power-pw, power-add, power-mul, times-one, times-even, times-odd}
 use Rattle.cells.specs.CellHelpers.{wordProducts}
 use Rattle.cells.proofs.Products as word-products
 use Rattle.roots.specs.PowerHelpers.{elements, products, powers}
@@ -39,24 +40,15 @@ elements-of-products a b =
     ∙ divided-times (cell a j) (cell b j)
     ∙ sym (ap₂ mul (cell-elements a j h) (cell-elements b j h)))
 
--- products with 2^128 stand for the cells
-pub entered : (s : List ℕ) → CanonicalTo 12 s
-    → elements (wordProducts (replicate 12 2288261904184696897) s) ≡ tab 12 (cell s)
-unfolding elements
-entered s c =
-    tab-ext 12 (λ j. divided (cell (wordProducts (replicate 12 2288261904184696897) s) j)) (cell s)
-    (λ j h. ap divided
-    (word-products.cell-products (replicate 12 2288261904184696897) s j h
-    ∙ ap (λ x. timesWord x (cell s j)) (getD-replicate 12 j 2288261904184696897 0 h)
-    ∙ times-comm 2288261904184696897 (cell s j))
-    ∙ divided-enter (cell s j) (c j h))
-
--- products with 1 are the elements
-pub left : (v : List ℕ) → wordProducts v (replicate 12 1) ≡ elements v
-unfolding wordProducts elements
-left v =
-    tab-ext 12 (λ j. timesWord (cell v j) (cell (replicate 12 1) j)) (λ j. divided (cell v j))
-    (λ j h. ap (timesWord (cell v j)) (getD-replicate 12 j 1 0 h) ∙ times-one-word (cell v j))
+-- products with one word are the elements times it
+pub left : (v : List ℕ) (f : ℕ) → wordProducts v (replicate 12 f) ≡ tab 12 (λ j. mul f (cell (elements v) j))
+unfolding wordProducts
+left v f =
+    tab-ext 12 (λ j. timesWord (cell v j) (cell (replicate 12 f) j)) (λ j. mul f (cell (elements v) j))
+    (λ j h. ap (timesWord (cell v j)) (getD-replicate 12 j f 0 h)
+    ∙ times-comm (cell v j) f
+    ∙ times-scaled f (cell v j)
+    ∙ ap (mul f) (sym (cell-elements v j h)))
 
 -- ---- the recursion
 pub powers-done : (v x : List ℕ) → elements v ≡ products (elements v) (powers x 0)
@@ -87,16 +79,44 @@ powers-odd a x e h z =
     (ap (mul (cell (products a x) j)) (cell-powers (products x x) (e / 2) j l))
     ∙ sym (ap (mul (cell a j)) (cell-powers x e j l)))
 
--- from twelve words for 1, the roots
-pub roots-of-powers : (s : List ℕ)
-    → products (elements (replicate 12 2305842407918272505)) (powers (tab 12 (cell s)) third)
-    ≡ tab 12 (λ j. root (cell s j))
-unfolding products root
-roots-of-powers s =
-    tab-ext 12
-    (λ j. mul (cell (elements (replicate 12 2305842407918272505)) j) (cell (powers (tab 12 (cell s)) third) j))
-    (λ j. root (cell s j))
-    (λ j h. ap₂ mul
-    (cell-elements (replicate 12 2305842407918272505) j h ∙ ap divided (getD-replicate 12 j 2305842407918272505 0 h))
-    (cell-powers (tab 12 (cell s)) third j h ∙ ap (λ x. power x third) (cell-tab 12 (cell s) j h))
-    ∙ one-times (cell s j) third (omega arith))
+-- ---- the chain
+power-one : (x : ℕ) → x < P → power x 1 ≡ x
+power-one x h =
+    power-pw x 1 (omega arith)
+    ∙ pw-suc P x 0
+    ∙ ap (λ y. (x * y) % P) (pw-zero P x)
+    ∙ ap (λ y. y % P) (mul-one x)
+    ∙ mod-eq-of-lt h
+
+pub first-link : (v : List ℕ) → elements v ≡ powers (elements v) 1
+unfolding elements powers
+first-link v =
+    tab-ext 12 (λ j. divided (cell v j)) (λ j. power (cell (elements v) j) 1)
+    (λ j h. sym
+    (ap (λ y. power y 1) (cell-elements v j h) ∙ power-one (divided (cell v j)) (divided-lt (cell v j))))
+
+link : (x : List ℕ) (a b e : ℕ) → b < 2 ^ 64 → e < 2 ^ 64 → b * e < 2 ^ 64 → a + b * e < 2 ^ 64
+    → products (powers x a) (powers (powers x b) e) ≡ powers x (a + b * e)
+unfolding products powers
+link x a b e hb he hm h =
+    tab-ext 12 (λ j. mul (cell (powers x a) j) (cell (powers (powers x b) e) j)) (λ j. power (cell x j) (a + b * e))
+    (λ j l. ap₂ mul (cell-powers x a j l)
+    (cell-powers (powers x b) e j l
+    ∙ ap (λ y. power y e) (cell-powers x b j l)
+    ∙ sym (power-mul (cell x j) b e hb he hm))
+    ∙ sym (power-add (cell x j) a (b * e) h))
+
+-- one link more: x^a times x^b raised to e
+pub linked : (x by base r : List ℕ) (a b e : ℕ) → b < 2 ^ 64 → e < 2 ^ 64 → b * e < 2 ^ 64 → a + b * e < 2 ^ 64
+    → by ≡ powers x a → base ≡ powers x b → r ≡ products by (powers base e) → r ≡ powers x (a + b * e)
+linked x by base r a b e hb he hm h p q t =
+    t ∙ ap₂ (λ u v. products u (powers v e)) p q ∙ link x a b e hb he hm h
+
+-- from the powers, the roots
+pub roots-of-powers : (s : List ℕ) (f : ℕ)
+    → tab 12 (λ j. mul f (cell (powers (elements s) third) j)) ≡ tab 12 (λ j. mul f (root (divided (cell s j))))
+unfolding root
+roots-of-powers s f =
+    tab-ext 12 (λ j. mul f (cell (powers (elements s) third) j)) (λ j. mul f (root (divided (cell s j))))
+    (λ j h. ap (mul f)
+    (cell-powers (elements s) third j h ∙ ap (λ x. power x third) (cell-elements s j h)))

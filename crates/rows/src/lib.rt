@@ -9,7 +9,8 @@ ghost use Rattle.table.specs.Table.{IsTable, initialConstant};
 ghost use Rattle.trace.specs.Trace.{row as cells-of};
 ghost use Rattle.numbers.specs.Numbers.{width, within};
 ghost use Rattle.constraints.specs.Constraints.{round, plusFirst, forward, back};
-ghost use Rattle.steps.specs.StepHelpers.{forwardReady, backReady, columns};
+ghost use Rattle.table.specs.ReadyHelpers.{matrixReady};
+ghost use Rattle.steps.specs.StepHelpers.{backReady, columns};
 ghost use Rattle.rows.specs.RowHelpers.{HasRow, testedColumns};
 use fp::Fp;
 use numbers::RowNumber;
@@ -63,7 +64,7 @@ fn plus_entering(table: &[u64], s: [u64; WIDTH]) -> [u64; WIDTH]
 // The columns of forward of the row that are tested: its cells cubed, times M, plus its round's second-step constant;
 // at rows 10 and 20 K_0 is added too.
 pub fn forward(ready: &[u64], table: &[u64], trace: &[u64], row: RowNumber) -> [u64; WIDTH]
-    requires { ⌜ IsTable (now table) × (now ready ≡ forwardReady (now table)) × HasRow (now trace) (row .0)
+    requires { ⌜ IsTable (now table) × (now ready ≡ matrixReady (now table)) × HasRow (now trace) (row .0)
         × (1 ≤ within (row .0)) ⌝ }
     ensures { λ r. ⌜ r ≡ columns (testedColumns (row .0))
         (forward (now (table .entry)) (now (trace .entry)) (row .0)) ⌝ }

@@ -3,7 +3,8 @@
 ghost use mathlib.Core.Path.{_≡_};
 ghost use Rattle.table.specs.Table.{IsTable};
 ghost use Rattle.constraints.specs.Constraints.{holds};
-ghost use Rattle.steps.specs.StepHelpers.{forwardReady, backReady};
+ghost use Rattle.table.specs.ReadyHelpers.{matrixReady};
+ghost use Rattle.steps.specs.StepHelpers.{backReady};
 ghost use Rattle.rowtests.specs.TestHelpers.{forwardOf, backAfter, InTrace, AppliesIn};
 use applying::CLAIMS;
 use applying::ENDS;
@@ -18,7 +19,7 @@ use numbers::WIDTH;
 
 // The tested columns of forward of the row, at rows 1 to 30.
 pub fn forward_of(ready: &[u64], table: &[u64], trace: &[u64], row: RowNumber) -> [u64; WIDTH]
-    requires { ⌜ IsTable (now table) × (now ready ≡ forwardReady (now table)) × InTrace (now trace) (row .0) ⌝ }
+    requires { ⌜ IsTable (now table) × (now ready ≡ matrixReady (now table)) × InTrace (now trace) (row .0) ⌝ }
     ensures { λ r. ⌜ r ≡ forwardOf (now (table .entry)) (now (trace .entry)) (row .0) ⌝ }
 {
     let within = row.within();

@@ -14,26 +14,19 @@ use Rattle.lists.proofs.Tab.{filled-before, filled-after, length-filled}
 use Rattle.field.specs.Field.{add, cube}
 use Rattle.field.specs.MontgomeryHelpers.{timesWord}
 use Rattle.matrix.specs.Matrix.{entry, timesColumn, times}
-use Rattle.matrix.proofs.Linear.{times-ext}
 use Rattle.matrix.proofs.States.{cell-times}
 use Rattle.mixing.specs.MixingHelpers.{IsReady, readyEntry}
 use Rattle.mixing.proofs.ReadyWords.{is-ready, ready-entry}
-use Rattle.table.specs.Table.{matrixOf, inverseOf, firstStepConstant, secondStepConstant}
-use Rattle.hash.specs.Hash.{cubes, plus, mix, secondStep}
+use Rattle.table.specs.Table.{inverseOf, firstStepConstant, secondStepConstant}
+use Rattle.table.specs.ReadyHelpers.{matrixReady}
+use Rattle.hash.specs.Hash.{cubes, plus, secondStep}
+use Rattle.hash.specs.HashHelpers.{montgomeryCube}
+use Rattle.hash.proofs.CodeMix.{mixed-cubes}
 use Rattle.constraints.specs.Constraints.{minus, backStep}
-use Rattle.steps.specs.StepHelpers.{montgomeryCube, forwardReady, backReady, columns, forwardScale, backScale}
-use Rattle.steps.proofs.Scales.{forward-cell, back-cell}
+use Rattle.steps.specs.StepHelpers.{backReady, columns, backScale}
+use Rattle.steps.proofs.Scales.{back-cell}
 
--- the two matrices made ready, and their entries
-module _ (T ready : List ℕ) (e : ready ≡ forwardReady T) where
-  pub forward-is : IsReady ready
-  unfolding forwardReady
-  forward-is = subst IsReady (sym e) (is-ready (matrixOf T) forwardScale)
-
-  forward-entry : (i n : ℕ) → i < 12 → n < 12 → readyEntry ready i n ≡ timesWord (entry (matrixOf T) i n) forwardScale
-  unfolding forwardReady
-  forward-entry i n hi hn = ap (λ r. readyEntry r i n) e ∙ ready-entry (matrixOf T) forwardScale i n hi hn
-
+-- the inverse made ready, and its entries
 module _ (T ready : List ℕ) (e : ready ≡ backReady T) where
   pub back-is : IsReady ready
   unfolding backReady
@@ -79,28 +72,15 @@ columns-filled n hn f =
 -- ---- the second step
 
 pub second-made : (T ready s cubed mixed out : List ℕ) (round count : ℕ) → count ≤ 12
-    → ready ≡ forwardReady T → cubed ≡ tab 12 (λ j. montgomeryCube (cell s j)) → mixed ≡ mixedBy ready cubed
+    → ready ≡ matrixReady T → cubed ≡ tab 12 (λ j. montgomeryCube (cell s j)) → mixed ≡ mixedBy ready cubed
     → out ≡ filled count (λ i. add (cell mixed i) (cell (secondStepConstant T round) i)) (replicate 12 0)
     → out ≡ columns count (secondStep T round s)
-unfolding secondStep plus mix cubes
+unfolding secondStep plus
 second-made T ready s cubed mixed out round count hc er ec em e =
     e
     ∙ columns-filled count hc (λ i. add (cell mixed i) (cell (secondStepConstant T round) i))
-    ∙ ap (columns count)
-    (tab-ext 12
-    (λ i. add (cell mixed i) (cell (secondStepConstant T round) i))
-    (λ i. add (cell (mix T (cubes s)) i) (cell (secondStepConstant T round) i))
-    (λ i h. ap (λ x. add x (cell (secondStepConstant T round) i)) (same i h)))
-  where
-    same : (i : ℕ) → i < 12 → cell mixed i ≡ cell (mix T (cubes s)) i
-    same i h =
-        ap (λ x. cell x i) em
-        ∙ cell-tab 12 (timesColumn 12 (readyEntry ready) (cell cubed)) i h
-        ∙ forward-cell (matrixOf T) i (readyEntry ready) (λ n l. forward-entry T ready er i n h l) (cell cubed) (cell s)
-        (λ n l. ap (λ x. cell x n) ec ∙ cell-tab 12 (λ k. montgomeryCube (cell s k)) n l)
-        ∙ times-ext 12 (entry (matrixOf T)) (entry (matrixOf T)) (λ j. cube (cell s j)) (cell (cubes s)) i (λ j l. refl)
-        (λ j l. sym (cell-tab 12 (λ n. cube (cell s n)) j l))
-        ∙ sym (cell-times (matrixOf T) (cubes s) i h)
+    ∙ ap (λ x. columns count (tab 12 (λ i. add (cell x i) (cell (secondStepConstant T round) i))))
+    (mixed-cubes T ready cubed mixed er em s ec)
 
 -- ---- the first step undone
 pub undone-made : (T ready s less mixed out : List ℕ) (round : ℕ) → ready ≡ backReady T

@@ -1,7 +1,7 @@
--- The scales of the matrices make up for cubes divided by 2^128: modulo p, each power of 2^64 meets its inverse.
+-- The scale of the inverse makes up for cubes divided by 2^128: modulo p, each power of 2^64 meets its inverse.
 -- Assumes nothing.
 use Prim.Native.Nat.{ℕ, _*_, _%_, _<_}
-use mathlib.Core.Path.{_≡_, refl, sym, ap, ap₂, _∙_}
+use mathlib.Core.Path.{_≡_, refl, sym, ap, _∙_}
 use mathlib.Core.List.{List}
 use native.Mathlib.Nat.{mul-one, mod-mod}
 use native.Mathlib.Omega.{arith}
@@ -12,7 +12,8 @@ use Rattle.field.specs.MontgomeryHelpers.{timesWord, unitInverse}
 use Rattle.field.proofs.Modular.{mul-mod-l, mul-mod-r}
 use Rattle.matrix.specs.Matrix.{entry, timesColumn}
 use Rattle.matrix.proofs.Modulo.{mul-eq, sum-eq}
-use Rattle.steps.specs.StepHelpers.{montgomeryCube, forwardScale, backScale}
+use Rattle.hash.specs.HashHelpers.{montgomeryCube}
+use Rattle.steps.specs.StepHelpers.{backScale}
 
 -- ---- modulo p, where j is the inverse of 2^64
 module _ (p j : ℕ) where
@@ -28,22 +29,6 @@ module _ (p j : ℕ) where
 
   cube-flat : (x : ℕ) → ((x * x) % p * x) % p ≡ (x * x * x) % p
   cube-flat x = mul-mod-l p (x * x) x
-
-  -- a scale c with c j^3 = 1: a scaled entry times such a cube is the entry times the plain cube
-  module _ (c : ℕ) (inv : (c * (j * j * j)) % p ≡ 1) where
-    pub forward-term : (m x : ℕ)
-        → ((m * c * j) % p * (((x * x * j) % p * x * j) % p)) % p ≡ (m * (((x * x) % p * x) % p)) % p
-    forward-term m x =
-        mul-eq p ((m * c * j) % p) (m * c * j) (((x * x * j) % p * x * j) % p) (x * x * x * (j * j))
-        (mod-mod (m * c * j) p) (mod-mod _ p ∙ form-flat x)
-        ∙ ap (λ z. z % p) gathered
-        ∙ sym (mul-mod-r p (m * (x * x * x)) (c * (j * j * j)))
-        ∙ ap (λ z. (m * (x * x * x) * z) % p) inv
-        ∙ ap (λ z. z % p) (mul-one (m * (x * x * x)))
-        ∙ sym (mul-eq p m m (((x * x) % p * x) % p) (x * x * x) refl (mod-mod _ p ∙ cube-flat x))
-      where
-        gathered : m * c * j * (x * x * x * (j * j)) ≡ m * (x * x * x) * (c * (j * j * j))
-        gathered = omega arith
 
   -- a scale c with (c j)^3 j^2 = 1: such a cube of what is c j times n is the cube of n
   module _ (c : ℕ) (inv : (c * j * (c * j) * (c * j) * (j * j)) % p ≡ 1) where
@@ -77,16 +62,6 @@ module _ (p j : ℕ) where
         gathered = omega arith
 
 -- ---- rows of a matrix made ready: a is the scaled one
-pub forward-cell : (m : List ℕ) (i : ℕ) (a : ℕ → ℕ → ℕ)
-    → ((n : ℕ) → n < 12 → a i n ≡ timesWord (entry m i n) forwardScale) → (x s : ℕ → ℕ)
-    → ((n : ℕ) → n < 12 → x n ≡ montgomeryCube (s n))
-    → timesColumn 12 a x i ≡ timesColumn 12 (entry m) (λ n. cube (s n)) i
-unfolding timesColumn timesWord
-forward-cell m i a ha x s hx =
-    sum-eq P 12 (λ n. a i n * x n) (λ n. entry m i n * cube (s n))
-    (λ n l. ap₂ (λ u v. (u * v) % P) (ha n l) (hx n l)
-    ∙ forward-term P unitInverse forwardScale refl (entry m i n) (s n))
-
 pub back-cell : (m : List ℕ) (i : ℕ) (a : ℕ → ℕ → ℕ)
     → ((n : ℕ) → n < 12 → a i n ≡ timesWord (entry m i n) backScale) → (x : ℕ → ℕ)
     → montgomeryCube (timesColumn 12 a x i) ≡ cube (timesColumn 12 (entry m) x i)

@@ -3,36 +3,19 @@
 // scales make up for that.
 ghost use mathlib.Core.Path.{_≡_};
 ghost use Prim.Native.Nat.{_<_, _≤_};
-ghost use Rattle.lists.specs.Lists.{cell, tab};
 ghost use Rattle.words.specs.Words.{CanonicalTo};
 ghost use Rattle.numbers.specs.Numbers.{width};
 ghost use Rattle.table.specs.Table.{IsTable, initialConstant, firstStepConstant, secondStepConstant};
+ghost use Rattle.table.specs.ReadyHelpers.{matrixReady};
 ghost use Rattle.hash.specs.Hash.{secondStep};
 ghost use Rattle.constraints.specs.Constraints.{minus, backStep};
-ghost use Rattle.steps.specs.StepHelpers.{montgomeryCube, forwardReady, backReady, columns};
+ghost use Rattle.steps.specs.StepHelpers.{backReady, columns};
 use fp::Fp;
 use mixing::READY_WORDS;
 use numbers::WIDTH;
 
-// 2^192 mod p: 2^128 for the cubes, 2^64 for the division when M is made ready.
-const FORWARD: u64 = 2148101911894228676;
-
 // The cube root of 2^128, times 2^64, mod p.
 const BACK: u64 = 655732205038664229;
-
-// The cube of every cell, divided by 2^128.
-fn montgomery_cubes(s: [u64; WIDTH]) -> [u64; WIDTH]
-    requires { ⌜ CanonicalTo width s ⌝ }
-    ensures { λ r. ⌜ (r ≡ tab width (λ j. montgomeryCube (cell s j))) × CanonicalTo width r ⌝ }
-{
-    let q = montgomery::quotient(s[0]);
-    let mut out = [0u64; WIDTH];
-    for j in 0..WIDTH {
-        let x = s[j];
-        out[j] = montgomery::times(montgomery::times(x, x, q), x, q);
-    }
-    out
-}
 
 // The cells less K_0.
 pub fn less_initial(table: &[u64], s: [u64; WIDTH]) -> [u64; WIDTH]
@@ -73,14 +56,6 @@ pub fn less_second_step(table: &[u64], round: usize, s: [u64; WIDTH]) -> [u64; W
     out
 }
 
-// M made ready for the second steps.
-pub fn forward_ready(table: &[u64]) -> [u64; READY_WORDS]
-    requires { ⌜ IsTable (now table) ⌝ }
-    ensures { λ r. ⌜ r ≡ forwardReady (now (table .entry)) ⌝ }
-{
-    mixing::ready(table::matrix(table), FORWARD)
-}
-
 // The inverse of M made ready for undoing the first steps.
 pub fn back_ready(table: &[u64]) -> [u64; READY_WORDS]
     requires { ⌜ IsTable (now table) ⌝ }
@@ -98,11 +73,11 @@ pub fn forward_step(
     count: usize,
 ) -> [u64; WIDTH]
     requires { ⌜
-        IsTable (now table) × (now ready ≡ forwardReady (now table))
+        IsTable (now table) × (now ready ≡ matrixReady (now table))
         × (round < 10) × CanonicalTo width s × (count ≤ width) ⌝ }
     ensures { λ r. ⌜ r ≡ columns count (secondStep (now (table .entry)) round s) ⌝ }
 {
-    let mixed = mixing::mix(ready, montgomery_cubes(s));
+    let mixed = mixing::mix(ready, hash::montgomery_cubes(s));
     let mut out = [0u64; WIDTH];
     for i in 0..count {
         let constant = table::second_step_constant(table, round, i);
@@ -117,5 +92,5 @@ pub fn back_step(ready: &[u64], table: &[u64], round: usize, s: [u64; WIDTH]) ->
     ensures { λ r. ⌜ r ≡ backStep (now (table .entry)) round s ⌝ }
 {
     let less = less_first_step(table, round, s);
-    montgomery_cubes(mixing::mix(ready, less))
+    hash::montgomery_cubes(mixing::mix(ready, less))
 }

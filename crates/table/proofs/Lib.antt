@@ -1,3 +1,4 @@
 pub mod Parts
+pub mod Ready
 pub mod Tested
 pub mod Theorems

@@ -3,21 +3,26 @@
 -- Assumes nothing.
 use Prim.Native.Nat.{ℕ, _+_, _*_, _/_, _%_, _<_}
 use mathlib.Core.Path.{_≡_, refl, sym, ap, ap₂, _∙_}
-use mathlib.Core.Bool.{true, false}
+use mathlib.Core.Bool.{Bool, true, false}
 use mathlib.Core.List.{List}
+use native.Mathlib.Nat.{mod-lt}
 use native.Mathlib.Omega.{arith}
 use borrow.Author.Tests.{eq-eqb, ne-eqb}
+use lib.Dec.{eqb}
 use lib.ListN.{length}
-use Rattle.lists.specs.Lists.{cell, tab}
+use Rattle.lists.specs.Lists.{choose, cell, tab}
 use Rattle.lists.proofs.Tab.{cell-tab}
 use Rattle.lists.proofs.First.{first-none, found-at}
+use Rattle.field.specs.Field.{P}
 use Rattle.words.specs.Words.{CanonicalTo, AllCanonical, firstBad}
-use Rattle.matrix.specs.Matrix.{product, identity, entry, times}
+use Rattle.matrix.specs.Matrix.{product, identity, entry, timesColumn}
 use Rattle.matrix.proofs.Linear.{times-ext, product-column}
-use Rattle.matrix.proofs.States.{cell-times}
+use Rattle.mixing.specs.MixingHelpers.{readyEntry}
 use Rattle.refusals.specs.declared.Answer.the-variants.{Accepted, Refused}
 use Rattle.refusals.specs.declared.Refusal.the-variants.{TableLength, TableWord, WrongInverse}
 use Rattle.table.specs.Table.{tableWords, matrixOf, inverseOf, unlike, firstUnlike, tableTest}
+use Rattle.table.specs.ReadyHelpers.{matrixUnit, matrixReady}
+use Rattle.table.proofs.Ready.{product-scaled, unit-cancel, unit-diagonal}
 
 -- ---- the product, column by column
 pub column-canonical : (n x : List ℕ) (k : ℕ) → length n ≡ 144 → AllCanonical n → k < 12
@@ -25,19 +30,19 @@ pub column-canonical : (n x : List ℕ) (k : ℕ) → length n ≡ 144 → AllCa
 column-canonical n x k size h hk e i l =
     rw (ap (λ s. cell s i) e ∙ cell-tab 12 (λ j. entry n j k) i l) (h (12 * i + k) (omega arith))
 
--- the cells of m times n, in the order in which they are computed
+-- the cells of the matrix that was made ready times n, in the order in which they are computed
 abbrev pub byColumns : List ℕ → List ℕ → ℕ → ℕ
-byColumns m n t = product 12 (entry m) (entry n) (t % 12) (t / 12)
+byColumns r n t = product 12 (readyEntry r) (entry n) (t % 12) (t / 12)
 
-pub next-cell : (m n c x : List ℕ) (k i : ℕ) → i < 12 → c ≡ tab 12 (λ j. entry n j k) → x ≡ times m c
-    → cell x i ≡ byColumns m n (12 * k + i)
-next-cell m n c x k i h ec ex =
+pub next-cell : (r n c x : List ℕ) (k i : ℕ) → i < 12 → c ≡ tab 12 (λ j. entry n j k)
+    → x ≡ tab 12 (timesColumn 12 (readyEntry r) (cell c)) → cell x i ≡ byColumns r n (12 * k + i)
+next-cell r n c x k i h ec ex =
     ap (λ s. cell s i) ex
-    ∙ cell-times m c i h
-    ∙ times-ext 12 (entry m) (entry m) (cell c) column i (λ j l. refl)
+    ∙ cell-tab 12 (timesColumn 12 (readyEntry r) (cell c)) i h
+    ∙ times-ext 12 (readyEntry r) (readyEntry r) (cell c) column i (λ j l. refl)
     (λ j l. ap (λ s. cell s j) ec ∙ cell-tab 12 column j l)
-    ∙ sym (product-column 12 (entry m) (entry n) i k)
-    ∙ ap₂ (product 12 (entry m) (entry n)) p q
+    ∙ sym (product-column 12 (readyEntry r) (entry n) i k)
+    ∙ ap₂ (product 12 (readyEntry r) (entry n)) p q
   where
     column : ℕ → ℕ
     column j = entry n j k
@@ -48,13 +53,14 @@ next-cell m n c x k i h ec ex =
     q : k ≡ (12 * k + i) / 12
     q = omega arith
 
--- cell c of the product, row by row
-pub at-cell : (m n s : List ℕ) (c : ℕ) → c < 144 → s ≡ tab 144 (byColumns m n)
-    → cell s (12 * (c % 12) + c / 12) ≡ product 12 (entry m) (entry n) (c / 12) (c % 12)
-at-cell m n s c h e =
+-- cell c of M times n, row by row, times 2^128
+pub at-cell : (t r n s : List ℕ) (c : ℕ) → r ≡ matrixReady t → c < 144 → s ≡ tab 144 (byColumns r n)
+    → cell s (12 * (c % 12) + c / 12) ≡ (product 12 (entry (matrixOf t)) (entry n) (c / 12) (c % 12) * matrixUnit) % P
+at-cell t r n s c er h e =
     ap (λ l. cell l (12 * (c % 12) + c / 12)) e
-    ∙ cell-tab 144 (byColumns m n) (12 * (c % 12) + c / 12) (omega arith)
-    ∙ ap₂ (product 12 (entry m) (entry n)) p q
+    ∙ cell-tab 144 (byColumns r n) (12 * (c % 12) + c / 12) (omega arith)
+    ∙ ap₂ (product 12 (readyEntry r) (entry n)) p q
+    ∙ product-scaled t r er (entry n) (c / 12) (c % 12) (omega arith)
   where
     p : (12 * (c % 12) + c / 12) % 12 ≡ c / 12
     p = omega arith
@@ -62,20 +68,30 @@ at-cell m n s c h e =
     q : (12 * (c % 12) + c / 12) / 12 ≡ c % 12
     q = omega arith
 
+identity-lt : (b : Bool) → choose b 1 0 < P
+identity-lt true = omega arith
+identity-lt false = omega arith
+
 module _ (t : List ℕ) (c v d : ℕ)
-    (value : v ≡ product 12 (entry (matrixOf t)) (entry (inverseOf t)) (c / 12) (c % 12))
-    (wanted : d ≡ identity (c / 12) (c % 12)) where
+    (value : v ≡ (product 12 (entry (matrixOf t)) (entry (inverseOf t)) (c / 12) (c % 12) * matrixUnit) % P)
+    (wanted : d ≡ choose (eqb (c / 12) (c % 12)) matrixUnit 0) where
+  found : ℕ
+  found = product 12 (entry (matrixOf t)) (entry (inverseOf t)) (c / 12) (c % 12)
+
+  same : d ≡ (identity (c / 12) (c % 12) * matrixUnit) % P
+  same = wanted ∙ unit-diagonal (eqb (c / 12) (c % 12))
+
   pub unlike-yes : (v ≡ d → ⊥) → unlike t c ≡ true
-  unfolding unlike
+  unfolding unlike found
   unlike-yes h =
-      rw (ne-eqb (product 12 (entry (matrixOf t)) (entry (inverseOf t)) (c / 12) (c % 12)) (identity (c / 12) (c % 12))
-      (λ e. h (value ∙ e ∙ sym wanted)))
+      rw (ne-eqb found (identity (c / 12) (c % 12)) (λ e. h (value ∙ ap (λ x. (x * matrixUnit) % P) e ∙ sym same)))
 
   pub unlike-no : v ≡ d → unlike t c ≡ false
-  unfolding unlike
+  unfolding unlike found product
   unlike-no h =
-      rw (eq-eqb (product 12 (entry (matrixOf t)) (entry (inverseOf t)) (c / 12) (c % 12)) (identity (c / 12) (c % 12))
-      (sym value ∙ h ∙ wanted))
+      rw (eq-eqb found (identity (c / 12) (c % 12))
+      (unit-cancel found (identity (c / 12) (c % 12)) (mod-lt _ (omega arith))
+      (identity-lt (eqb (c / 12) (c % 12))) (sym value ∙ h ∙ same)))
 
 -- ---- the scan
 pub stops : (t : List ℕ) (c : ℕ) → c < 144 → ((d : ℕ) → d < c → unlike t d ≡ false) → unlike t c ≡ true

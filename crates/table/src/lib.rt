@@ -1,16 +1,20 @@
 // The table and its test (document 01, "The table").
 ghost use mathlib.Core.Path.{_≡_};
 ghost use Prim.Native.Nat.{_/_, _%_, _<_};
+ghost use lib.Dec.{eqb};
 ghost use lib.ListN.{length};
-ghost use Rattle.lists.specs.Lists.{cell, tab};
+ghost use Rattle.lists.specs.Lists.{choose, cell, tab};
 ghost use Rattle.field.specs.Field.{Canonical};
 ghost use Rattle.words.specs.Words.{AllCanonical};
 ghost use Rattle.numbers.specs.Numbers.{width};
-ghost use Rattle.matrix.specs.Matrix.{matrixWords, entry, product, identity};
+ghost use Rattle.matrix.specs.Matrix.{matrixWords, entry, product};
+ghost use Rattle.mixing.specs.MixingHelpers.{IsReady, readyEntry};
 ghost use Rattle.table.specs.Table.{tableWords, matrixOf, inverseOf};
 ghost use Rattle.table.specs.Table.{constant, initialConstant, firstStepConstant, secondStepConstant};
 ghost use Rattle.table.specs.Table.{firstUnlike, tableTest, IsTable};
+ghost use Rattle.table.specs.ReadyHelpers.{matrixUnit, matrixReady};
 use matrix::MATRIX_WORDS;
+use mixing::READY_WORDS;
 use numbers::WIDTH;
 use refusals::Answer;
 use refusals::Refusal;
@@ -84,18 +88,27 @@ fn column(n: &[u64], k: usize) -> [u64; WIDTH]
     out
 }
 
-// m times n, column by column: cell (i, k) stands at 12 * k + i.
-fn product_columns(m: &[u64], n: &[u64]) -> [u64; MATRIX_WORDS]
-    requires { ⌜
-        (length (now m) ≡ matrixWords) × AllCanonical (now m)
-        × (length (now n) ≡ matrixWords) × AllCanonical (now n) ⌝ }
+// 2^192 mod p: 2^64 for the division when M is made ready, and 2^128 for cells that come divided by it.
+const SCALE: u64 = 2148101911894228676;
+
+// M made ready, times 2^128.
+pub fn matrix_ready(table: &[u64]) -> [u64; READY_WORDS]
+    requires { ⌜ (length (now table) ≡ tableWords) × AllCanonical (now table) ⌝ }
+    ensures { λ r. ⌜ r ≡ matrixReady (now (table .entry)) ⌝ }
+{
+    mixing::ready(matrix(table), SCALE)
+}
+
+// The matrix that was made ready times n, column by column: cell (i, k) stands at 12 * k + i.
+fn product_columns(ready: &[u64], n: &[u64]) -> [u64; MATRIX_WORDS]
+    requires { ⌜ IsReady (now ready) × (length (now n) ≡ matrixWords) × AllCanonical (now n) ⌝ }
     ensures { λ r. ⌜
         r ≡ tab matrixWords
-        (λ t. product width (entry (now (m .entry))) (entry (now (n .entry))) (t % width) (t / width)) ⌝ }
+        (λ t. product width (readyEntry (now (ready .entry))) (entry (now (n .entry))) (t % width) (t / width)) ⌝ }
 {
     let mut out = [0u64; MATRIX_WORDS];
     for k in 0..WIDTH {
-        let x = matrix::times(m, column(n, k));
+        let x = mixing::mix(ready, column(n, k));
         for i in 0..WIDTH {
             out[WIDTH * k + i] = x[i];
         }
@@ -103,21 +116,20 @@ fn product_columns(m: &[u64], n: &[u64]) -> [u64; MATRIX_WORDS]
     out
 }
 
-// The identity in row i and column k.
+// The identity in row i and column k, times 2^128.
 fn identity(i: usize, k: usize) -> u64
-    ensures { λ r. ⌜ r ≡ identity i k ⌝ }
+    ensures { λ r. ⌜ r ≡ choose (eqb i k) matrixUnit 0 ⌝ }
 {
-    if i == k { 1 } else { 0 }
+    if i == k { montgomery::SQUARE } else { 0 }
 }
 
-// The first cell, row by row, in which M times the stored inverse is unlike the identity, or 144.
-fn first_unlike(table: &[u64]) -> usize
-    requires { ⌜ (length (now table) ≡ tableWords) × AllCanonical (now table) ⌝ }
+// The first cell, row by row, in which M times the stored inverse is unlike the identity, or 144: both times 2^128.
+fn first_unlike(ready: &[u64], table: &[u64]) -> usize
+    requires { ⌜
+        (length (now table) ≡ tableWords) × AllCanonical (now table) × (now ready ≡ matrixReady (now table)) ⌝ }
     ensures { λ r. ⌜ r ≡ firstUnlike (now (table .entry)) ⌝ }
 {
-    let m = matrix(table);
-    let n = inverse(table);
-    let product = product_columns(m, n);
+    let product = product_columns(ready, inverse(table));
     for c in 0..MATRIX_WORDS {
         let row = c / WIDTH;
         let k = c % WIDTH;
@@ -128,9 +140,11 @@ fn first_unlike(table: &[u64]) -> usize
     MATRIX_WORDS
 }
 
-// The table test, with which every operation but Prepare begins: 1, 2, 4.
-pub fn test(table: &[u64]) -> Answer
-    ensures { λ r. ⌜ r ≡ tableTest (now (table .entry)) ⌝ }
+// The table test, with which every operation but Prepare begins: 1, 2, 4. Where it accepts it leaves M made ready.
+pub fn test_ready(table: &[u64], ready: &mut [u64; READY_WORDS]) -> Answer
+    ensures { λ r. ⌜
+        (r ≡ tableTest (now (table .entry)))
+        × (IsTable (now (table .entry)) → now (ready .exit) ≡ matrixReady (now (table .entry))) ⌝ }
 {
     if table.len() != WORDS {
         return Answer::Refused(Refusal::TableLength);
@@ -139,9 +153,19 @@ pub fn test(table: &[u64]) -> Answer
     if bad != WORDS {
         return Answer::Refused(Refusal::TableWord(bad));
     }
-    let cell = first_unlike(table);
+    let made = matrix_ready(table);
+    *ready = made;
+    let cell = first_unlike(ready, table);
     if cell != MATRIX_WORDS {
         return Answer::Refused(Refusal::WrongInverse(cell));
     }
     Answer::Accepted
+}
+
+// The table test alone.
+pub fn test(table: &[u64]) -> Answer
+    ensures { λ r. ⌜ r ≡ tableTest (now (table .entry)) ⌝ }
+{
+    let mut room = [0u64; READY_WORDS];
+    test_ready(table, &mut room)
 }

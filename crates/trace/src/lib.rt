@@ -5,10 +5,12 @@ ghost use lib.ListN.{length, take};
 ghost use Rattle.words.specs.Words.{AllCanonical, CanonicalTo};
 ghost use Rattle.numbers.specs.Numbers.{firstRow, tapWords, traceWords, width};
 ghost use Rattle.table.specs.Table.{IsTable};
+ghost use Rattle.table.specs.ReadyHelpers.{matrixReady};
 ghost use Rattle.hash.specs.Hash.{middleState, finalState, chain};
 ghost use Rattle.trace.specs.Trace.{trace};
 ghost use Rattle.trace.specs.RowHelpers.{withRows, rowsBefore, hashRow};
 ghost use Rattle.trace.specs.Answers.{buildTest, buildAnswer, buildLeaves};
+use mixing::READY_WORDS;
 use numbers::BATCH_TAP_WORDS;
 use numbers::BATCH_WORDS;
 use numbers::BatchCount;
@@ -42,8 +44,9 @@ fn write_row(destination: &mut [u64], row: RowNumber, cells: [u64; WIDTH])
     put(&mut destination[start..end], cells);
 }
 
-// The ten middle states of a hash as the rows from the given one on. Its final state.
+// The ten middle states of a hash as the rows from the given one on. Its final state. Here and below M is made ready.
 fn write_rounds(
+    ready: &[u64],
     table: &[u64],
     input: [u64; WIDTH],
     destination: &mut [u64],
@@ -51,7 +54,8 @@ fn write_rounds(
 ) -> [u64; WIDTH]
     requires { ⌜
         IsTable (now table) × CanonicalTo width input
-        × (row .0 < 2 ^ 31) × (width * row .0 + 120 ≤ length (now destination)) ⌝ }
+        × (row .0 < 2 ^ 31) × (width * row .0 + 120 ≤ length (now destination))
+        × (now ready ≡ matrixReady (now table)) ⌝ }
     ensures { λ r. ⌜
         (r ≡ finalState (now (table .entry)) input)
         × (now (destination .exit)
@@ -61,9 +65,9 @@ fn write_rounds(
     let first = row.0;
     let mut state = hash::plus_initial(table, input);
     for round in 0..10 {
-        let middle = hash::first_step(table, round, state);
+        let middle = hash::first_step(ready, table, round, state);
         write_row(destination, RowNumber(first + round), middle);
-        let next = hash::second_step(table, round, middle);
+        let next = hash::second_step(ready, table, round, middle);
         state = next;
     }
     state
@@ -97,6 +101,7 @@ fn write_final(destination: &mut [u64], hash: HashNumber, state: [u64; WIDTH])
 
 // The rows that the hash fills, from its input. Its final state.
 pub fn write_hash(
+    ready: &[u64],
     table: &[u64],
     hash: HashNumber,
     input: [u64; WIDTH],
@@ -104,7 +109,8 @@ pub fn write_hash(
 ) -> [u64; WIDTH]
     requires { ⌜
         IsTable (now table) × CanonicalTo width input × (hash .0 < 2 ^ 25)
-        × (width * rowsBefore (hash .0 + 1) ≤ length (now destination)) ⌝ }
+        × (width * rowsBefore (hash .0 + 1) ≤ length (now destination))
+        × (now ready ≡ matrixReady (now table)) ⌝ }
     ensures { λ r. ⌜
         (r ≡ finalState (now (table .entry)) input)
         × (now (destination .exit)
@@ -112,16 +118,23 @@ pub fn write_hash(
         (now (destination .entry))) ⌝ }
 {
     write_input(destination, hash, input);
-    let state = write_rounds(table, input, destination, hash.first_row());
+    let state = write_rounds(ready, table, input, destination, hash.first_row());
     write_final(destination, hash, state);
     state
 }
 
 // The hashes one after the other. The state that begins with the chain's output.
-fn write_hashes(table: &[u64], taps: &[u64], k: usize, destination: &mut [u64]) -> [u64; WIDTH]
+fn write_hashes(
+    ready: &[u64],
+    table: &[u64],
+    taps: &[u64],
+    k: usize,
+    destination: &mut [u64],
+) -> [u64; WIDTH]
     requires { ⌜
         IsTable (now table) × AllCanonical (now taps) × (k ≤ 2 ^ 20)
-        × (length (now taps) ≡ tapWords k) × (length (now destination) ≡ traceWords k) ⌝ }
+        × (length (now taps) ≡ tapWords k) × (length (now destination) ≡ traceWords k)
+        × (now ready ≡ matrixReady (now table)) ⌝ }
     ensures { λ r. ⌜
         (take 4 r ≡ chain (now (table .entry)) (now (taps .entry)) k)
         × (now (destination .exit) ≡ trace (now (table .entry)) (now (taps .entry)) k) ⌝ }
@@ -131,17 +144,19 @@ fn write_hashes(table: &[u64], taps: &[u64], k: usize, destination: &mut [u64]) 
     for h in 0..hashes {
         let hash = HashNumber(h);
         let input = chain::input_of(hash, state, taps);
-        let next = write_hash(table, hash, input, destination);
+        let next = write_hash(ready, table, hash, input, destination);
         state = next;
     }
     state
 }
 
-// What Build tests: 1, 2, 4, 5, 8, 6.
-fn test_build(table: &[u64], taps: &[u64], size: usize) -> Answer
-    ensures { λ r. ⌜ r ≡ buildTest (now (table .entry)) (now (taps .entry)) size ⌝ }
+// What Build tests: 1, 2, 4, 5, 8, 6. The table test leaves M made ready.
+fn test_build(table: &[u64], taps: &[u64], size: usize, ready: &mut [u64; READY_WORDS]) -> Answer
+    ensures { λ r. ⌜
+        (r ≡ buildTest (now (table .entry)) (now (taps .entry)) size)
+        × (IsTable (now (table .entry)) → now (ready .exit) ≡ matrixReady (now (table .entry))) ⌝ }
 {
-    let of_table = table::test(table);
+    let of_table = table::test_ready(table, ready);
     let Answer::Accepted = of_table else {
         return of_table;
     };
@@ -165,10 +180,17 @@ pub fn build(table: &[u64], taps: &[u64], destination: &mut [u64]) -> DigestAnsw
         × (now (destination .exit)
         ≡ buildLeaves (now (table .entry)) (now (taps .entry)) (now (destination .entry))) ⌝ }
 {
-    let answer = test_build(table, taps, destination.len());
+    let mut ready = [0u64; READY_WORDS];
+    let answer = test_build(table, taps, destination.len(), &mut ready);
     let Answer::Accepted = answer else {
         return DigestAnswer::Refused(answer.refusal());
     };
-    let last = write_hashes(table, taps, taps.len() / BATCH_TAP_WORDS, destination);
+    let last = write_hashes(
+        &ready,
+        table,
+        taps,
+        taps.len() / BATCH_TAP_WORDS,
+        destination,
+    );
     DigestAnswer::Accepted(Digest(last[0], last[1], last[2], last[3]))
 }

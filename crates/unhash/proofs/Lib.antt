@@ -1,3 +1,4 @@
+pub mod CodeRoots
 pub mod Rounds
 pub mod Taps
 pub mod Answers

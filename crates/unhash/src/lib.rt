@@ -4,21 +4,27 @@ ghost use Prim.Native.Nat.{_<_};
 ghost use Rattle.words.specs.Words.{CanonicalTo};
 ghost use Rattle.numbers.specs.Numbers.{width};
 ghost use Rattle.table.specs.Table.{IsTable};
+ghost use Rattle.steps.specs.StepHelpers.{backReady};
 ghost use Rattle.unhash.specs.Unhash.{secondStepUndone, roundsUndone, endsInZeros};
 ghost use Rattle.unhash.specs.Answers.{unhashAnswer};
+use mixing::READY_WORDS;
 use numbers::WIDTH;
 use refusals::Answer;
 use refusals::Pair;
 use refusals::PairAnswer;
 use refusals::Refusal;
 
+// What a root is multiplied by to make up for the inverse's scale, and for cells taken for words of Montgomery's form.
+const ROOT: u64 = 1320274735724748368;
+
 // The second step of the round undone, to its middle state: s less its constant, times the inverse of M, then rooted.
-fn undo_second_step(table: &[u64], round: usize, s: [u64; WIDTH]) -> [u64; WIDTH]
-    requires { ⌜ IsTable (now table) × (round < 10) × CanonicalTo width s ⌝ }
+fn undo_second_step(ready: &[u64], table: &[u64], round: usize, s: [u64; WIDTH]) -> [u64; WIDTH]
+    requires { ⌜
+        IsTable (now table) × (round < 10) × CanonicalTo width s × (now ready ≡ backReady (now table)) ⌝ }
     ensures { λ r. ⌜ r ≡ secondStepUndone (now (table .entry)) round s ⌝ }
 {
     let less = steps::less_second_step(table, round, s);
-    roots::roots(matrix::times(table::inverse(table), less))
+    roots::scaled_roots(mixing::mix(ready, less), ROOT)
 }
 
 // The state before round 0, from the one after round 9: the last round is undone first.
@@ -30,7 +36,7 @@ fn undo_rounds(table: &[u64], s: [u64; WIDTH]) -> [u64; WIDTH]
     let mut state = s;
     for undone in 0..10 {
         let round = 9 - undone;
-        let middle = undo_second_step(table, round, state);
+        let middle = undo_second_step(&inverse, table, round, state);
         let before = steps::back_step(&inverse, table, round, middle);
         state = before;
     }
@@ -60,7 +66,8 @@ fn ends_in_zeros(input: [u64; WIDTH]) -> bool
 pub fn unhash(table: &[u64], cells: [u64; WIDTH]) -> PairAnswer
     ensures { λ r. ⌜ r ≡ unhashAnswer (now (table .entry)) cells ⌝ }
 {
-    let answer = hash::test_hash(table, &cells);
+    let mut room = [0u64; READY_WORDS];
+    let answer = hash::test_hash(table, &cells, &mut room);
     let Answer::Accepted = answer else {
         return PairAnswer::Refused(answer.refusal());
     };

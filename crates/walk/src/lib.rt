@@ -7,7 +7,8 @@ ghost use Rattle.numbers.specs.Numbers.{traceWords};
 ghost use Rattle.refusals.specs.Answers.{testsAfter};
 ghost use Rattle.table.specs.Table.{IsTable};
 ghost use Rattle.constraints.specs.Constraints.{tests, constraintTest};
-ghost use Rattle.steps.specs.StepHelpers.{forwardReady, backReady};
+ghost use Rattle.table.specs.ReadyHelpers.{matrixReady};
+ghost use Rattle.steps.specs.StepHelpers.{backReady};
 use numbers::BATCH_ROWS;
 use numbers::RowNumber;
 use refusals::Refusal;
@@ -23,7 +24,7 @@ pub fn walk_tests(
     c: usize,
     k: usize,
 ) -> TestsAnswer
-    requires { ⌜ (now m ≡ forwardReady (now table)) × (now inverse ≡ backReady (now table)) × IsTable (now table)
+    requires { ⌜ (now m ≡ matrixReady (now table)) × (now inverse ≡ backReady (now table)) × IsTable (now table)
         × AllCanonical (now trace) × (length (now trace) ≡ traceWords k) × (c ≤ k) × (k < 2 ^ 32) ⌝ }
     ensures { λ r. ⌜ r ≡ testsAfter (constraintTest (now (table .entry)) (now (trace .entry)) (now (claim .entry)) c k)
         (length (tests k c)) ⌝ }

@@ -30,20 +30,20 @@ enum-told-2 c = search needs
 
 returns : tie.Need-returns
 unfolding editNoRoom
-returns c = after-refused _ (c .before .before .test-opening .ensures) (c .enum-told2 .given .1)
+returns c = after-refused _ (c .before .before .test-opening .ensures .0) (c .enum-told2 .given .1)
 
 -- the opening tests are passed, and the tap's number is to be tested
 abbrev entry : tie.After-enum-told → tie.Start
-entry told = told .before .before .before .before .before
+entry told = told .before .before .before .before .before .before
 
 opened : (c : tie.After-enum-told) {o : Answer} → let a = entry c .args in
     o ≡ unless (leb (a .tap) (3 * traceWordBatches (length (a .trace .now)))) NoSuchTap (Refused DestinationLength)
     → o ≡ editNoRoom (a .table .now) (a .trace .now) (a .c) (a .tap)
 unfolding editNoRoom
-opened c e = after-accepted (c .before .before .test-opening .ensures) (c .enum-told .given .1) e
+opened c e = after-accepted (c .before .before .test-opening .ensures .0) (c .enum-told .given .1) e
 
 mul-if1 : tie.Need-mul-if1
-mul-if1 c = omega (arith, opened-by _ _ _ (c .before .before .test-opening .ensures) (c .enum-told .given .1) .1)
+mul-if1 c = omega (arith, opened-by _ _ _ (c .before .before .test-opening .ensures .0) (c .enum-told .given .1) .1)
 
 returns-2 : tie.Need-returns-2
 returns-2 c = opened (c .before) (unless-refused _ (lt-leb _ _ (c .if1 .taken)) refl)

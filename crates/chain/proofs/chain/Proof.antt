@@ -3,14 +3,21 @@
 -- Assumes nothing.
 use mathlib.Core.Path.{sym, ap, _∙_}
 use native.Mathlib.Omega.{arith}
+use lib.ListN.{length}
+use Rattle.numbers.specs.Numbers.{tapWordBatches}
 use Rattle.refusals.specs.Refusals.{digest}
 use Rattle.refusals.proofs.Laws.{digest-turned-back, digest-returned}
+use Rattle.table.proofs.Ready.{ready-is}
 use Rattle.hash.specs.Hash.{chain as chain-of}
 use Rattle.chain.specs.Answers.{chainAnswer}
-use Rattle.chain.proofs.Answers.{chain-inputs, digest-take}
+use Rattle.chain.proofs.Answers.{ChainInputs, chain-inputs, digest-take}
 use borrow.Author.Needs.{needs}
 use Rattle.chain.proofs.chain.Statement.{statement}
 use Rattle.chain.proofs.chain.Tie as tie
+
+-- the function's entry, from where the tests have answered
+abbrev entry : tie.After-test-chain → tie.Start
+entry t = t .before .before .before .before
 
 test-chain-requires : tie.Need-test-chain-requires
 test-chain-requires c κs = search needs
@@ -26,33 +33,49 @@ refusal-requires c κs = search needs
 
 returns : tie.Need-returns
 unfolding chainAnswer
-returns c = digest-turned-back (c .before .before .before .test-chain .ensures) _ (c .refusal .ensures)
+returns c = digest-turned-back (c .before .before .before .test-chain .ensures .0) _ (c .refusal .ensures)
+
+-- where the tests have passed, what they say of the table and the taps, and M is left made ready
+inputs : (c : tie.After-enum-told) → let start = entry (c .before .before) .args in
+    ChainInputs (start .table .now) (start .taps .now) (tapWordBatches (length (start .taps .now)))
+inputs c = chain-inputs _ _ (sym (c .before .before .test-chain .ensures .0) ∙ c .enum-told .given .1)
+
+slice-aggregate-last-state : tie.Need-slice-aggregate-last-state
+slice-aggregate-last-state c =
+    let told = c .before in
+    sym (ready-is _ _ (told .before .before .test-chain .ensures .1 (inputs told .table)) .size)
 
 mul-last-state : tie.Need-mul-last-state
 mul-last-state c = search needs
 
 last-state-requires : tie.Need-last-state-requires
 last-state-requires c κs =
-    let i = chain-inputs _ _ (sym (c .before .before .test-chain .ensures) ∙ c .enum-told .given .1) in
-    (i .table, omega (arith, i .permitted .high), omega (arith, i .size), i .canonical)
+    let told = c .before in
+    let i = inputs told in (
+      i .table,
+      omega (arith, i .permitted .high),
+      omega (arith, i .size),
+      i .canonical,
+      told .before .before .test-chain .ensures .1 (i .table),
+    )
 
-array-read-t11 : tie.Need-array-read-t11
-array-read-t11 c = search needs
+array-read-t15 : tie.Need-array-read-t15
+array-read-t15 c = search needs
 
-array-read-t14 : tie.Need-array-read-t14
-array-read-t14 c = search needs
+array-read-t18 : tie.Need-array-read-t18
+array-read-t18 c = search needs
 
-array-read-t17 : tie.Need-array-read-t17
-array-read-t17 c = search needs
+array-read-t21 : tie.Need-array-read-t21
+array-read-t21 c = search needs
 
-array-read-t20 : tie.Need-array-read-t20
-array-read-t20 c = search needs
+array-read-t24 : tie.Need-array-read-t24
+array-read-t24 c = search needs
 
 returns-2 : tie.Need-returns-2
 unfolding chainAnswer chain-of
 returns-2 c =
-    let told = c .before in
-    digest-returned (told .before .before .test-chain .ensures) (told .enum-told .given .1)
+    let told = c .before .before in
+    digest-returned (told .before .before .test-chain .ensures .0) (told .enum-told .given .1)
     (digest-take (c .last-state .result) ∙ ap digest (c .last-state .ensures))
 
 pub chain-spec : {M : Type 1} → statement M
@@ -64,10 +87,11 @@ chain-spec =
     enum-told-2
     refusal-requires
     returns
+    slice-aggregate-last-state
     mul-last-state
     last-state-requires
-    array-read-t11
-    array-read-t14
-    array-read-t17
-    array-read-t20
+    array-read-t15
+    array-read-t18
+    array-read-t21
+    array-read-t24
     returns-2)

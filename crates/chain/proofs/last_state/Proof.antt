@@ -12,21 +12,21 @@ use Rattle.chain.proofs.last_state.Statement.{statement}
 use Rattle.chain.proofs.last_state.Tie as tie
 
 abbrev Inv-loop : tie.InvT-loop
-Inv-loop table taps hashes state₀ h₀ state h = (h ≤ hashes) × (take 4 state ≡ outputAt table taps h)
+Inv-loop ready table taps hashes state₀ h₀ state h = (h ≤ hashes) × (take 4 state ≡ outputAt table taps h)
 
 abbrev μ-loop : tie.MeasureT-loop
-μ-loop table taps hashes state₀ h₀ state h = hashes - h
+μ-loop ready table taps hashes state₀ h₀ state h = hashes - h
 
 -- the function's entry, from the loop's head
 abbrev entry : tie.At-loop Inv-loop μ-loop → tie.Start Inv-loop μ-loop
-entry head = head .before .before .before .before
+entry head = head .before .before .before .before .before
 
 chain-start-requires : tie.Need-chain-start-requires Inv-loop μ-loop
 chain-start-requires c κs = omega arith
 
 loop-holds : tie.Need-loop-holds Inv-loop μ-loop
 loop-holds c =
-    let start = c .before .before .before .args in
+    let start = c .before .before .before .before .args in
     (omega arith, starts (start .table .now) (start .taps .now) _ (omega arith) (c .chain-start .ensures))
 
 input-of-requires : tie.Need-input-of-requires Inv-loop μ-loop
@@ -40,6 +40,7 @@ final-state-requires c κs =
       start .pre .0,
       input-canonical (start .args .table .now) (start .args .taps .now) (loop .h) (loop .state) _ (loop .inv .1)
           (c .input-of .ensures) (start .pre .3) (omega arith),
+      start .pre .4,
     )
 
 add-h : tie.Need-add-h Inv-loop μ-loop

@@ -1,9 +1,13 @@
 -- `checker::check`: each return is the case of the definition that the tests before it left.
 -- Assumes nothing.
 use mathlib.Core.Path.{refl, sym, _∙_}
+use Prim.Native.Nat.{_^_, _<_}
+use lib.ListN.{length}
+use Rattle.numbers.specs.Numbers.{traceWordBatches}
 use Rattle.refusals.proofs.Laws.{after-refused, after-accepted, tests-turned-back}
+use Rattle.table.proofs.Ready.{ready-is}
 use Rattle.checker.specs.Answers.{checkTest, checkAnswer}
-use Rattle.checker.proofs.Answers.{opened-by, walked}
+use Rattle.checker.proofs.Answers.{Opened, opened-by, walked}
 use borrow.Author.Needs.{needs}
 use Rattle.checker.proofs.check.Statement.{statement}
 use Rattle.checker.proofs.check.Tie as tie
@@ -23,27 +27,36 @@ refusal-requires c κs = search needs
 returns : tie.Need-returns
 unfolding checkAnswer checkTest
 returns c =
-    let tested = c .before .before .before .test-opening .ensures in
+    let tested = c .before .before .before .test-opening .ensures .0 in
     tests-turned-back (after-refused _ (sym (c .refusal .ensures) ∙ tested) refl) _ refl
 
 -- the function's entry, from where the opening tests are passed
 abbrev entry : tie.After-enum-told → tie.Start
-entry c = c .before .before .before .before .before
+entry c = c .before .before .before .before .before .before
+
+-- what is known then
+known : (c : tie.After-enum-told) → let a = entry c .args in
+    let k = traceWordBatches (length (a .trace .now)) in
+    Opened (a .table .now) (a .trace .now) (a .c) k × (k < 2 ^ 32)
+known c = opened-by _ _ _ (c .before .before .test-opening .ensures .0) (c .enum-told .given .1)
+
+slice-aggregate-test-trace : tie.Need-slice-aggregate-test-trace
+slice-aggregate-test-trace c =
+    let told = c .before in
+    sym (ready-is _ _ (told .before .before .test-opening .ensures .1 (known told .0 .table)) .size)
 
 test-trace-requires : tie.Need-test-trace-requires
 test-trace-requires c κs =
-    let told = c .before in
-    let a = entry told .args in
-    let s = opened-by (a .table .now) (a .trace .now) (a .c) (told .before .before .test-opening .ensures)
-    (told .enum-told .given .1) in
-    (s .0 .table, s .0 .size, s .0 .high, s .1)
+    let told = c .before .before in
+    let s = known told in
+    (s .0 .table, s .0 .size, s .0 .high, s .1, told .before .before .test-opening .ensures .1 (s .0 .table))
 
 returns-2 : tie.Need-returns-2
 unfolding checkAnswer checkTest
 returns-2 c =
-    let told = c .before .before in
+    let told = c .before .before .before in
     walked _ _ (c .test-trace .ensures)
-    (after-accepted (told .before .before .test-opening .ensures) (told .enum-told .given .1) refl)
+    (after-accepted (told .before .before .test-opening .ensures .0) (told .enum-told .given .1) refl)
 
 pub check-spec : {M : Type 1} → statement M
 check-spec =
@@ -54,5 +67,6 @@ check-spec =
     enum-told-2
     refusal-requires
     returns
+    slice-aggregate-test-trace
     test-trace-requires
     returns-2)

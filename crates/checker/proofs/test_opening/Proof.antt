@@ -18,8 +18,8 @@ use borrow.Author.Needs.{needs}
 use Rattle.checker.proofs.test_opening.Statement.{statement}
 use Rattle.checker.proofs.test_opening.Tie as tie
 
-test-requires : tie.Need-test-requires
-test-requires c κs = search needs
+test-ready-requires : tie.Need-test-ready-requires
+test-ready-requires c κs = search needs
 
 enum-told : tie.Need-enum-told
 enum-told c = search needs
@@ -29,7 +29,9 @@ enum-told-2 c = search needs
 
 returns : tie.Need-returns
 unfolding openingTest
-returns c = after-refused _ (c .before .before .test .ensures) (c .enum-told2 .given .1)
+returns c =
+    let t = c .before .before in
+    (after-refused _ (t .test-ready .ensures .0) (c .enum-told2 .given .1), t .test-ready .ensures .1)
 
 trace-batches-requires : tie.Need-trace-batches-requires
 trace-batches-requires c κs = search needs
@@ -45,13 +47,20 @@ unfolding openingTest
 returns-2 c =
     let b = c .before .before in
     let told = b .before in
-    let words = length (told .before .before .before .before .before .args .trace .now) in
-    after-accepted (told .before .before .test .ensures) (told .enum-told .given .1)
-    (unless-refused _ (trace-refused mostBatches words (b .trace-batches .ensures) (c .enum-told3 .given .1)) refl)
+    let t = told .before .before in
+    let words = length (t .before .before .before .before .args .trace .now) in
+    let refused = trace-refused mostBatches words (b .trace-batches .ensures) (c .enum-told3 .given .1) in (
+      after-accepted (t .test-ready .ensures .0) (told .enum-told .given .1) (unless-refused _ refused refl),
+      t .test-ready .ensures .1,
+    )
 
 -- the trace has k batches, and c is to be tested
 abbrev entry : tie.After-known-told → tie.Start
-entry c = c .before .before .before .before .before .before .before .before .before
+entry c = c .before .before .before .before .before .before .before .before .before .before
+
+-- and where the table is tested
+abbrev tested : tie.After-known-told → tie.After-test-ready
+tested c = c .before .before .before .before .before .before
 
 abbrev words : tie.After-known-told → ℕ
 words c = length (entry c .args .trace .now)
@@ -63,11 +72,13 @@ unfolding openingTest
 sized c e =
     let b = c .before .before .before in
     let told = b .before in
-    after-accepted (told .before .before .test .ensures) (told .enum-told .given .1)
+    after-accepted (told .before .before .test-ready .ensures .0) (told .enum-told .given .1)
     (unless-passed _ (trace-permitted mostBatches (words c) (b .trace-batches .ensures) (c .before .k .given .1) .0) e)
 
 returns-3 : tie.Need-returns-3
-returns-3 c = sized (c .before) (unless-refused _ (under 1 _ _ (c .if1 .taken)) refl)
+returns-3 c =
+    let k = c .before in
+    (sized k (unless-refused _ (under 1 _ _ (c .if1 .taken)) refl), tested k .test-ready .ensures .1)
 
 returns-4 : tie.Need-returns-4
 returns-4 c =
@@ -75,7 +86,7 @@ returns-4 c =
     let known = trace-permitted mostBatches (words k) (k .before .before .before .trace-batches .ensures)
     (k .before .k .given .1) .1 in
     let above : traceWordBatches (words k) < entry k .args .c = omega (arith, c .if2 .taken) in
-    sized k (unless-refused _ (over 1 _ _ above) refl)
+    (sized k (unless-refused _ (over 1 _ _ above) refl), tested k .test-ready .ensures .1)
 
 returns-5 : tie.Need-returns-5
 returns-5 c =
@@ -84,13 +95,13 @@ returns-5 c =
     (k .before .k .given .1) .1 in
     let low : 1 ≤ entry k .args .c = omega (arith, c .before .if1 .left) in
     let high : entry k .args .c ≤ traceWordBatches (words k) = omega (arith, c .if2 .left) in
-    sized k (unless-passed _ (in-range 1 _ _ low high) refl)
+    (sized k (unless-passed _ (in-range 1 _ _ low high) refl), tested k .test-ready .ensures .1)
 
 pub test-opening-spec : {M : Type 1} → statement M
 test-opening-spec =
     tie.close
     (tie.spec
-    test-requires
+    test-ready-requires
     enum-told
     enum-told-2
     returns

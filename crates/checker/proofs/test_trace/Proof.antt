@@ -30,7 +30,7 @@ returns c =
 
 -- the claim is canonical, and the trace is to be tested
 abbrev entry : tie.After-enum-told → tie.Start
-entry c = c .before .before .before .before .before .before
+entry c = c .before .before .before .before .before .before .before
 
 claimed : (c : tie.After-enum-told) {o : Answer} → let a = entry c .args in
     o ≡ fromWords (a .table .now) (a .trace .now) (a .claim .now) (a .c) (a .k)
@@ -62,7 +62,7 @@ test-constraints-requires c κs =
     let start = entry (t .before) in
     let p = start .pre in
     let canonical = canonical-words (start .args .trace .now) (t .test-words .ensures) (c .enum-told3 .given .1) in
-    (p .0, canonical, p .1, p .2, p .3)
+    (p .0, canonical, p .1, p .2, p .3, p .4)
 
 returns-3 : tie.Need-returns-3
 returns-3 c =

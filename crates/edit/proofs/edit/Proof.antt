@@ -49,36 +49,42 @@ counted c =
     let o = edit-inputs _ _ _ _ _ _ (passes c) .0 .opening in
     (o .low, o .high)
 
+matrix-ready-requires : tie.Need-matrix-ready-requires
+matrix-ready-requires c κs =
+    let t = can-rewrite c .table in
+    (t .size, t .canonical)
+
 back-ready-requires : tie.Need-back-ready-requires
-back-ready-requires c κs = can-rewrite c .table
+back-ready-requires c κs = can-rewrite (c .before) .table
 
 slice-aggregate-rewrite : tie.Need-slice-aggregate-rewrite
 slice-aggregate-rewrite c = search needs
 
+slice-aggregate-rewrite-2 : tie.Need-slice-aggregate-rewrite-2
+slice-aggregate-rewrite-2 c = search needs
+
 rewrite-requires : tie.Need-rewrite-requires
 rewrite-requires c κs =
-    let ready = c .before .before in
-    (ready .back-ready .ensures, can-rewrite (ready .before))
+    let inverse = c .before .before .before in
+    let ready = inverse .before in
+    (inverse .back-ready .ensures, can-rewrite (ready .before), ready .matrix-ready .ensures)
 
-sub-t20 : tie.Need-sub-t20
-sub-t20 c = counted (c .before .before .before .before .before .before .before) .0
+sub-t21 : tie.Need-sub-t21
+sub-t21 c = counted (c .before .before .before .before .before .before .before .before .before) .0
 
 row-requires : tie.Need-row-requires
 row-requires c κs =
-    let told = c .before .before .before .before .before .before .before in
+    let told = c .before .before .before .before .before .before .before .before .before in
     (omega (arith, can-rewrite told .few, counted told .1), omega arith)
 
 cells-requires : tie.Need-cells-requires
 cells-requires c κs =
     let written = c .before .before .before .before in
-    let told = written .before .before .before .before in
+    let told = written .before .before .before .before .before .before in
     let start = entry (told .before .before) in
     let m = counted told in
     has-claim-row _ _ _ _ _ (can-rewrite told) (four start .1) _ (m .0) (m .1) _ (c .row .ensures) _
     (written .rewrite .ensures)
-
-array-read-t35 : tie.Need-array-read-t35
-array-read-t35 c = search needs
 
 array-read-t38 : tie.Need-array-read-t38
 array-read-t38 c = search needs
@@ -88,6 +94,9 @@ array-read-t41 c = search needs
 
 array-read-t44 : tie.Need-array-read-t44
 array-read-t44 c = search needs
+
+array-read-t47 : tie.Need-array-read-t47
+array-read-t47 c = search needs
 
 enum-known-answer : tie.Need-enum-known-answer
 enum-known-answer c = search needs
@@ -100,7 +109,7 @@ unfolding editAnswer editLeaves alteredTaps
 returns c =
     let row = c .before in
     let written = row .before .before .before .before in
-    let told = written .before .before .before .before in
+    let told = written .before .before .before .before .before .before in
     let start = entry (told .before .before) in
     let m = counted told in
     let e = written .rewrite .ensures in (
@@ -130,16 +139,18 @@ edit-spec =
     slice-aggregate-test-edit
     test-edit-requires
     enum-told
+    matrix-ready-requires
     back-ready-requires
     slice-aggregate-rewrite
+    slice-aggregate-rewrite-2
     rewrite-requires
-    sub-t20
+    sub-t21
     row-requires
     cells-requires
-    array-read-t35
     array-read-t38
     array-read-t41
     array-read-t44
+    array-read-t47
     enum-known-answer
     same-length
     returns

@@ -15,6 +15,7 @@ use Rattle.refusals.specs.declared.Answer.the-variants.{Refused}
 use Rattle.refusals.specs.Answers.{unless}
 use Rattle.refusals.proofs.Laws.{unless-refused, unless-passed, one-test-refused, one-test-passed}
 use Rattle.refusals.proofs.Laws.{after-refused, after-accepted, tests-turned-back}
+use Rattle.table.proofs.Ready.{ready-is}
 use Rattle.constraints.specs.Constraints.{tests, constraintTest}
 use Rattle.checker.proofs.Answers.{Opened, opened-by, canonical-words, walked}
 use Rattle.edit.specs.Answers.{editTest}
@@ -38,25 +39,25 @@ refusal-requires c κs = search needs
 returns : tie.Need-returns
 unfolding editTest
 returns c =
-    let tested = c .before .before .before .test-opening .ensures in
+    let tested = c .before .before .before .test-opening .ensures .0 in
     tests-turned-back (after-refused _ (sym (c .refusal .ensures) ∙ tested) refl) _ refl
 
 -- the opening tests are passed, and the tap number is to be tested
 abbrev entry : tie.After-enum-told → tie.Start
-entry c = c .before .before .before .before .before .before
+entry c = c .before .before .before .before .before .before .before
 
 -- what is known then
 few : (c : tie.After-enum-told) → let a = entry c .args in
     let k = traceWordBatches (length (a .trace .now)) in
     Opened (a .table .now) (a .trace .now) (a .c) k × (k < 2 ^ 32)
-few c = opened-by _ _ _ (c .before .before .test-opening .ensures) (c .enum-told .given .1)
+few c = opened-by _ _ _ (c .before .before .test-opening .ensures .0) (c .enum-told .given .1)
 
 opened : (c : tie.After-enum-told) {o : Answer} → let a = entry c .args in
     o ≡ unless (leb (a .tap .0) (3 * traceWordBatches (length (a .trace .now)))) NoSuchTap
     (fromClaim (a .table .now) (a .trace .now) (a .claim .now) (a .c) (a .words .now))
     → o ≡ editTest (a .table .now) (a .trace .now) (a .claim .now) (a .c) (a .tap .0) (a .words .now)
 unfolding editTest
-opened c e = after-accepted (c .before .before .test-opening .ensures) (c .enum-told .given .1) e
+opened c e = after-accepted (c .before .before .test-opening .ensures .0) (c .enum-told .given .1) e
 
 mul-if1 : tie.Need-mul-if1
 mul-if1 c = omega (arith, few c .1)
@@ -152,9 +153,14 @@ returns-5 c =
     (canonical told
     (unless-refused _ (scanned-bad _ bad (c .if2 .taken)) (ap (λ i. Refused (TapWord i)) bad))) _ refl
 
+slice-aggregate-test-constraints : tie.Need-slice-aggregate-test-constraints
+slice-aggregate-test-constraints c =
+    let known = known-of (c .before .before .before .before .before) in
+    sym (ready-is _ _ (known .before .before .test-opening .ensures .1 (few known .0 .table)) .size)
+
 test-constraints-requires : tie.Need-test-constraints-requires
 test-constraints-requires c κs =
-    let told = c .before .before in
+    let told = c .before .before .before in
     let t = told .before .before in
     let k = known-of t in
     let s = few k in (
@@ -163,11 +169,12 @@ test-constraints-requires c κs =
       s .0 .size,
       s .0 .high,
       s .1,
+      k .before .before .test-opening .ensures .1 (s .0 .table),
     )
 
 returns-6 : tie.Need-returns-6
 returns-6 c =
-    let passed = c .before in
+    let passed = c .before .before in
     let scan = passed .before in
     let told = scan .before in
     let a = entry (known-of (told .before .before)) .args in
@@ -199,5 +206,6 @@ test-edit-spec =
     returns-4
     first-bad-requires
     returns-5
+    slice-aggregate-test-constraints
     test-constraints-requires
     returns-6)

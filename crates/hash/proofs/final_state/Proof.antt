@@ -14,18 +14,18 @@ use Rattle.hash.proofs.final_state.Statement.{statement}
 use Rattle.hash.proofs.final_state.Tie as tie
 
 abbrev Inv-loop : tie.InvT-loop
-Inv-loop table state₀ round₀ state round =
+Inv-loop ready table state₀ round₀ state round =
     (round ≤ 10) × CanonicalTo 12 state × ((s : List ℕ) → state₀ ≡ stateAt table s 0 → state ≡ stateAt table s round)
 
 abbrev μ-loop : tie.MeasureT-loop
-μ-loop table state₀ round₀ state round = 10 - round
+μ-loop ready table state₀ round₀ state round = 10 - round
 
 -- the function's entry, from the loop's head
 abbrev entry : tie.At-loop Inv-loop μ-loop → tie.Start Inv-loop μ-loop
-entry head = head .before .before .before
+entry head = head .before .before .before .before
 
 plus-initial-requires : tie.Need-plus-initial-requires Inv-loop μ-loop
-plus-initial-requires c κs = c .before .pre
+plus-initial-requires c κs = (c .before .before .pre .0, c .before .before .pre .1)
 
 loop-holds : tie.Need-loop-holds Inv-loop μ-loop
 loop-holds c = (omega arith, canonical-state (c .plus-initial .ensures) (stateAt-state _ _ 0), λ s e. e)
@@ -33,12 +33,13 @@ loop-holds c = (omega arith, canonical-state (c .plus-initial .ensures) (stateAt
 first-step-requires : tie.Need-first-step-requires Inv-loop μ-loop
 first-step-requires c κs =
     let head = c .before in
-    (entry head .pre .0, omega arith, head .loop .inv .1)
+    (entry head .pre .0, omega arith, head .loop .inv .1, entry head .pre .2)
 
 second-step-requires : tie.Need-second-step-requires Inv-loop μ-loop
 second-step-requires c κs =
     let head = c .before .before in
-    (entry head .pre .0, omega arith, canonical-state (c .first-step .ensures) (firstStep-state _ _ _))
+    let start = entry head in
+    (start .pre .0, omega arith, canonical-state (c .first-step .ensures) (firstStep-state _ _ _), start .pre .2)
 
 add-round : tie.Need-add-round Inv-loop μ-loop
 add-round c = search needs

@@ -5,37 +5,40 @@ use mathlib.Core.Path.{ap, _∙_}
 use native.Mathlib.Omega.{arith}
 use borrow.Author.Needs.{needs}
 use Rattle.table.specs.Table.{firstStepConstant}
-use Rattle.hash.specs.Hash.{roots, plus, mix, firstStep}
-use Rattle.hash.proofs.States.{roots-state, mix-state}
-use Rattle.hash.proofs.CodeStates.{canonical-state}
+use Rattle.table.proofs.Ready.{ready-is}
+use Rattle.hash.specs.Hash.{plus, firstStep}
+use Rattle.hash.proofs.CodeMix.{mixed-roots}
 use Rattle.hash.proofs.first_step.Statement.{statement}
 use Rattle.hash.proofs.first_step.Tie as tie
 
-roots-requires : tie.Need-roots-requires
-roots-requires c κs = search needs
+scaled-roots-requires : tie.Need-scaled-roots-requires
+scaled-roots-requires c κs = (c .before .before .pre .2, omega arith)
 
 mix-requires : tie.Need-mix-requires
-unfolding roots
 mix-requires c κs =
-    (c .before .before .pre .0, canonical-state (c .roots .ensures) (roots-state (c .before .before .args .s)))
+    let start = c .before .before .before in
+    (ready-is (start .args .table .now) (start .args .ready .now) (start .pre .3), c .scaled-roots .ensures .1)
 
 plus-first-step-requires : tie.Need-plus-first-step-requires
 plus-first-step-requires c κs =
-    (c .before .before .before .pre .0, omega arith, canonical-state (c .mix .ensures) (mix-state _ _))
+    (c .before .before .before .before .pre .0, omega arith, c .mix .ensures .1)
 
 returns : tie.Need-returns
-unfolding firstStep roots
+unfolding firstStep
 returns c =
-    let a = c .before .before .before .before .args in
-    let k = firstStepConstant (a .table .now) (a .round) in
+    let start = c .before .before .before .before .before in
+    let a = start .args in
+    let T = a .table .now in
     c .plus-first-step .ensures
-    ∙ ap (λ s. plus s k) (c .before .mix .ensures ∙ ap (mix (a .table .now)) (c .before .before .roots .ensures))
+    ∙ ap (λ s. plus s (firstStepConstant T (a .round)))
+    (mixed-roots T (a .ready .now) _ _ (start .pre .3) (c .before .mix .ensures .0)
+    (a .s) (start .pre .2) (c .before .before .scaled-roots .ensures .0))
 
 pub first-step-spec : {M : Type 1} → statement M
 first-step-spec =
     tie.close
     (tie.spec
-    roots-requires
+    scaled-roots-requires
     mix-requires
     plus-first-step-requires
     returns)

@@ -5,9 +5,10 @@ use mathlib.Core.Path.{_≡_, sym, ap, _∙_}
 use lib.ListN.{length}
 use Rattle.refusals.specs.Refusals.{state}
 use Rattle.refusals.proofs.Laws.{state-turned-back, state-returned}
+use Rattle.table.proofs.Ready.{ready-is}
 use Rattle.hash.specs.Hash.{finalState}
 use Rattle.hash.specs.Answers.{hashAnswer}
-use Rattle.hash.proofs.Answers.{hash-inputs}
+use Rattle.hash.proofs.Answers.{HashInputs, hash-inputs}
 use Rattle.hash.proofs.CodeStates.{canonical-state}
 use Rattle.hash.proofs.CodeInput.{two-taps, two-taps-state}
 use borrow.Author.Needs.{needs}
@@ -31,42 +32,60 @@ refusal-requires c κs = search needs
 
 returns : tie.Need-returns
 unfolding hashAnswer
-returns c = state-turned-back (c .before .before .before .test-hash .ensures) _ (c .refusal .ensures)
+returns c = state-turned-back (c .before .before .before .test-hash .ensures .0) _ (c .refusal .ensures)
 
-array-read-t12 : tie.Need-array-read-t12
-array-read-t12 c = search needs
+array-read-t14 : tie.Need-array-read-t14
+array-read-t14 c = search needs
 
-array-read-t15 : tie.Need-array-read-t15
-array-read-t15 c = search needs
+array-read-t17 : tie.Need-array-read-t17
+array-read-t17 c = search needs
 
-array-read-t18 : tie.Need-array-read-t18
-array-read-t18 c = search needs
+array-read-t20 : tie.Need-array-read-t20
+array-read-t20 c = search needs
 
-array-read-t21 : tie.Need-array-read-t21
-array-read-t21 c = search needs
+array-read-t23 : tie.Need-array-read-t23
+array-read-t23 c = search needs
 
-array-read-t24 : tie.Need-array-read-t24
-array-read-t24 c = search needs
+array-read-t26 : tie.Need-array-read-t26
+array-read-t26 c = search needs
 
-array-read-t27 : tie.Need-array-read-t27
-array-read-t27 c = search needs
+array-read-t29 : tie.Need-array-read-t29
+array-read-t29 c = search needs
 
-array-read-t30 : tie.Need-array-read-t30
-array-read-t30 c = search needs
+array-read-t32 : tie.Need-array-read-t32
+array-read-t32 c = search needs
 
-array-read-t33 : tie.Need-array-read-t33
-array-read-t33 c = search needs
+array-read-t35 : tie.Need-array-read-t35
+array-read-t35 c = search needs
 
-eight : (entry : tie.Start) → length (entry .args .t2) ≡ 8
-eight entry = search needs
+eight : (start : tie.Start) → length (start .args .t2) ≡ 8
+eight start = search needs
+
+-- the function's entry, from where the tests have answered
+abbrev entry : tie.After-test-hash → tie.Start
+entry t = t .before .before .before .before
+
+-- where the tests have passed, what they say of the table and the words, and M is left made ready
+inputs : (c : tie.After-enum-told) → let start = entry (c .before .before) .args in
+    HashInputs (start .table .now) (start .t2)
+inputs c = hash-inputs _ _ (sym (c .before .before .test-hash .ensures .0) ∙ c .enum-told .given .1)
+
+slice-aggregate-final-state : tie.Need-slice-aggregate-final-state
+slice-aggregate-final-state c =
+    let told = c .before in
+    sym (ready-is _ _ (told .before .before .test-hash .ensures .1 (inputs told .table)) .size)
 
 final-state-requires : tie.Need-final-state-requires
 final-state-requires c κs =
-    let t = c .before .before in
-    let entry = t .before .before .before in
-    let w = entry .args .t2 in
-    let i = hash-inputs _ _ (sym (t .test-hash .ensures) ∙ c .enum-told .given .1) in
-    (i .table, canonical-state (two-taps w (eight entry)) (two-taps-state w (eight entry) (i .canonical)))
+    let told = c .before in
+    let t = told .before .before in
+    let start = entry t in
+    let w = start .args .t2 in
+    let i = inputs told in (
+      i .table,
+      canonical-state (two-taps w (eight start)) (two-taps-state w (eight start) (i .canonical)),
+      t .test-hash .ensures .1 (i .table),
+    )
 
 of-requires : tie.Need-of-requires
 of-requires c κs = search needs
@@ -75,12 +94,12 @@ returns-2 : tie.Need-returns-2
 unfolding hashAnswer
 returns-2 c =
     let ended = c .before in
-    let told = ended .before in
+    let told = ended .before .before in
     let t = told .before .before in
-    let entry = t .before .before .before in
-    let made = two-taps (entry .args .t2) (eight entry) in
-    state-returned (t .test-hash .ensures) (told .enum-told .given .1)
-    (c .of .ensures ∙ ap state (ended .final-state .ensures ∙ ap (finalState (entry .args .table .now)) made))
+    let start = entry t in
+    let made = two-taps (start .args .t2) (eight start) in
+    state-returned (t .test-hash .ensures .0) (told .enum-told .given .1)
+    (c .of .ensures ∙ ap state (ended .final-state .ensures ∙ ap (finalState (start .args .table .now)) made))
 
 pub hash-spec : {M : Type 1} → statement M
 hash-spec =
@@ -92,14 +111,15 @@ hash-spec =
     enum-told-2
     refusal-requires
     returns
-    array-read-t12
-    array-read-t15
-    array-read-t18
-    array-read-t21
-    array-read-t24
-    array-read-t27
-    array-read-t30
-    array-read-t33
+    array-read-t14
+    array-read-t17
+    array-read-t20
+    array-read-t23
+    array-read-t26
+    array-read-t29
+    array-read-t32
+    array-read-t35
+    slice-aggregate-final-state
     final-state-requires
     of-requires
     returns-2)

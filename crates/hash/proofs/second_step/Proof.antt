@@ -5,35 +5,40 @@ use mathlib.Core.Path.{ap, _∙_}
 use native.Mathlib.Omega.{arith}
 use borrow.Author.Needs.{needs}
 use Rattle.table.specs.Table.{secondStepConstant}
-use Rattle.hash.specs.Hash.{plus, mix, secondStep}
-use Rattle.hash.proofs.States.{cubes-state, mix-state}
-use Rattle.hash.proofs.CodeStates.{canonical-state}
+use Rattle.table.proofs.Ready.{ready-is}
+use Rattle.hash.specs.Hash.{plus, secondStep}
+use Rattle.hash.proofs.CodeMix.{mixed-cubes}
 use Rattle.hash.proofs.second_step.Statement.{statement}
 use Rattle.hash.proofs.second_step.Tie as tie
 
-cubes-requires : tie.Need-cubes-requires
-cubes-requires c κs = search needs
+montgomery-cubes-requires : tie.Need-montgomery-cubes-requires
+montgomery-cubes-requires c κs = search needs
 
 mix-requires : tie.Need-mix-requires
-mix-requires c κs = (c .before .before .pre .0, canonical-state (c .cubes .ensures) (cubes-state _))
+mix-requires c κs =
+    let start = c .before .before .before in
+    (ready-is (start .args .table .now) (start .args .ready .now) (start .pre .3), c .montgomery-cubes .ensures .1)
 
 plus-second-step-requires : tie.Need-plus-second-step-requires
 plus-second-step-requires c κs =
-    (c .before .before .before .pre .0, omega arith, canonical-state (c .mix .ensures) (mix-state _ _))
+    (c .before .before .before .before .pre .0, omega arith, c .mix .ensures .1)
 
 returns : tie.Need-returns
 unfolding secondStep
 returns c =
-    let a = c .before .before .before .before .args in
-    let k = secondStepConstant (a .table .now) (a .round) in
+    let start = c .before .before .before .before .before in
+    let a = start .args in
+    let T = a .table .now in
     c .plus-second-step .ensures
-    ∙ ap (λ s. plus s k) (c .before .mix .ensures ∙ ap (mix (a .table .now)) (c .before .before .cubes .ensures))
+    ∙ ap (λ s. plus s (secondStepConstant T (a .round)))
+    (mixed-cubes T (a .ready .now) _ _ (start .pre .3) (c .before .mix .ensures .0)
+    (a .s) (c .before .before .montgomery-cubes .ensures .0))
 
 pub second-step-spec : {M : Type 1} → statement M
 second-step-spec =
     tie.close
     (tie.spec
-    cubes-requires
+    montgomery-cubes-requires
     mix-requires
     plus-second-step-requires
     returns)

@@ -10,8 +10,8 @@ use borrow.Author.Needs.{needs}
 use Rattle.hash.proofs.test_hash.Statement.{statement}
 use Rattle.hash.proofs.test_hash.Tie as tie
 
-test-requires : tie.Need-test-requires
-test-requires c κs = search needs
+test-ready-requires : tie.Need-test-ready-requires
+test-ready-requires c κs = search needs
 
 enum-told : tie.Need-enum-told
 enum-told c = search needs
@@ -21,7 +21,9 @@ enum-told-2 c = search needs
 
 returns : tie.Need-returns
 unfolding hashTest
-returns c = after-refused _ (c .before .before .test .ensures) (c .enum-told2 .given .1)
+returns c =
+    let t = c .before .before in
+    (after-refused _ (t .test-ready .ensures .0) (c .enum-told2 .given .1), t .test-ready .ensures .1)
 
 first-bad-requires : tie.Need-first-bad-requires
 first-bad-requires c κs = search needs
@@ -30,18 +32,24 @@ returns-2 : tie.Need-returns-2
 unfolding hashTest
 returns-2 c =
     let told = c .before .before in
-    let bad = c .before .first-bad .ensures in
-    after-accepted (told .before .before .test .ensures) (told .enum-told .given .1)
-    (unless-refused _ (scanned-bad _ bad (c .if1 .taken)) (ap (λ i. Refused (TapWord i)) bad))
+    let t = told .before .before in
+    let bad = c .before .first-bad .ensures in (
+      after-accepted (t .test-ready .ensures .0) (told .enum-told .given .1)
+          (unless-refused _ (scanned-bad _ bad (c .if1 .taken)) (ap (λ i. Refused (TapWord i)) bad)),
+      t .test-ready .ensures .1,
+    )
 
 returns-3 : tie.Need-returns-3
 unfolding hashTest
 returns-3 c =
     let told = c .before .before in
-    after-accepted (told .before .before .test .ensures) (told .enum-told .given .1)
-    (unless-passed _ (scanned-good _ (c .before .first-bad .ensures) (c .if1 .left)) refl)
+    let t = told .before .before in (
+      after-accepted (t .test-ready .ensures .0) (told .enum-told .given .1)
+          (unless-passed _ (scanned-good _ (c .before .first-bad .ensures) (c .if1 .left)) refl),
+      t .test-ready .ensures .1,
+    )
 
 pub test-hash-spec : {M : Type 1} → statement M
 test-hash-spec =
     tie.close
-    (tie.spec test-requires enum-told enum-told-2 returns first-bad-requires returns-2 returns-3)
+    (tie.spec test-ready-requires enum-told enum-told-2 returns first-bad-requires returns-2 returns-3)

@@ -11,6 +11,7 @@ use Rattle.refusals.specs.declared.Refusal.the-variants.{DestinationLength}
 use Rattle.refusals.specs.declared.Answer.{Answer}
 use Rattle.refusals.specs.Answers.{unless}
 use Rattle.refusals.proofs.Laws.{unless-refused, unless-passed, after-refused, after-accepted, tests-turned-back}
+use Rattle.table.proofs.Ready.{ready-is}
 use Rattle.checker.specs.Answers.{traceTest}
 use Rattle.checker.proofs.Answers.{Opened, opened-by, walked}
 use Rattle.readoff.specs.Answers.{readOffTest, readOffAnswer}
@@ -33,18 +34,18 @@ refusal-requires c κs = search needs
 returns : tie.Need-returns
 unfolding readOffAnswer readOffTest
 returns c =
-    let tested = c .before .before .before .test-opening .ensures in
+    let tested = c .before .before .before .test-opening .ensures .0 in
     tests-turned-back (after-refused _ (sym (c .refusal .ensures) ∙ tested) refl) _ refl
 
 -- the opening tests are passed, and the destination is to be tested
 abbrev entry : tie.After-enum-told → tie.Start
-entry c = c .before .before .before .before .before
+entry c = c .before .before .before .before .before .before
 
 -- what is known then
 few : (c : tie.After-enum-told) → let a = entry c .args in
     let k = traceWordBatches (length (a .trace .now)) in
     Opened (a .table .now) (a .trace .now) (a .c) k × (k < 2 ^ 32)
-few c = opened-by _ _ _ (c .before .before .test-opening .ensures) (c .enum-told .given .1)
+few c = opened-by _ _ _ (c .before .before .test-opening .ensures .0) (c .enum-told .given .1)
 
 opened : (c : tie.After-enum-told) {o : Answer} → let a = entry c .args in
     let k = traceWordBatches (length (a .trace .now)) in
@@ -52,7 +53,7 @@ opened : (c : tie.After-enum-told) {o : Answer} → let a = entry c .args in
     (traceTest (a .table .now) (a .trace .now) (a .claim .now) (a .c) k)
     → o ≡ readOffTest (a .table .now) (a .trace .now) (a .claim .now) (a .c) (a .size)
 unfolding readOffTest
-opened c e = after-accepted (c .before .before .test-opening .ensures) (c .enum-told .given .1) e
+opened c e = after-accepted (c .before .before .test-opening .ensures .0) (c .enum-told .given .1) e
 
 mul-if1 : tie.Need-mul-if1
 mul-if1 c = omega (arith, few c .1)
@@ -65,15 +66,21 @@ unfolding readOffAnswer
 returns-2 c =
     tests-turned-back (opened (c .before) (unless-refused _ (ne-eqb _ _ (c .if1 .taken)) refl)) _ refl
 
+slice-aggregate-test-trace : tie.Need-slice-aggregate-test-trace
+slice-aggregate-test-trace c =
+    let told = c .before .before in
+    sym (ready-is _ _ (told .before .before .test-opening .ensures .1 (few told .0 .table)) .size)
+
 test-trace-requires : tie.Need-test-trace-requires
 test-trace-requires c κs =
-    let s = few (c .before) in
-    (s .0 .table, s .0 .size, s .0 .high, s .1)
+    let told = c .before .before in
+    let s = few told in
+    (s .0 .table, s .0 .size, s .0 .high, s .1, told .before .before .test-opening .ensures .1 (s .0 .table))
 
 returns-3 : tie.Need-returns-3
 unfolding readOffAnswer
 returns-3 c =
-    let room = c .before in
+    let room = c .before .before in
     walked _ _ (c .test-trace .ensures) (opened (room .before) (unless-passed _ (eq-eqb _ _ (room .if1 .left)) refl))
 
 pub test-read-off-spec : {M : Type 1} → statement M
@@ -88,5 +95,6 @@ test-read-off-spec =
     mul-if1
     add-if1
     returns-2
+    slice-aggregate-test-trace
     test-trace-requires
     returns-3)

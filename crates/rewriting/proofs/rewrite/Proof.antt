@@ -22,36 +22,36 @@ use Rattle.rewriting.proofs.rewrite.Statement.{statement}
 use Rattle.rewriting.proofs.rewrite.Tie as tie
 
 abbrev Inv-loop : tie.InvT-loop
-Inv-loop inverse table k tap words trace₀ hashes start state₀ h₀ trace state h =
+Inv-loop ready inverse table k tap words trace₀ hashes start state₀ h₀ trace state h =
     let v = altered (readTaps table trace₀ k) (tap .0) words in
     (start ≤ h) × (h ≤ hashes) × (length trace ≡ length trace₀) × (take 4 state ≡ outputAt table v h)
     × (trace ≡ withRows (traceRow table v) (rowsBefore (tap .0 - 1)) (rowsBefore h) trace₀)
 
 abbrev μ-loop : tie.MeasureT-loop
-μ-loop inverse table k tap words trace₀ hashes start state₀ h₀ trace state h = hashes - h
+μ-loop ready inverse table k tap words trace₀ hashes start state₀ h₀ trace state h = hashes - h
 
 -- the function's entry, from the loop's head
 abbrev entry : tie.At-loop Inv-loop μ-loop → tie.Start Inv-loop μ-loop
-entry head = head .before .before .before .before .before .before .before
+entry head = head .before .before .before .before .before .before .before .before
 
 four : (start : tie.Start Inv-loop μ-loop) → length (start .args .words) ≡ 4
 four start = search needs
 
 mul-hashes : tie.Need-mul-hashes Inv-loop μ-loop
-mul-hashes c = omega (arith, c .before .before .before .pre .1 .few)
+mul-hashes c = omega (arith, c .before .before .before .before .pre .1 .few)
 
 hash-requires : tie.Need-hash-requires Inv-loop μ-loop
 hash-requires c κs = search needs
 
 last-before-requires : tie.Need-last-before-requires Inv-loop μ-loop
 last-before-requires c κs =
-    let start = c .before .before .before .before .before in
+    let start = c .before .before .before .before .before .before in
     let r = start .pre .1 in
     (start .pre .0, r .table, law.has-tap r (r .canonical) refl (r .inside))
 
 loop-holds : tie.Need-loop-holds Inv-loop μ-loop
 loop-holds c =
-    let start = c .before .before .before .before .before .before in
+    let start = c .before .before .before .before .before .before .before in
     let a = start .args in
     let r = start .pre .1 in
     let T = a .table .now in
@@ -130,6 +130,7 @@ write-hash-requires c κs =
           (omega (arith, size)),
       omega (arith, r .few),
       omega (arith, before-within (a .k) (loop .h + 1) (omega arith), r .size, loop .inv .2),
+      start .pre .2,
     )
 
 add-h : tie.Need-add-h Inv-loop μ-loop
@@ -151,7 +152,7 @@ loop-again c =
     let e = made m (omega arith) in (
       omega arith,
       omega arith,
-      written .write-hash .kept .1 .1 .1 .0 ∙ loop .inv .2,
+      written .write-hash .kept .1 .1 .1 .1 .0 ∙ loop .inv .2,
       goes-on T v (loop .h) (loop .state) _ (loop .inv .3) e _ (written .write-hash .ensures .0),
       more-rows T v (rowsBefore (a .tap .0 - 1)) (loop .h) _ (a .trace .now) (loop .trace) _
           (before-monotone (a .tap .0 - 1) (loop .h) (first-of head))

@@ -117,7 +117,7 @@ powers-times-square-requires : (t : ℕ) → powers-times-lts.Need-square-requir
   powers-times.Post,
 ) (powers-times-at t) powers-times.Post
 powers-times-square-requires t c κs =
-    let p = c .before .before .before .pre .1 in
+    let p = c .before .before .before .before .pre .1 in
     (p .2, p .3, p .4)
 
 powers-times-powers-times-requires : (t : ℕ) → powers-times-lts.Need-powers-times-requires (
@@ -129,7 +129,7 @@ powers-times-powers-times-requires : (t : ℕ) → powers-times-lts.Need-powers-
   powers-times.Post,
 ) (powers-times-at t) powers-times.Post
 powers-times-powers-times-requires t c κs =
-    let joined = c .before .before .before .before in
+    let joined = c .before .before .before .before .before in
     let start = joined .before .before in
     let q = passed t joined in
     let squared = c .before .before .square .ensures in
@@ -153,8 +153,30 @@ powers-times-returns-2 : (t : ℕ) → powers-times-lts.Need-returns-2 (
   powers-times.Post,
 ) (powers-times-at t) powers-times.Post
 powers-times-returns-2 t c =
+    let joined = c .before in
+    let start = joined .before .before in
+    let x = elements (start .args .x .now) in
+    let b = joined .if2 .acc in
+    let q = passed t joined in
+    let half : 0 ≡ start .args .e / 2 = omega (arith, c .if3 .taken) in (
+      powers-done b (products x x)
+          ∙ ap (λ e. products (elements b) (powers (products x x) e)) half
+          ∙ q .same,
+      q .canonical,
+      q .size,
+    )
+
+powers-times-returns-3 : (t : ℕ) → powers-times-lts.Need-returns-3 (
+  multiply-reads.Asked,
+  multiply-reads.Learnt,
+  square-reads.Asked,
+  square-reads.Learnt,
+  powers-times-below t,
+  powers-times.Post,
+) (powers-times-at t) powers-times.Post
+powers-times-returns-3 t c =
     let squared = c .before .before .before in
-    let joined = squared .before .before in
+    let joined = squared .before .before .before in
     let start = joined .before .before in
     let x = start .args .x .now in (
       c .powers-times .ensures .0
@@ -178,6 +200,7 @@ pub +powers-times-spec : {M : Type 1} → statement M
     powers-times.Post
     (powers-times-returns t)
     (powers-times-multiply-requires t)
+    (powers-times-returns-2 t)
     (powers-times-square-requires t)
     (powers-times-powers-times-requires t)
-    (powers-times-returns-2 t)
+    (powers-times-returns-3 t)

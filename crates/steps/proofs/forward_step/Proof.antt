@@ -1,5 +1,5 @@
--- `steps::forward_step`: the columns passed are M's rows times the cubes, plus the constant, as the forward scale makes
--- up for the divisions.
+-- `steps::forward_step`: the columns passed are M's rows times the cubes, plus the constant, as M made ready makes up
+-- for the divisions.
 -- Assumes nothing.
 use mathlib.Core.Path.{_≡_, refl, ap, _∙_}
 use mathlib.Core.List.{List}
@@ -11,7 +11,8 @@ use Rattle.lists.specs.Lists.{cell}
 use Rattle.lists.proofs.Tab.{filled, Fills, fills-none, fills-more}
 use Rattle.field.specs.Field.{add}
 use Rattle.table.specs.Table.{secondStepConstant}
-use Rattle.steps.proofs.Made.{forward-is, second-made}
+use Rattle.table.proofs.Ready.{ready-is}
+use Rattle.steps.proofs.Made.{second-made}
 use Rattle.steps.proofs.forward_step.Statement.{statement}
 use Rattle.steps.proofs.forward_step.Tie as tie
 
@@ -32,7 +33,7 @@ montgomery-cubes-requires c κs = search needs
 mix-requires : tie.Need-mix-requires Inv-loop μ-loop
 mix-requires c κs =
     let start = c .before .before .before in
-    (forward-is (start .args .table .now) (start .args .ready .now) (start .pre .1), c .montgomery-cubes .ensures .1)
+    (ready-is (start .args .table .now) (start .args .ready .now) (start .pre .1), c .montgomery-cubes .ensures .1)
 
 loop-holds : tie.Need-loop-holds Inv-loop μ-loop
 loop-holds c = (omega arith, fills-none refl)

@@ -1,32 +1,32 @@
 -- `table::first_unlike`: the product is of M and the stored inverse, and the cells passed are those of the identity.
 -- Assumes nothing.
-use mathlib.Core.Path.{_≡_, sym, ap, ap₂, _∙_, subst}
+use mathlib.Core.Path.{_≡_, sym, ap, _∙_, subst}
 use mathlib.Core.Bool.{false}
 use mathlib.Core.List.{List}
-use Prim.Native.Nat.{ℕ, _-_, _≤_, _<_}
+use Prim.Native.Nat.{ℕ, _+_, _*_, _-_, _/_, _%_, _≤_, _<_}
 use native.Mathlib.Omega.{arith}
 use borrow.Author.Count.{below-more}
 use lib.ListN.{length}
-use Rattle.lists.specs.Lists.{tab}
+use Rattle.lists.specs.Lists.{cell, tab}
+use Rattle.field.specs.Field.{P}
 use Rattle.words.specs.Words.{AllCanonical}
-use Rattle.matrix.specs.Matrix.{matrixWords}
+use Rattle.matrix.specs.Matrix.{matrixWords, product, entry as entry-of}
 use Rattle.table.specs.Table.{matrixOf, inverseOf, unlike}
-use Rattle.table.proofs.Parts.{length-matrix, matrix-canonical, length-inverse, inverse-canonical}
+use Rattle.table.proofs.Parts.{length-inverse, inverse-canonical}
+use Rattle.table.specs.ReadyHelpers.{matrixUnit}
+use Rattle.table.proofs.Ready.{ready-is}
 use Rattle.table.proofs.Tested.{byColumns, at-cell, unlike-yes, unlike-no, stops, passes}
 use borrow.Author.Needs.{needs}
 use Rattle.table.proofs.first_unlike.Statement.{statement}
 use Rattle.table.proofs.first_unlike.Tie as tie
 
 abbrev Inv-loop : tie.InvT-loop
-Inv-loop table product c₀ c =
+Inv-loop ready table product c₀ c =
     (c ≤ 144) × ((d : ℕ) → d < c → unlike table d ≡ false)
 
 abbrev μ-loop : tie.MeasureT-loop
-μ-loop table product c₀ c =
+μ-loop ready table product c₀ c =
     144 - c
-
-matrix-requires : tie.Need-matrix-requires Inv-loop μ-loop
-matrix-requires c κs = search needs
 
 inverse-requires : tie.Need-inverse-requires Inv-loop μ-loop
 inverse-requires c κs = search needs
@@ -35,24 +35,28 @@ product-columns-requires : tie.Need-product-columns-requires Inv-loop μ-loop
 product-columns-requires c κs =
     let s = c .before .before .before in
     let t = s .args .table .now in
-    let m = c .before .matrix .ensures in
     let n = c .inverse .ensures in (
-      ap length m ∙ length-matrix t (s .pre .0),
-      subst AllCanonical (sym m) (matrix-canonical t (s .pre .0) (s .pre .1)),
+      ready-is t (s .args .ready .now) (s .pre .2),
       ap length n ∙ length-inverse t (s .pre .0),
       subst AllCanonical (sym n) (inverse-canonical t (s .pre .0) (s .pre .1)),
     )
 
--- the table, from where its product is made
-abbrev table-of : tie.After-product-columns Inv-loop μ-loop → List ℕ
-table-of made = made .before .before .before .before .args .table .now
+-- the function's entry, from where the product is made
+abbrev entry : tie.After-product-columns Inv-loop μ-loop → tie.Start Inv-loop μ-loop
+entry made = made .before .before .before .before
 
--- the product's cells are those of M times the stored inverse
-multiplied : (c : tie.After-product-columns Inv-loop μ-loop) → let t = table-of c in
-    c .product-columns .result ≡ tab matrixWords (byColumns (matrixOf t) (inverseOf t))
-multiplied c =
-    c .product-columns .ensures
-    ∙ ap₂ (λ m n. tab matrixWords (byColumns m n)) (c .before .before .matrix .ensures) (c .before .inverse .ensures)
+abbrev table-of : tie.After-product-columns Inv-loop μ-loop → List ℕ
+table-of made = entry made .args .table .now
+
+-- the product's cells are those of M times the stored inverse, times 2^128
+value-at : (made : tie.After-product-columns Inv-loop μ-loop) (c : ℕ) → c < 144 → let t = table-of made in
+    cell (made .product-columns .result) (12 * (c % 12) + c / 12)
+    ≡ (product 12 (entry-of (matrixOf t)) (entry-of (inverseOf t)) (c / 12) (c % 12) * matrixUnit) % P
+value-at made c h =
+    let s = entry made in
+    at-cell (s .args .table .now) (s .args .ready .now) (inverseOf (s .args .table .now)) _ c (s .pre .2) h
+    (made .product-columns .ensures
+    ∙ ap (λ n. tab matrixWords (byColumns (s .args .ready .now) n)) (made .before .inverse .ensures))
 
 loop-holds : tie.Need-loop-holds Inv-loop μ-loop
 loop-holds c =
@@ -80,7 +84,7 @@ returns c =
     let made = head .before in
     let t = table-of made in
     let l = head .loop in
-    let value = at-cell (matrixOf t) (inverseOf t) _ (l .c) (omega arith) (multiplied made) in
+    let value = value-at made (l .c) (omega arith) in
     stops t (l .c) (omega arith) (l .inv .1)
     (unlike-yes t (l .c) _ _ value (c .before .identity .ensures) (c .if1 .taken))
 
@@ -96,7 +100,7 @@ loop-again c =
     let made = head .before in
     let t = table-of made in
     let l = head .loop in
-    let value = at-cell (matrixOf t) (inverseOf t) _ (l .c) (omega arith) (multiplied made) in (
+    let value = value-at made (l .c) (omega arith) in (
       omega arith,
       below-more _ _ (l .inv .1) (unlike-no t (l .c) _ _ value (c .before .identity .ensures) (c .if1 .left)),
     )
@@ -110,7 +114,6 @@ first-unlike-spec =
     (tie.spec
     Inv-loop
     μ-loop
-    matrix-requires
     inverse-requires
     product-columns-requires
     loop-holds

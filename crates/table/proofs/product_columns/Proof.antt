@@ -13,22 +13,22 @@ use Rattle.table.proofs.product_columns.Tie as tie
 
 -- the list holds the first t cells of the product, and zeros
 abbrev SoFar : List ℕ → List ℕ → List ℕ → ℕ → Type 0
-SoFar m n out t = Fills 144 (byColumns m n) (replicate 144 0) t out
+SoFar ready n out t = Fills 144 (byColumns ready n) (replicate 144 0) t out
 
 abbrev Inv-loop2 : tie.InvT-loop2
-Inv-loop2 m n out₀ k x i₀ out i =
-    (i ≤ 12) × SoFar m n out (12 * k + i)
+Inv-loop2 ready n out₀ k x i₀ out i =
+    (i ≤ 12) × SoFar ready n out (12 * k + i)
 
 abbrev μ-loop2 : tie.MeasureT-loop2
-μ-loop2 m n out₀ k x i₀ out i =
+μ-loop2 ready n out₀ k x i₀ out i =
     12 - i
 
 abbrev Inv-loop : tie.InvT-loop
-Inv-loop m n out₀ k₀ out k =
-    (k ≤ 12) × SoFar m n out (12 * k)
+Inv-loop ready n out₀ k₀ out k =
+    (k ≤ 12) × SoFar ready n out (12 * k)
 
 abbrev μ-loop : tie.MeasureT-loop
-μ-loop m n out₀ k₀ out k =
+μ-loop ready n out₀ k₀ out k =
     12 - k
 
 -- the function's entry, from the outer loop's head, and that head from the inner one's
@@ -42,15 +42,14 @@ loop-holds : tie.Need-loop-holds Inv-loop2 μ-loop2 Inv-loop μ-loop
 loop-holds c = (omega arith, fills-none refl)
 
 column-requires : tie.Need-column-requires Inv-loop2 μ-loop2 Inv-loop μ-loop
-column-requires c κs = (entry (c .before) .pre .2, omega arith)
+column-requires c κs = (entry (c .before) .pre .1, omega arith)
 
-times-requires : tie.Need-times-requires Inv-loop2 μ-loop2 Inv-loop μ-loop
-times-requires c κs =
+mix-requires : tie.Need-mix-requires Inv-loop2 μ-loop2 Inv-loop μ-loop
+mix-requires c κs =
     let head = c .before .before in
     let start = entry head in (
       start .pre .0,
-      start .pre .1,
-      column-canonical (start .args .n .now) _ (head .loop .k) (start .pre .2) (start .pre .3) (omega arith)
+      column-canonical (start .args .n .now) _ (head .loop .k) (start .pre .1) (start .pre .2) (omega arith)
           (c .column .ensures),
     )
 
@@ -58,7 +57,7 @@ loop2-holds : tie.Need-loop2-holds Inv-loop2 μ-loop2 Inv-loop μ-loop
 loop2-holds c =
     let head = c .before .before .before in
     let start = entry head .args in
-    (omega arith, subst (SoFar (start .m .now) (start .n .now) _) (omega arith) (head .loop .inv .1))
+    (omega arith, subst (SoFar (start .ready .now) (start .n .now) _) (omega arith) (head .loop .inv .1))
 
 mul-out : tie.Need-mul-out Inv-loop2 μ-loop2 Inv-loop μ-loop
 mul-out c = search needs
@@ -89,10 +88,10 @@ loop2-again c =
     let inner = c .before in
     let start = entry (outer inner) .args in
     let next =
-    next-cell (start .m .now) (start .n .now) _ _ (outer inner .loop .k) (inner .loop2 .i) (omega arith)
-    (inner .before .before .column .ensures) (inner .before .times .ensures .0) in (
+    next-cell (start .ready .now) (start .n .now) _ _ (outer inner .loop .k) (inner .loop2 .i) (omega arith)
+    (inner .before .before .column .ensures) (inner .before .mix .ensures .0) in (
       omega arith,
-      subst (SoFar (start .m .now) (start .n .now) _) (omega arith)
+      subst (SoFar (start .ready .now) (start .n .now) _) (omega arith)
           (fills-more (inner .loop2 .inv .1) (omega arith) next),
     )
 
@@ -106,7 +105,7 @@ loop-again : tie.Need-loop-again Inv-loop2 μ-loop2 Inv-loop μ-loop
 loop-again c =
     let inner = c .before in
     let start = entry (outer inner) .args in
-    (omega arith, subst (SoFar (start .m .now) (start .n .now) _) (omega arith) (inner .loop2 .inv .1))
+    (omega arith, subst (SoFar (start .ready .now) (start .n .now) _) (omega arith) (inner .loop2 .inv .1))
 
 returns : tie.Need-returns Inv-loop2 μ-loop2 Inv-loop μ-loop
 returns c = fills-all (c .before .loop .inv .1) (omega arith)
@@ -121,7 +120,7 @@ product-columns-spec =
     μ-loop
     loop-holds
     column-requires
-    times-requires
+    mix-requires
     loop2-holds
     mul-out
     array-read-out

@@ -3,14 +3,21 @@
 -- Assumes nothing.
 use mathlib.Core.Path.{sym, ap, _∙_}
 use native.Mathlib.Omega.{arith}
+use lib.ListN.{length}
+use Rattle.numbers.specs.Numbers.{tapWordBatches}
 use Rattle.refusals.specs.Refusals.{digest}
 use Rattle.refusals.proofs.Laws.{digest-turned-back, digest-returned, leaves-old, leaves-new}
+use Rattle.table.proofs.Ready.{ready-is}
 use Rattle.chain.proofs.Answers.{digest-take}
 use Rattle.trace.specs.Answers.{buildAnswer, buildLeaves}
-use Rattle.trace.proofs.Answers.{build-inputs}
+use Rattle.trace.proofs.Answers.{BuildInputs, build-inputs}
 use borrow.Author.Needs.{needs}
 use Rattle.trace.proofs.build.Statement.{statement}
 use Rattle.trace.proofs.build.Tie as tie
+
+-- the function's entry, from where the tests have answered
+abbrev entry : tie.After-test-build → tie.Start
+entry t = t .before .before .before .before .before
 
 test-build-requires : tie.Need-test-build-requires
 test-build-requires c κs = search needs
@@ -27,27 +34,44 @@ refusal-requires c κs = search needs
 returns : tie.Need-returns
 unfolding buildAnswer buildLeaves
 returns c =
-    let e = c .before .before .before .test-build .ensures in
+    let e = c .before .before .before .test-build .ensures .0 in
     let r = c .refusal .ensures in
     (digest-turned-back e _ r, leaves-old e _ r)
 
+-- where the tests have passed, what they say of the table, the taps and the room, and M is left made ready
+inputs : (c : tie.After-enum-told) → let start = entry (c .before .before) .args in
+    BuildInputs (start .table .now) (start .taps .now) (length (start .destination .now))
+    (tapWordBatches (length (start .taps .now)))
+inputs c = build-inputs _ _ _ (sym (c .before .before .test-build .ensures .0) ∙ c .enum-told .given .1)
+
+slice-aggregate-write-hashes : tie.Need-slice-aggregate-write-hashes
+slice-aggregate-write-hashes c =
+    let told = c .before in
+    sym (ready-is _ _ (told .before .before .test-build .ensures .1 (inputs told .table)) .size)
+
 write-hashes-requires : tie.Need-write-hashes-requires
 write-hashes-requires c κs =
-    let told = c .before in
-    let i = build-inputs _ _ _ (sym (told .before .before .test-build .ensures) ∙ told .enum-told .given .1) in
-    (i .table, i .canonical, omega (arith, i .permitted .high), i .taps, i .room)
+    let told = c .before .before in
+    let i = inputs told in (
+      i .table,
+      i .canonical,
+      omega (arith, i .permitted .high),
+      i .taps,
+      i .room,
+      told .before .before .test-build .ensures .1 (i .table),
+    )
 
-array-read-t14 : tie.Need-array-read-t14
-array-read-t14 c = search needs
+array-read-t18 : tie.Need-array-read-t18
+array-read-t18 c = search needs
 
-array-read-t17 : tie.Need-array-read-t17
-array-read-t17 c = search needs
+array-read-t21 : tie.Need-array-read-t21
+array-read-t21 c = search needs
 
-array-read-t20 : tie.Need-array-read-t20
-array-read-t20 c = search needs
+array-read-t24 : tie.Need-array-read-t24
+array-read-t24 c = search needs
 
-array-read-t23 : tie.Need-array-read-t23
-array-read-t23 c = search needs
+array-read-t27 : tie.Need-array-read-t27
+array-read-t27 c = search needs
 
 same-length : tie.Need-same-length
 same-length c = search needs
@@ -56,8 +80,8 @@ returns-2 : tie.Need-returns-2
 unfolding buildAnswer buildLeaves
 returns-2 c =
     let w = c .before .before in
-    let told = w .before .before in
-    let e = told .before .before .test-build .ensures in
+    let told = w .before .before .before in
+    let e = told .before .before .test-build .ensures .0 in
     let a = told .enum-told .given .1 in (
       digest-returned e a (digest-take (w .write-hashes .result) ∙ ap digest (w .write-hashes .ensures .0)),
       leaves-new e _ a (w .write-hashes .ensures .1),
@@ -72,10 +96,11 @@ build-spec =
     enum-told-2
     refusal-requires
     returns
+    slice-aggregate-write-hashes
     write-hashes-requires
-    array-read-t14
-    array-read-t17
-    array-read-t20
-    array-read-t23
+    array-read-t18
+    array-read-t21
+    array-read-t24
+    array-read-t27
     same-length
     returns-2)

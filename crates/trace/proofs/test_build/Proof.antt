@@ -23,7 +23,11 @@ use Rattle.trace.proofs.test_build.Tie as tie
 
 -- the function's entry, from where the batches of the taps are counted
 abbrev entry : tie.After-tap-batches → tie.Start
-entry counted = counted .before .before .before .before .before .before
+entry counted = counted .before .before .before .before .before .before .before
+
+-- and where the table is tested
+abbrev tested : tie.After-tap-batches → tie.After-test-ready
+tested counted = counted .before .before .before
 
 abbrev words : tie.After-tap-batches → ℕ
 words counted = length (entry counted .args .taps .now)
@@ -37,7 +41,7 @@ accepted : (c : tie.After-tap-batches) {o : Answer} → let taps = entry c .args
 unfolding buildTest
 accepted c e =
     let told = c .before in
-    after-accepted (told .before .before .test .ensures) (told .enum-told .given .1) e
+    after-accepted (told .before .before .test-ready .ensures .0) (told .enum-told .given .1) e
 
 -- where k is known, the taps' length is permitted
 abbrev counted : tie.After-known-told → tie.After-tap-batches
@@ -63,8 +67,8 @@ roomy f e =
     (unless-passed _ (permitted p .0)
     (unless-passed _ (eq-eqb _ _ (f .before .if1 .left ∙ ap (λ n. 384 * n) (sym (permitted p .1)))) e))
 
-test-requires : tie.Need-test-requires
-test-requires c κs = search needs
+test-ready-requires : tie.Need-test-ready-requires
+test-ready-requires c κs = search needs
 
 enum-told : tie.Need-enum-told
 enum-told c = search needs
@@ -74,7 +78,9 @@ enum-told-2 c = search needs
 
 returns : tie.Need-returns
 unfolding buildTest
-returns c = after-refused _ (c .before .before .test .ensures) (c .enum-told2 .given .1)
+returns c =
+    let t = c .before .before in
+    (after-refused _ (t .test-ready .ensures .0) (c .enum-told2 .given .1), t .test-ready .ensures .1)
 
 tap-batches-requires : tie.Need-tap-batches-requires
 tap-batches-requires c κs = search needs
@@ -89,7 +95,7 @@ returns-2 : tie.Need-returns-2
 returns-2 c =
     let taps = c .before .before in
     let refused = tap-refused mostBatches (words taps) (taps .tap-batches .ensures) (c .enum-told3 .given .1) in
-    accepted taps (unless-refused _ refused refl)
+    (accepted taps (unless-refused _ refused refl), tested taps .test-ready .ensures .1)
 
 mul-if1 : tie.Need-mul-if1
 mul-if1 c = omega (arith, permitted c .2)
@@ -97,9 +103,10 @@ mul-if1 c = omega (arith, permitted c .2)
 returns-3 : tie.Need-returns-3
 returns-3 c =
     let p = c .before in
-    accepted (counted p)
-    (unless-passed _ (permitted p .0)
-    (unless-refused _ (ne-eqb _ _ (λ e. c .if1 .taken (e ∙ ap (λ n. 384 * n) (permitted p .1)))) refl))
+    let other = ne-eqb _ _ (λ e. c .if1 .taken (e ∙ ap (λ n. 384 * n) (permitted p .1))) in (
+      accepted (counted p) (unless-passed _ (permitted p .0) (unless-refused _ other refl)),
+      tested (counted p) .test-ready .ensures .1,
+    )
 
 first-bad-requires : tie.Need-first-bad-requires
 first-bad-requires c κs = search needs
@@ -107,16 +114,23 @@ first-bad-requires c κs = search needs
 returns-4 : tie.Need-returns-4
 returns-4 c =
     let bad = c .before .first-bad .ensures in
-    roomy (c .before) (unless-refused _ (scanned-bad _ bad (c .if2 .taken)) (ap (λ i. Refused (TapWord i)) bad))
+    let f = c .before in (
+      roomy f (unless-refused _ (scanned-bad _ bad (c .if2 .taken)) (ap (λ i. Refused (TapWord i)) bad)),
+      tested (counted (f .before .before)) .test-ready .ensures .1,
+    )
 
 returns-5 : tie.Need-returns-5
-returns-5 c = roomy (c .before) (unless-passed _ (scanned-good _ (c .before .first-bad .ensures) (c .if2 .left)) refl)
+returns-5 c =
+    let f = c .before in (
+      roomy f (unless-passed _ (scanned-good _ (f .first-bad .ensures) (c .if2 .left)) refl),
+      tested (counted (f .before .before)) .test-ready .ensures .1,
+    )
 
 pub test-build-spec : {M : Type 1} → statement M
 test-build-spec =
     tie.close
     (tie.spec
-    test-requires
+    test-ready-requires
     enum-told
     enum-told-2
     returns

@@ -14,13 +14,14 @@ first-row-requires c κs = search needs
 
 write-rounds-requires : tie.Need-write-rounds-requires
 write-rounds-requires c κs =
-    let start = c .before .before .before .before .before .before .before .before in
+    let start = c .before .before .before .before .before .before .before .before .before in
     let first = c .first-row .ensures in
     let kept = c .before .before .before .before .write-input .kept .0 in (
       start .pre .0,
       start .pre .1,
       omega (arith, start .pre .2, first),
       omega (arith, start .pre .3, first, ranges (start .args .hash .0) .final-last, kept),
+      start .pre .4,
     )
 
 write-final-requires : tie.Need-write-final-requires
@@ -35,7 +36,7 @@ returns c =
     let rounds = final .before .before .before .before in
     let first = rounds .before in
     let input = first .before .before .before .before in
-    let start = input .before .before .before .before in
+    let start = input .before .before .before .before .before in
     let a = start .args in (
       rounds .write-rounds .ensures .0,
       hash-rows (a .table .now) (a .input) (a .hash .0) _ (a .destination .now) _ _ _ (first .first-row .result .0)

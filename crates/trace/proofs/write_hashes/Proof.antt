@@ -15,16 +15,16 @@ use Rattle.trace.proofs.write_hashes.Statement.{statement}
 use Rattle.trace.proofs.write_hashes.Tie as tie
 
 abbrev Inv-loop : tie.InvT-loop
-Inv-loop table taps k destination₀ hashes state₀ h₀ destination state h =
+Inv-loop ready table taps k destination₀ hashes state₀ h₀ destination state h =
     (h ≤ hashes) × (length destination ≡ length destination₀) × (take 4 state ≡ outputAt table taps h)
     × (destination ≡ withRows (traceRow table taps) 0 (rowsBefore h) destination₀)
 
 abbrev μ-loop : tie.MeasureT-loop
-μ-loop table taps k destination₀ hashes state₀ h₀ destination state h = hashes - h
+μ-loop ready table taps k destination₀ hashes state₀ h₀ destination state h = hashes - h
 
 -- the function's entry, from the loop's head
 abbrev entry : tie.At-loop Inv-loop μ-loop → tie.Start Inv-loop μ-loop
-entry head = head .before .before .before .before .before
+entry head = head .before .before .before .before .before .before
 
 mul-hashes : tie.Need-mul-hashes Inv-loop μ-loop
 mul-hashes c = omega arith
@@ -35,7 +35,7 @@ chain-start-requires c κs = omega arith
 loop-holds : tie.Need-loop-holds Inv-loop μ-loop
 unfolding rowsBefore
 loop-holds c =
-    let start = c .before .before .before .before .args in (
+    let start = c .before .before .before .before .before .args in (
       omega arith,
       refl,
       starts (start .table .now) (start .taps .now) _ (omega arith) (c .chain-start .ensures),
@@ -56,6 +56,7 @@ write-hash-requires c κs =
           (made .input-of .ensures) (start .pre .1) (omega arith),
       omega arith,
       omega (arith, before-within (start .args .k) (loop .h + 1) (omega arith)),
+      start .pre .5,
     )
 
 add-h : tie.Need-add-h Inv-loop μ-loop
@@ -69,16 +70,17 @@ loop-again c =
     let written = c .before .before in
     let made = written .before .before in
     let head = made .before .before in
-    let start = entry head .args in
+    let begun = entry head in
+    let start = begun .args in
     let loop = head .loop in
     let T = start .table .now in
     let w = start .taps .now in (
       omega arith,
-      written .write-hash .kept .1 .1 .1 .0 ∙ loop .inv .1,
+      written .write-hash .kept .1 .1 .1 .1 .0 ∙ loop .inv .1,
       goes-on T w (loop .h) (loop .state) _ (loop .inv .2) (made .input-of .ensures) _
           (written .write-hash .ensures .0),
       more-rows T w 0 (loop .h) _ (start .destination .now) (loop .destination) _ (omega arith)
-          (omega (arith, before-within (start .k) (loop .h + 1) (omega arith)))
+          (omega (arith, begun .pre .4, before-within (start .k) (loop .h + 1) (omega arith)))
           (is-input T w (loop .h) (loop .state) _ (loop .inv .2) (made .input-of .ensures)) (loop .inv .3)
           (written .write-hash .ensures .1),
     )

@@ -61,26 +61,26 @@ next T s first old new state round new₂ middle state₂ l em en es p =
     more = omega arith
 
 abbrev Inv-loop : tie.InvT-loop
-Inv-loop table destination₀ first state₀ round₀ destination state round =
+Inv-loop ready table destination₀ first state₀ round₀ destination state round =
     (round ≤ 10) × CanonicalTo 12 state × (length destination ≡ length destination₀)
     × ((s : List ℕ) → state₀ ≡ stateAt table s 0 → Passed table s first destination₀ destination state round)
 
 abbrev μ-loop : tie.MeasureT-loop
-μ-loop table destination₀ first state₀ round₀ destination state round = 10 - round
+μ-loop ready table destination₀ first state₀ round₀ destination state round = 10 - round
 
 -- the function's entry and the loop's head, from the middle state of a turn
 abbrev entry : tie.At-loop Inv-loop μ-loop → tie.Start Inv-loop μ-loop
-entry head = head .before .before .before .before
+entry head = head .before .before .before .before .before
 
 abbrev head-of : tie.After-first-step Inv-loop μ-loop → tie.At-loop Inv-loop μ-loop
 head-of middle = middle .before .before
 
 plus-initial-requires : tie.Need-plus-initial-requires Inv-loop μ-loop
-plus-initial-requires c κs = (c .before .before .pre .0, c .before .before .pre .1)
+plus-initial-requires c κs = (c .before .before .before .pre .0, c .before .before .before .pre .1)
 
 loop-holds : tie.Need-loop-holds Inv-loop μ-loop
 loop-holds c =
-    let a = c .before .before .before .args in
+    let a = c .before .before .before .before .args in
     let r = a .row .0 in
     let d = a .destination .now in
     let z : r + 0 ≡ r = omega arith in (
@@ -97,10 +97,10 @@ loop-holds c =
 first-step-requires : tie.Need-first-step-requires Inv-loop μ-loop
 first-step-requires c κs =
     let head = c .before in
-    (entry head .pre .0, omega arith, head .loop .inv .1)
+    (entry head .pre .0, omega arith, head .loop .inv .1, entry head .pre .4)
 
-add-t14 : tie.Need-add-t14 Inv-loop μ-loop
-add-t14 c = omega arith
+add-t15 : tie.Need-add-t15 Inv-loop μ-loop
+add-t15 c = omega arith
 
 write-row-requires : tie.Need-write-row-requires Inv-loop μ-loop
 write-row-requires c κs = omega arith
@@ -108,7 +108,8 @@ write-row-requires c κs = omega arith
 second-step-requires : tie.Need-second-step-requires Inv-loop μ-loop
 second-step-requires c κs =
     let middle = c .before .before .before .before in
-    (entry (head-of middle) .pre .0, omega arith, canonical-state (middle .first-step .ensures) (firstStep-state _ _ _))
+    let start = entry (head-of middle) in
+    (start .pre .0, omega arith, canonical-state (middle .first-step .ensures) (firstStep-state _ _ _), start .pre .4)
 
 add-round : tie.Need-add-round Inv-loop μ-loop
 add-round c = search needs
@@ -120,13 +121,14 @@ loop-again : tie.Need-loop-again Inv-loop μ-loop
 loop-again c =
     let written = c .before .before .before in
     let middle = written .before .before in
-    let start = entry (head-of middle) .args in
+    let begun = entry (head-of middle) in
+    let start = begun .args in
     let loop = head-of middle .loop in (
       omega arith,
       canonical-state (c .second-step .ensures) (secondStep-state _ _ _),
       written .write-row .kept .0 ∙ loop .inv .2,
       λ s e. next (start .table .now) s (start .row .0) (start .destination .now) (loop .destination) (loop .state)
-          (loop .round) _ _ _ (omega arith) (middle .first-step .ensures) (written .write-row .ensures)
+          (loop .round) _ _ _ (omega (arith, begun .pre .3)) (middle .first-step .ensures) (written .write-row .ensures)
           (c .second-step .ensures) (loop .inv .3 s e),
     )
 
@@ -157,7 +159,7 @@ write-rounds-spec =
     plus-initial-requires
     loop-holds
     first-step-requires
-    add-t14
+    add-t15
     write-row-requires
     second-step-requires
     add-round

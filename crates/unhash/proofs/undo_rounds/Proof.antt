@@ -33,17 +33,20 @@ loop-holds c = (omega arith, c .before .before .pre .1, refl)
 sub-round : tie.Need-sub-round Inv-loop μ-loop
 sub-round c = search needs
 
+slice-aggregate-undo-second-step : tie.Need-slice-aggregate-undo-second-step Inv-loop μ-loop
+slice-aggregate-undo-second-step c = search needs
+
 undo-second-step-requires : tie.Need-undo-second-step-requires Inv-loop μ-loop
 undo-second-step-requires c κs =
-    let head = c .before in
-    (entry head .pre .0, omega arith, head .loop .inv .1)
+    let head = c .before .before in
+    (entry head .pre .0, omega arith, head .loop .inv .1, head .before .back-ready .ensures)
 
 slice-aggregate-back-step : tie.Need-slice-aggregate-back-step Inv-loop μ-loop
 slice-aggregate-back-step c = search needs
 
 back-step-requires : tie.Need-back-step-requires Inv-loop μ-loop
 back-step-requires c κs =
-    let head = c .before .before .before in (
+    let head = c .before .before .before .before in (
       entry head .pre .0,
       head .before .back-ready .ensures,
       omega arith,
@@ -60,7 +63,7 @@ loop-again : tie.Need-loop-again Inv-loop μ-loop
 unfolding roundsUndone roundUndone
 loop-again c =
     let middle = c .before .before in
-    let head = middle .before .before in
+    let head = middle .before .before .before in
     let T = entry head .args .table .now in
     let undone = head .loop .undone in
     let left : 10 - (undone + 1) ≡ 9 - undone = omega arith in
@@ -89,6 +92,7 @@ undo-rounds-spec =
     back-ready-requires
     loop-holds
     sub-round
+    slice-aggregate-undo-second-step
     undo-second-step-requires
     slice-aggregate-back-step
     back-step-requires

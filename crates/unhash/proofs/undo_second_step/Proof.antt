@@ -1,47 +1,41 @@
 -- `unhash::undo_second_step`: the definition's three parts, difference, inverse of M and roots, are one call each; what
 -- each hands on is canonical.
 -- Assumes nothing.
-use mathlib.Core.Path.{sym, ap, ap₂, _∙_, subst}
+use mathlib.Core.Path.{ap, _∙_}
+use native.Mathlib.Omega.{arith}
 use borrow.Author.Needs.{needs}
-use lib.ListN.{length}
-use Rattle.words.specs.Words.{AllCanonical}
 use Rattle.matrix.specs.Matrix.{times}
-use Rattle.table.proofs.Theorems.{inverse-length, inverse-canonical}
+use Rattle.table.specs.Table.{inverseOf}
 use Rattle.hash.specs.Hash.{roots}
+use Rattle.steps.proofs.Made.{back-is}
 use Rattle.unhash.specs.Unhash.{secondStepUndone}
+use Rattle.unhash.proofs.CodeRoots.{undone-roots}
 use Rattle.unhash.proofs.undo_second_step.Statement.{statement}
 use Rattle.unhash.proofs.undo_second_step.Tie as tie
 
 less-second-step-requires : tie.Need-less-second-step-requires
 less-second-step-requires c κs = search needs
 
-inverse-requires : tie.Need-inverse-requires
-inverse-requires c κs = search needs
+mix-requires : tie.Need-mix-requires
+mix-requires c κs =
+    let start = c .before .before .before in
+    (back-is (start .args .table .now) (start .args .ready .now) (start .pre .3), c .less-second-step .ensures .1)
 
-times-requires : tie.Need-times-requires
-times-requires c κs =
-    let less = c .before in
-    let start = less .before .before in
-    let m = c .inverse .ensures in
-    let t = start .args .table .now in (
-      ap length m ∙ inverse-length t (start .pre .0),
-      subst AllCanonical (sym m) (inverse-canonical t (start .pre .0)),
-      less .less-second-step .ensures .1,
-    )
-
-roots-requires : tie.Need-roots-requires
-roots-requires c κs = c .times .ensures .1
+scaled-roots-requires : tie.Need-scaled-roots-requires
+scaled-roots-requires c κs = (c .mix .ensures .1, omega arith)
 
 returns : tie.Need-returns
-unfolding secondStepUndone roots
+unfolding secondStepUndone
 returns c =
     let multiplied = c .before in
-    let read = multiplied .before in
-    c .roots .ensures
-    ∙ ap roots (multiplied .times .ensures .0
-    ∙ ap₂ times (read .inverse .ensures) (read .before .less-second-step .ensures .0))
+    let less = multiplied .before in
+    let start = less .before .before .before in
+    let T = start .args .table .now in
+    undone-roots T (start .args .ready .now) (less .less-second-step .result) (multiplied .mix .result) _
+    (start .pre .3) (multiplied .mix .ensures .0) (c .scaled-roots .ensures .0)
+    ∙ ap (λ x. roots (times (inverseOf T) x)) (less .less-second-step .ensures .0)
 
 pub undo-second-step-spec : {M : Type 1} → statement M
 undo-second-step-spec =
     tie.close
-    (tie.spec less-second-step-requires inverse-requires times-requires roots-requires returns)
+    (tie.spec less-second-step-requires mix-requires scaled-roots-requires returns)

@@ -39,7 +39,7 @@ refusal-requires : tie.Need-refusal-requires
 refusal-requires c κs = search needs
 
 returns : tie.Need-returns
-returns c = unhash-turned-back _ _ (c .before .before .before .test-hash .ensures) (c .refusal .ensures)
+returns c = unhash-turned-back _ _ (c .before .before .before .test-hash .ensures .0) (c .refusal .ensures)
 
 -- the cells that passed are a state
 given : (entry : tie.Start) → AllCanonical (entry .args .t2) → IsState (entry .args .t2)
@@ -48,15 +48,15 @@ given entry a = record { size = search needs; canonical = a }
 undo-rounds-requires : tie.Need-undo-rounds-requires
 undo-rounds-requires c κs =
     let t = c .before .before in
-    let i = hash-inputs _ _ (sym (t .test-hash .ensures) ∙ c .enum-told .given .1) in
-    (i .table, λ j l. state-cell (given (t .before .before .before) (i .canonical)) j)
+    let i = hash-inputs _ _ (sym (t .test-hash .ensures .0) ∙ c .enum-told .given .1) in
+    (i .table, λ j l. state-cell (given (t .before .before .before .before) (i .canonical)) j)
 
 less-initial-requires : tie.Need-less-initial-requires
 less-initial-requires c κs =
     let told = c .before in
     let t = told .before .before in
-    let i = hash-inputs _ _ (sym (t .test-hash .ensures) ∙ told .enum-told .given .1) in
-    let start = given (t .before .before .before) (i .canonical) in
+    let i = hash-inputs _ _ (sym (t .test-hash .ensures .0) ∙ told .enum-told .given .1) in
+    let start = given (t .before .before .before .before) (i .canonical) in
     (i .table, canonical-state (c .undo-rounds .ensures) (roundsUndone-state _ 10 start))
 
 ends-in-zeros-requires : tie.Need-ends-in-zeros-requires
@@ -68,7 +68,7 @@ returns-2 c =
     let found = tested .before in
     let undone = found .before in
     let told = undone .before in
-    unhash-none _ _ (told .before .before .test-hash .ensures) (told .enum-told .given .1)
+    unhash-none _ _ (told .before .before .test-hash .ensures .0) (told .enum-told .given .1)
     (input-is _ _ (found .less-initial .ensures) (undone .undo-rounds .ensures))
     (sym (tested .ends-in-zeros .ensures) ∙ not-true _ (c .if1 .taken))
 
@@ -81,7 +81,7 @@ returns-3 c =
     let found = tested .before in
     let undone = found .before in
     let told = undone .before in
-    unhash-found _ _ (told .before .before .test-hash .ensures) (told .enum-told .given .1)
+    unhash-found _ _ (told .before .before .test-hash .ensures .0) (told .enum-told .given .1)
     (input-is _ _ (found .less-initial .ensures) (undone .undo-rounds .ensures))
     (sym (tested .ends-in-zeros .ensures) ∙ not-false _ (c .before .if1 .left)) (c .of .ensures)
 

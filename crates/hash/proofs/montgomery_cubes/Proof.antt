@@ -1,4 +1,4 @@
--- `steps::montgomery_cubes`: the cells passed are filled with the cubes, which two products in Montgomery's form leave
+-- `hash::montgomery_cubes`: the cells passed are filled with the cubes, which two products in Montgomery's form leave
 -- divided by 2^128.
 -- Assumes nothing.
 use mathlib.Core.Path.{_≡_, refl, sym, ap, _∙_, subst}
@@ -10,9 +10,9 @@ use Rattle.lists.proofs.Tab.{Fills, fills-none, fills-more, fills-all, cell-tab
 use Rattle.field.specs.Field.{Canonical}
 use Rattle.field.specs.MontgomeryHelpers.{timesWord}
 use Rattle.field.proofs.Forms.{divided-lt}
-use Rattle.steps.specs.StepHelpers.{montgomeryCube}
-use Rattle.steps.proofs.montgomery_cubes.Statement.{statement}
-use Rattle.steps.proofs.montgomery_cubes.Tie as tie
+use Rattle.hash.specs.HashHelpers.{montgomeryCube}
+use Rattle.hash.proofs.montgomery_cubes.Statement.{statement}
+use Rattle.hash.proofs.montgomery_cubes.Tie as tie
 
 -- the two products
 cube-made : (x square r : ℕ) → square ≡ timesWord x x → r ≡ timesWord square x → r ≡ montgomeryCube x

@@ -1,0 +1,91 @@
+-- M made ready, as the code has it: times 2^128, for which cubes and roots make up, that come divided by it.
+-- Assumes nothing.
+use mathlib.Core.Path.{_≡_, refl, sym, ap, _∙_}
+use mathlib.Core.List.{List}
+use Prim.Native.Nat.{ℕ, _*_, _%_, _<_}
+use native.Mathlib.Nat.{mul-one, mod-mod, mod-eq-of-lt}
+use native.Mathlib.Omega.{arith}
+use Rattle.lists.specs.Lists.{cell, tab}
+use Rattle.lists.proofs.Tab.{cell-tab}
+use Rattle.field.specs.Field.{P, mul, cube, root}
+use Rattle.field.specs.MontgomeryHelpers.{unitInverse, divided}
+use Rattle.field.proofs.Forms.{divided-lt}
+use Rattle.field.proofs.Fermat.{root-lt}
+use Rattle.field.proofs.Modular.{mul-mod-l, mul-mod-r}
+use Rattle.words.specs.Words.{CanonicalTo}
+use Rattle.roots.proofs.Scaled.{root-scaled}
+use Rattle.matrix.specs.Matrix.{timesColumn}
+use Rattle.mixing.specs.MixingHelpers.{readyEntry}
+use Rattle.table.specs.ReadyHelpers.{matrixUnit, matrixReady}
+use Rattle.table.proofs.Ready.{ready-times}
+use Rattle.hash.specs.Hash.{roots, cubes, mix}
+use Rattle.hash.specs.HashHelpers.{montgomeryCube}
+
+-- ---- modulo p, where j is the inverse of 2^64, and u is 2^128
+module _ (p j u : ℕ) (inv : (j * j * u) % p ≡ 1) where
+  pub cube-term : (x : ℕ) → (((x * x * j) % p * x * j) % p * u) % p ≡ ((x * x) % p * x) % p
+  cube-term x =
+      mul-mod-l p ((x * x * j) % p * x * j) u
+      ∙ ap (λ z. z % p) (turned ((x * x * j) % p))
+      ∙ mul-mod-l p (x * x * j) (x * j * u)
+      ∙ ap (λ z. z % p) spread
+      ∙ sym (mul-mod-r p (x * x * x) (j * j * u))
+      ∙ ap (λ z. (x * x * x * z) % p) inv
+      ∙ ap (λ z. z % p) (mul-one (x * x * x))
+      ∙ sym (mul-mod-l p (x * x) x)
+    where
+      turned : (a : ℕ) → a * x * j * u ≡ a * (x * j * u)
+      turned a = omega arith
+
+      spread : x * x * j * (x * j * u) ≡ x * x * x * (j * j * u)
+      spread = omega arith
+
+-- f times u makes up for the root of j
+module _ (p j g : ℕ) (inv : (j * (g * g * g)) % p ≡ 1) where
+  pub element-restored : (s : ℕ) → s < p → ((s * j) % p * (g * g * g)) % p ≡ s
+  element-restored s h =
+      mul-mod-l p (s * j) (g * g * g)
+      ∙ ap (λ z. z % p) (turned (g * g * g))
+      ∙ sym (mul-mod-r p s (j * (g * g * g)))
+      ∙ ap (λ z. (s * z) % p) inv
+      ∙ ap (λ z. z % p) (mul-one s)
+      ∙ mod-eq-of-lt h
+    where
+      turned : (a : ℕ) → s * j * a ≡ s * (j * a)
+      turned a = omega arith
+
+unit-term : (p f u r : ℕ) → ((f * r) % p * u) % p ≡ (r * (f * u)) % p
+unit-term p f u r = mul-mod-l p (f * r) u ∙ ap (λ z. z % p) turned
+  where
+    turned : f * r * u ≡ r * (f * u)
+    turned = omega arith
+
+-- the factor of the roots times 2^128
+abbrev rootUnit : ℕ
+rootUnit = 678424015035724853 * matrixUnit
+
+root-term : (s : ℕ) → s < P → (mul 678424015035724853 (root (divided s)) * matrixUnit) % P ≡ root s
+root-term s h =
+    unit-term P 678424015035724853 matrixUnit (root (divided s))
+    ∙ root-scaled (divided s) rootUnit s (divided-lt s) (element-restored P unitInverse rootUnit refl s h)
+
+-- ---- the products
+module _ (T ready x r : List ℕ) (e : ready ≡ matrixReady T)
+    (er : r ≡ tab 12 (timesColumn 12 (readyEntry ready) (cell x))) (s : List ℕ) where
+  pub mixed-cubes : x ≡ tab 12 (λ j. montgomeryCube (cell s j)) → r ≡ mix T (cubes s)
+  unfolding mix cubes
+  mixed-cubes ex =
+      er ∙ ready-times T ready e x (cubes s)
+      (λ j h. ap (λ v. (v * matrixUnit) % P) (ap (λ l. cell l j) ex ∙ cell-tab 12 (λ i. montgomeryCube (cell s i)) j h)
+      ∙ cube-term P unitInverse matrixUnit refl (cell s j)
+      ∙ sym (ap (λ v. v % P) (cell-tab 12 (λ i. cube (cell s i)) j h) ∙ mod-mod _ P))
+
+  pub mixed-roots : CanonicalTo 12 s → x ≡ tab 12 (λ j. mul 678424015035724853 (root (divided (cell s j))))
+      → r ≡ mix T (roots s)
+  unfolding mix roots
+  mixed-roots h ex =
+      er ∙ ready-times T ready e x (roots s)
+      (λ j l. ap (λ v. (v * matrixUnit) % P)
+      (ap (λ q. cell q j) ex ∙ cell-tab 12 (λ i. mul 678424015035724853 (root (divided (cell s i)))) j l)
+      ∙ root-term (cell s j) (h j l)
+      ∙ sym (ap (λ v. v % P) (cell-tab 12 (λ i. root (cell s i)) j l) ∙ mod-eq-of-lt (root-lt (cell s j))))

@@ -1,0 +1,76 @@
+-- The inverse made ready, as the code has it: a root, times a constant, makes up for its scale.
+-- Assumes nothing.
+use mathlib.Core.Path.{_≡_, refl, sym, ap, _∙_}
+use mathlib.Core.List.{List}
+use Prim.Native.Nat.{ℕ, _*_, _%_, _<_}
+use native.Mathlib.Nat.{mul-one, mod-lt, mod-eq-of-lt}
+use native.Mathlib.Omega.{arith}
+use Rattle.lists.specs.Lists.{cell, tab}
+use Rattle.lists.proofs.Tab.{cell-tab, tab-ext}
+use Rattle.field.specs.Field.{P, mul, root}
+use Rattle.field.specs.MontgomeryHelpers.{unitInverse, divided}
+use Rattle.field.proofs.Forms.{divided-lt}
+use Rattle.field.proofs.Modular.{mul-mod-l, mul-mod-r}
+use Rattle.roots.proofs.Scaled.{root-scaled}
+use Rattle.matrix.specs.Matrix.{entry, timesColumn, times}
+use Rattle.matrix.proofs.States.{cell-times}
+use Rattle.mixing.specs.MixingHelpers.{readyEntry}
+use Rattle.mixing.proofs.Scaled.{column-scaled}
+use Rattle.table.specs.Table.{inverseOf}
+use Rattle.hash.specs.Hash.{roots}
+use Rattle.steps.specs.StepHelpers.{backScale, backReady}
+
+-- modulo p, where j is the inverse of 2^64, d the scale, and f the constant
+module _ (p d j f : ℕ) (inv : (d * (j * (f * f * f))) % p ≡ 1) where
+  restored : (y : ℕ) → y < p → (((y * d) % p * j) % p * (f * f * f)) % p ≡ y
+  restored y h =
+      mul-mod-l p ((y * d) % p * j) (f * f * f)
+      ∙ ap (λ z. z % p) (turned ((y * d) % p) (f * f * f))
+      ∙ mul-mod-l p (y * d) (j * (f * f * f))
+      ∙ ap (λ z. z % p) (spread (f * f * f))
+      ∙ sym (mul-mod-r p y (d * (j * (f * f * f))))
+      ∙ ap (λ z. (y * z) % p) inv
+      ∙ ap (λ z. z % p) (mul-one y)
+      ∙ mod-eq-of-lt h
+    where
+      turned : (a c : ℕ) → a * j * c ≡ a * (j * c)
+      turned a c = omega arith
+
+      spread : (c : ℕ) → y * d * (j * c) ≡ y * (d * (j * c))
+      spread c = omega arith
+
+exchanged : (p f r : ℕ) → (f * r) % p ≡ (r * f) % p
+exchanged p f r = ap (λ z. z % p) swapped
+  where
+    swapped : f * r ≡ r * f
+    swapped = omega arith
+
+root-term : (y : ℕ) → y < P → mul 1320274735724748368 (root (divided ((y * divided backScale) % P))) ≡ root y
+root-term y h =
+    exchanged P 1320274735724748368 (root (divided ((y * divided backScale) % P)))
+    ∙ root-scaled (divided ((y * divided backScale) % P)) 1320274735724748368 y
+    (divided-lt ((y * divided backScale) % P))
+    (restored P (divided backScale) unitInverse 1320274735724748368 refl y h)
+
+column-lt : (m : List ℕ) (x : ℕ → ℕ) (i : ℕ) → timesColumn 12 (entry m) x i < P
+unfolding timesColumn
+column-lt m x i = mod-lt _ (omega arith)
+
+pub undone-roots : (T ready less mixed r : List ℕ) → ready ≡ backReady T
+    → mixed ≡ tab 12 (timesColumn 12 (readyEntry ready) (cell less))
+    → r ≡ tab 12 (λ j. mul 1320274735724748368 (root (divided (cell mixed j)))) → r ≡ roots (times (inverseOf T) less)
+unfolding roots backReady
+undone-roots T ready less mixed r e em er =
+    er
+    ∙ tab-ext 12 (λ j. mul 1320274735724748368 (root (divided (cell mixed j))))
+    (λ j. root (cell (times (inverseOf T) less) j)) same
+  where
+    same : (i : ℕ) → i < 12
+        → mul 1320274735724748368 (root (divided (cell mixed i))) ≡ root (cell (times (inverseOf T) less) i)
+    same i h =
+        ap (λ v. mul 1320274735724748368 (root (divided v)))
+        (ap (λ l. cell l i) em
+        ∙ cell-tab 12 (timesColumn 12 (readyEntry ready) (cell less)) i h
+        ∙ column-scaled (inverseOf T) ready backScale e (cell less) i h)
+        ∙ root-term (timesColumn 12 (entry (inverseOf T)) (cell less) i) (column-lt (inverseOf T) (cell less) i)
+        ∙ ap root (sym (cell-times (inverseOf T) less i h))
