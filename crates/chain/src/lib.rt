@@ -5,7 +5,7 @@ ghost use Prim.Native.Nat.{_+_, _*_, _<_, _≤_, _^_};
 ghost use lib.ListN.{length, take, replicate};
 ghost use Rattle.words.specs.Words.{AllCanonical};
 ghost use Rattle.table.specs.Table.{IsTable};
-ghost use Rattle.table.specs.ReadyHelpers.{matrixReady};
+ghost use Rattle.table.specs.ReadyHelpers.{matrixReady, readyLeft};
 ghost use Rattle.hash.specs.Hash.{input, tap, outputAt};
 ghost use Rattle.chain.specs.Answers.{chainTest, chainAnswer};
 use mixing::READY_WORDS;
@@ -75,9 +75,9 @@ fn last_state(ready: &[u64], table: &[u64], taps: &[u64], hashes: usize) -> [u64
 fn test_chain(table: &[u64], taps: &[u64], ready: &mut [u64; READY_WORDS]) -> Answer
     ensures { λ r. ⌜
         (r ≡ chainTest (now (table .entry)) (now (taps .entry)))
-        × (IsTable (now (table .entry)) → now (ready .exit) ≡ matrixReady (now (table .entry))) ⌝ }
+        × (now (ready .exit) ≡ readyLeft (now (table .entry)) (now (ready .entry))) ⌝ }
 {
-    let of_table = table::test_ready(table, ready);
+    let of_table = table::test_and_ready(table, ready);
     let Answer::Accepted = of_table else {
         return of_table;
     };

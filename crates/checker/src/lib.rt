@@ -6,8 +6,9 @@ ghost use Rattle.words.specs.Words.{AllCanonical, canonicalWords, firstBad};
 ghost use Rattle.numbers.specs.Numbers.{traceWords};
 ghost use Rattle.refusals.specs.Answers.{unless, testsAfter};
 ghost use Rattle.table.specs.Table.{IsTable};
-ghost use Rattle.constraints.specs.Constraints.{tests, constraintTest};
-ghost use Rattle.table.specs.ReadyHelpers.{matrixReady};
+ghost use Rattle.constraints.specs.Constraints.{tests};
+ghost use Rattle.table.specs.ReadyHelpers.{matrixReady, readyLeft};
+ghost use Rattle.steps.specs.StepHelpers.{backReady};
 ghost use Rattle.checker.specs.Answers.{openingTest, traceTest, checkAnswer};
 use mixing::READY_WORDS;
 use numbers::BATCH_WORDS;
@@ -17,7 +18,7 @@ use refusals::Answer;
 use refusals::Refusal;
 use refusals::TestsAnswer;
 
-// 1, 2, 4; 7; 17: how Check, Read-off and Edit begin. The table test leaves M made ready for the walk.
+// 1, 2, 4; 7; 17: how Check, Read-off and Edit begin. The table test leaves M made ready, for the walk.
 pub fn test_opening(
     table: &[u64],
     trace: &[u64],
@@ -26,9 +27,9 @@ pub fn test_opening(
 ) -> Answer
     ensures { λ r. ⌜
         (r ≡ openingTest (now (table .entry)) (now (trace .entry)) c)
-        × (IsTable (now (table .entry)) → now (ready .exit) ≡ matrixReady (now (table .entry))) ⌝ }
+        × (now (ready .exit) ≡ readyLeft (now (table .entry)) (now (ready .entry))) ⌝ }
 {
-    let of_table = table::test_ready(table, ready);
+    let of_table = table::test_and_ready(table, ready);
     let Answer::Accepted = of_table else {
         return of_table;
     };
@@ -70,27 +71,10 @@ pub fn test_words(trace: &[u64]) -> Answer
     Answer::Accepted
 }
 
-// 11: the walk, for a trace of canonical words.
-pub fn test_constraints(
-    ready: &[u64],
-    table: &[u64],
-    trace: &[u64],
-    claim: &[u64; 4],
-    c: usize,
-    k: usize,
-) -> TestsAnswer
-    requires { ⌜ IsTable (now table) × AllCanonical (now trace) × (length (now trace) ≡ traceWords k) × (c ≤ k)
-        × (k < 2 ^ 32) × (now ready ≡ matrixReady (now table)) ⌝ }
-    ensures { λ r. ⌜ r ≡ testsAfter (constraintTest (now (table .entry)) (now (trace .entry)) (now (claim .entry)) c k)
-        (length (tests k c)) ⌝ }
-{
-    let inverse = steps::back_ready(table);
-    walk::walk_tests(ready, &inverse, table, trace, claim, c, k)
-}
-
-// 9; 10; 11: how Check and Read-off end.
+// 9; 10; 11: how Check and Read-off end. M and its inverse come made ready.
 pub fn test_trace(
     ready: &[u64],
+    inverse: &[u64],
     table: &[u64],
     trace: &[u64],
     claim: &[u64; 4],
@@ -98,7 +82,7 @@ pub fn test_trace(
     k: usize,
 ) -> TestsAnswer
     requires { ⌜ IsTable (now table) × (length (now trace) ≡ traceWords k) × (c ≤ k) × (k < 2 ^ 32)
-        × (now ready ≡ matrixReady (now table)) ⌝ }
+        × (now ready ≡ matrixReady (now table)) × (now inverse ≡ backReady (now table)) ⌝ }
     ensures { λ r. ⌜ r ≡ testsAfter (traceTest (now (table .entry)) (now (trace .entry)) (now (claim .entry)) c k)
         (length (tests k c)) ⌝ }
 {
@@ -110,7 +94,7 @@ pub fn test_trace(
     let Answer::Accepted = of_words else {
         return TestsAnswer::Refused(of_words.refusal());
     };
-    test_constraints(ready, table, trace, claim, c, k)
+    walk::walk_tests(ready, inverse, table, trace, claim, c, k)
 }
 
 // Check: 1, 2, 4; 7; 17; 9; 10; 11.
@@ -122,5 +106,7 @@ pub fn check(table: &[u64], trace: &[u64], claim: [u64; 4], c: usize) -> TestsAn
     let Answer::Accepted = opening else {
         return TestsAnswer::Refused(opening.refusal());
     };
-    test_trace(&ready, table, trace, &claim, c, trace.len() / BATCH_WORDS)
+    let inverse = steps::back_ready(table);
+    let k = trace.len() / BATCH_WORDS;
+    test_trace(&ready, &inverse, table, trace, &claim, c, k)
 }

@@ -26,15 +26,14 @@ use Rattle.edit.specs.Answers.{editTest}
 -- ---- what a function learns from the tests that it passes, one after the other
 
 -- what is left to be tested from 6 on, from 10 on, and from 9 on
-abbrev pub fromTap : List ℕ → List ℕ → List ℕ → ℕ → List ℕ → Answer
-fromTap T t claim c new =
-    unless (canonicalWords new) (TapWord (firstBad new)) (constraintTest T t claim c (traceWordBatches (length t)))
+abbrev pub fromTap : List ℕ → List ℕ → List ℕ → ℕ → List ℕ → ℕ → Answer
+fromTap T t claim c new k = unless (canonicalWords new) (TapWord (firstBad new)) (constraintTest T t claim c k)
 
-abbrev pub fromWords : List ℕ → List ℕ → List ℕ → ℕ → List ℕ → Answer
-fromWords T t claim c new = unless (canonicalWords t) (TraceWord (firstBad t)) (fromTap T t claim c new)
+abbrev pub fromWords : List ℕ → List ℕ → List ℕ → ℕ → List ℕ → ℕ → Answer
+fromWords T t claim c new k = unless (canonicalWords t) (TraceWord (firstBad t)) (fromTap T t claim c new k)
 
-abbrev pub fromClaim : List ℕ → List ℕ → List ℕ → ℕ → List ℕ → Answer
-fromClaim T t claim c new = unless (canonicalWords claim) (ClaimWord (firstBad claim)) (fromWords T t claim c new)
+abbrev pub fromClaim : List ℕ → List ℕ → List ℕ → ℕ → List ℕ → ℕ → Answer
+fromClaim T t claim c new k = unless (canonicalWords claim) (ClaimWord (firstBad claim)) (fromWords T t claim c new k)
 
 -- ---- what all tests say
 module _ (T t claim : List ℕ) (c n : ℕ) (new : List ℕ) where

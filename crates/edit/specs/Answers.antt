@@ -20,15 +20,19 @@ use Rattle.constraints.specs.ReadOff.{readTaps}
 use Rattle.checker.specs.Answers.{openingTest}
 use Rattle.rewriting.specs.Edit.{altered}
 
--- 1, 2, 4; 7; 17; 15; 9; 10; 6; 11
-unfoldable pub editTest : List ℕ → List ℕ → List ℕ → ℕ → ℕ → List ℕ → Answer
-editTest T t claim c n new =
-    after (openingTest T t c)
-    (unless (leb n (3 * traceWordBatches (length t))) NoSuchTap
+-- 15; 9; 10; 6; 11
+abbrev pub editTraceTest : List ℕ → List ℕ → List ℕ → ℕ → ℕ → List ℕ → ℕ → Answer
+editTraceTest T t claim c n new k =
+    unless (leb n (3 * k)) NoSuchTap
     (unless (canonicalWords claim) (ClaimWord (firstBad claim))
     (unless (canonicalWords t) (TraceWord (firstBad t))
     (unless (canonicalWords new) (TapWord (firstBad new))
-    (constraintTest T t claim c (traceWordBatches (length t)))))))
+    (constraintTest T t claim c k))))
+
+-- Edit: 1, 2, 4; 7; 17; 15; 9; 10; 6; 11
+unfoldable pub editTest : List ℕ → List ℕ → List ℕ → ℕ → ℕ → List ℕ → Answer
+editTest T t claim c n new =
+    after (openingTest T t c) (editTraceTest T t claim c n new (traceWordBatches (length t)))
 
 -- the altered list: the taps that the trace holds, with tap n replaced
 unfoldable pub alteredTaps : List ℕ → List ℕ → ℕ → List ℕ → List ℕ

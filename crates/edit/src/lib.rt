@@ -1,10 +1,14 @@
 // Edit: a tap of an accepted trace replaced in place (document 02, U1 and U6).
 ghost use mathlib.Core.Path.{_≡_};
+ghost use Prim.Native.Nat.{_≤_, _<_, _^_};
 ghost use lib.ListN.{length};
 ghost use Rattle.refusals.specs.Answers.{testsAfter};
-ghost use Rattle.numbers.specs.Numbers.{traceWordBatches};
+ghost use Rattle.numbers.specs.Numbers.{traceWords};
+ghost use Rattle.table.specs.Table.{IsTable};
+ghost use Rattle.table.specs.ReadyHelpers.{matrixReady};
 ghost use Rattle.constraints.specs.Constraints.{tests};
-ghost use Rattle.edit.specs.Answers.{editTest, editAnswer, editLeaves};
+ghost use Rattle.steps.specs.StepHelpers.{backReady};
+ghost use Rattle.edit.specs.Answers.{editTraceTest, editAnswer, editLeaves};
 use mixing::READY_WORDS;
 use numbers::BATCH_WORDS;
 use numbers::BatchNumber;
@@ -15,25 +19,24 @@ use refusals::DigestAnswer;
 use refusals::Refusal;
 use refusals::TestsAnswer;
 
-// What Edit tests: 1, 2, 4; 7; 17; 15; 9; 10; 6; 11.
+// 15; 9; 10; 6; 11: how Edit's tests end. M and its inverse come made ready.
 fn test_edit(
+    ready: &[u64],
+    inverse: &[u64],
     table: &[u64],
     trace: &[u64],
     claim: &[u64; 4],
     c: usize,
     tap: TapNumber,
     words: &[u64],
+    k: usize,
 ) -> TestsAnswer
+    requires { ⌜ IsTable (now table) × (length (now trace) ≡ traceWords k) × (c ≤ k) × (k < 2 ^ 32)
+        × (now ready ≡ matrixReady (now table)) × (now inverse ≡ backReady (now table)) ⌝ }
     ensures { λ r. ⌜ r ≡ testsAfter
-        (editTest (now (table .entry)) (now (trace .entry)) (now (claim .entry)) c (tap .0) (now (words .entry)))
-        (length (tests (traceWordBatches (length (now (trace .entry)))) c)) ⌝ }
+        (editTraceTest (now (table .entry)) (now (trace .entry)) (now (claim .entry)) c (tap .0) (now (words .entry)) k)
+        (length (tests k c)) ⌝ }
 {
-    let mut ready = [0u64; READY_WORDS];
-    let opening = checker::test_opening(table, trace, c, &mut ready);
-    let Answer::Accepted = opening else {
-        return TestsAnswer::Refused(opening.refusal());
-    };
-    let k = trace.len() / BATCH_WORDS;
     if 3 * k < tap.0 {
         return TestsAnswer::Refused(Refusal::NoSuchTap);
     }
@@ -49,10 +52,10 @@ fn test_edit(
     if bad != words.len() {
         return TestsAnswer::Refused(Refusal::TapWord(bad));
     }
-    checker::test_constraints(&ready, table, trace, claim, c, k)
+    walk::walk_tests(ready, inverse, table, trace, claim, c, k)
 }
 
-// Edit writes when every test has passed.
+// Edit: 1, 2, 4; 7; 17; 15; 9; 10; 6; 11. It writes when every test has passed.
 pub fn edit(
     table: &[u64],
     trace: &mut [u64],
@@ -65,12 +68,16 @@ pub fn edit(
         (r ≡ editAnswer (now (table .entry)) (now (trace .entry)) claim c (tap .0) words)
         × (now (trace .exit) ≡ editLeaves (now (table .entry)) (now (trace .entry)) claim c (tap .0) words) ⌝ }
 {
-    let answer = test_edit(table, trace, &claim, c, tap, &words);
+    let mut ready = [0u64; READY_WORDS];
+    let opening = checker::test_opening(table, trace, c, &mut ready);
+    let Answer::Accepted = opening else {
+        return DigestAnswer::Refused(opening.refusal());
+    };
+    let inverse = steps::back_ready(table);
+    let k = trace.len() / BATCH_WORDS;
+    let answer = test_edit(&ready, &inverse, table, trace, &claim, c, tap, &words, k);
     match answer {
         TestsAnswer::Accepted(_) => {
-            let k = trace.len() / BATCH_WORDS;
-            let ready = table::matrix_ready(table);
-            let inverse = steps::back_ready(table);
             rewriting::rewrite(&ready, &inverse, table, k, tap, words, trace);
             // The claim's row begins with the output of the altered list's first 3c + 1 taps.
             let row = rows::cells(trace, BatchNumber(c - 1).row(31));

@@ -8,15 +8,15 @@ use native.Mathlib.Omega.{arith}
 use Rattle.lists.specs.Lists.{cell, tab}
 use Rattle.lists.proofs.Tab.{cell-tab}
 use Rattle.field.specs.Field.{P, mul, cube, root}
-use Rattle.field.specs.MontgomeryHelpers.{unitInverse, divided}
+use Rattle.field.specs.MontgomeryHelpers.{unitInverse, unitSquare, divided}
 use Rattle.field.proofs.Forms.{divided-lt}
 use Rattle.field.proofs.Fermat.{root-lt}
-use Rattle.field.proofs.Modular.{mul-mod-l, mul-mod-r}
+use Rattle.field.proofs.Modular.{mul-mod-l, mul-mod-r, mul-undone}
 use Rattle.words.specs.Words.{CanonicalTo}
 use Rattle.roots.proofs.Scaled.{root-scaled}
 use Rattle.matrix.specs.Matrix.{timesColumn}
 use Rattle.mixing.specs.MixingHelpers.{readyEntry}
-use Rattle.table.specs.ReadyHelpers.{matrixUnit, matrixReady}
+use Rattle.table.specs.ReadyHelpers.{matrixReady}
 use Rattle.table.proofs.Ready.{ready-times}
 use Rattle.hash.specs.Hash.{roots, cubes, mix}
 use Rattle.hash.specs.HashHelpers.{montgomeryCube}
@@ -40,20 +40,6 @@ module _ (p j u : ℕ) (inv : (j * j * u) % p ≡ 1) where
       spread : x * x * j * (x * j * u) ≡ x * x * x * (j * j * u)
       spread = omega arith
 
--- f times u makes up for the root of j
-module _ (p j g : ℕ) (inv : (j * (g * g * g)) % p ≡ 1) where
-  pub element-restored : (s : ℕ) → s < p → ((s * j) % p * (g * g * g)) % p ≡ s
-  element-restored s h =
-      mul-mod-l p (s * j) (g * g * g)
-      ∙ ap (λ z. z % p) (turned (g * g * g))
-      ∙ sym (mul-mod-r p s (j * (g * g * g)))
-      ∙ ap (λ z. (s * z) % p) inv
-      ∙ ap (λ z. z % p) (mul-one s)
-      ∙ mod-eq-of-lt h
-    where
-      turned : (a : ℕ) → s * j * a ≡ s * (j * a)
-      turned a = omega arith
-
 unit-term : (p f u r : ℕ) → ((f * r) % p * u) % p ≡ (r * (f * u)) % p
 unit-term p f u r = mul-mod-l p (f * r) u ∙ ap (λ z. z % p) turned
   where
@@ -62,12 +48,12 @@ unit-term p f u r = mul-mod-l p (f * r) u ∙ ap (λ z. z % p) turned
 
 -- the factor of the roots times 2^128
 abbrev rootUnit : ℕ
-rootUnit = 678424015035724853 * matrixUnit
+rootUnit = 678424015035724853 * unitSquare
 
-root-term : (s : ℕ) → s < P → (mul 678424015035724853 (root (divided s)) * matrixUnit) % P ≡ root s
+root-term : (s : ℕ) → s < P → (mul 678424015035724853 (root (divided s)) * unitSquare) % P ≡ root s
 root-term s h =
-    unit-term P 678424015035724853 matrixUnit (root (divided s))
-    ∙ root-scaled (divided s) rootUnit s (divided-lt s) (element-restored P unitInverse rootUnit refl s h)
+    unit-term P 678424015035724853 unitSquare (root (divided s))
+    ∙ root-scaled (divided s) rootUnit s (divided-lt s) (mul-undone P unitInverse (rootUnit * rootUnit * rootUnit) s refl h)
 
 -- ---- the products
 module _ (T ready x r : List ℕ) (e : ready ≡ matrixReady T)
@@ -76,8 +62,8 @@ module _ (T ready x r : List ℕ) (e : ready ≡ matrixReady T)
   unfolding mix cubes
   mixed-cubes ex =
       er ∙ ready-times T ready e x (cubes s)
-      (λ j h. ap (λ v. (v * matrixUnit) % P) (ap (λ l. cell l j) ex ∙ cell-tab 12 (λ i. montgomeryCube (cell s i)) j h)
-      ∙ cube-term P unitInverse matrixUnit refl (cell s j)
+      (λ j h. ap (λ v. (v * unitSquare) % P) (ap (λ l. cell l j) ex ∙ cell-tab 12 (λ i. montgomeryCube (cell s i)) j h)
+      ∙ cube-term P unitInverse unitSquare refl (cell s j)
       ∙ sym (ap (λ v. v % P) (cell-tab 12 (λ i. cube (cell s i)) j h) ∙ mod-mod _ P))
 
   pub mixed-roots : CanonicalTo 12 s → x ≡ tab 12 (λ j. mul 678424015035724853 (root (divided (cell s j))))
@@ -85,7 +71,7 @@ module _ (T ready x r : List ℕ) (e : ready ≡ matrixReady T)
   unfolding mix roots
   mixed-roots h ex =
       er ∙ ready-times T ready e x (roots s)
-      (λ j l. ap (λ v. (v * matrixUnit) % P)
+      (λ j l. ap (λ v. (v * unitSquare) % P)
       (ap (λ q. cell q j) ex ∙ cell-tab 12 (λ i. mul 678424015035724853 (root (divided (cell s i)))) j l)
       ∙ root-term (cell s j) (h j l)
       ∙ sym (ap (λ v. v % P) (cell-tab 12 (λ i. root (cell s i)) j l) ∙ mod-eq-of-lt (root-lt (cell s j))))

@@ -65,10 +65,6 @@ pub times-state : (m s : List ℕ) → IsState (times m s)
 unfolding times timesColumn
 times-state m s = tab-state _ (λ j h. mod-lt _ (omega arith))
 
-pub mix-state : (T s : List ℕ) → IsState (mix T s)
-unfolding mix
-mix-state T s = times-state _ _
-
 pub firstStep-state : (T : List ℕ) (r : ℕ) (s : List ℕ) → IsState (firstStep T r s)
 unfolding firstStep
 firstStep-state T r s = plus-state _ _

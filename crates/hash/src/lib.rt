@@ -5,7 +5,7 @@ ghost use Rattle.lists.specs.Lists.{cell, tab};
 ghost use Rattle.words.specs.Words.{CanonicalTo};
 ghost use Rattle.numbers.specs.Numbers.{width};
 ghost use Rattle.table.specs.Table.{IsTable, firstStepConstant, secondStepConstant};
-ghost use Rattle.table.specs.ReadyHelpers.{matrixReady};
+ghost use Rattle.table.specs.ReadyHelpers.{matrixReady, readyLeft};
 ghost use Rattle.hash.specs.Hash.{plus, firstStep, secondStep, stateAt, finalState};
 ghost use Rattle.hash.specs.HashHelpers.{montgomeryCube};
 ghost use Rattle.hash.specs.Answers.{hashTest, hashAnswer};
@@ -17,8 +17,9 @@ use refusals::Refusal;
 use refusals::State;
 use refusals::StateAnswer;
 
-// 2^(64 (THIRD - 2)) mod p: roots of cells that were taken for words of Montgomery's form come out divided by 2^128.
-const ROOT: u64 = 678424015035724853;
+// 2^(64 (THIRD - 2)) mod p. A cell that is taken for a word of Montgomery's form stands for the cell divided by 2^64;
+// times this factor its root is that of the cell divided by 2^128, for which M made ready makes up.
+const ROOT_FACTOR: u64 = 678424015035724853;
 
 // The cube of every cell, divided by 2^128.
 pub fn montgomery_cubes(s: [u64; WIDTH]) -> [u64; WIDTH]
@@ -73,14 +74,14 @@ fn plus_second_step(table: &[u64], round: usize, s: [u64; WIDTH]) -> [u64; WIDTH
     out
 }
 
-// The first step of the round, to its middle state. Here and below M comes made ready, once a call: times 2^128, for
-// which roots and cubes make up.
+// The first step of the round, to its middle state. Here and below M comes made ready, times 2^128, and roots and cubes
+// come divided by it.
 pub fn first_step(ready: &[u64], table: &[u64], round: usize, s: [u64; WIDTH]) -> [u64; WIDTH]
     requires { ⌜
         IsTable (now table) × (round < 10) × CanonicalTo width s × (now ready ≡ matrixReady (now table)) ⌝ }
     ensures { λ r. ⌜ r ≡ firstStep (now (table .entry)) round s ⌝ }
 {
-    let mixed = mixing::mix(ready, roots::scaled_roots(s, ROOT));
+    let mixed = mixing::mix(ready, roots::scaled_roots(s, ROOT_FACTOR));
     plus_first_step(table, round, mixed)
 }
 
@@ -111,9 +112,9 @@ pub fn final_state(ready: &[u64], table: &[u64], input: [u64; WIDTH]) -> [u64; W
 pub fn test_hash(table: &[u64], words: &[u64], ready: &mut [u64; READY_WORDS]) -> Answer
     ensures { λ r. ⌜
         (r ≡ hashTest (now (table .entry)) (now (words .entry)))
-        × (IsTable (now (table .entry)) → now (ready .exit) ≡ matrixReady (now (table .entry))) ⌝ }
+        × (now (ready .exit) ≡ readyLeft (now (table .entry)) (now (ready .entry))) ⌝ }
 {
-    let of_table = table::test_ready(table, ready);
+    let of_table = table::test_and_ready(table, ready);
     let Answer::Accepted = of_table else {
         return of_table;
     };

@@ -4,24 +4,17 @@
 use Prim.Native.Nat.{ℕ, _<_}
 use mathlib.Core.Path.{_≡_, refl, sym, _∙_}
 use mathlib.Core.List.{List}
-use native.Mathlib.Omega.{arith}
 use lib.ListN.{length}
 use Rattle.lists.specs.Lists.{cell}
 use Rattle.lists.proofs.Tab.{cell-tab, tab-unique}
-use Rattle.field.specs.Field.{P, Canonical}
+use Rattle.field.specs.Field.{Canonical}
 use Rattle.matrix.specs.Matrix.{timesColumn, entry, times, Inverse}
-use Rattle.matrix.proofs.Linear.{times-lt, times-ext, undo}
+use Rattle.matrix.proofs.Linear.{times-ext, undo}
 use Rattle.matrix.proofs.Dichotomy.{other-side}
 
 pub cell-times : (m s : List ℕ) (i : ℕ) → i < 12 → cell (times m s) i ≡ timesColumn 12 (entry m) (cell s) i
 unfolding times
 cell-times m s i h = cell-tab 12 (timesColumn 12 (entry m) (cell s)) i h
-
-pub times-canonical : (m s : List ℕ) (i : ℕ) → i < 12 → Canonical (cell (times m s) i)
-times-canonical m s i h = ap-lt (cell-times m s i h) (times-lt 12 (entry m) (cell s) i)
-  where
-    ap-lt : {x y : ℕ} → x ≡ y → y < P → x < P
-    ap-lt e l = omega arith
 
 pub times-undo : (m n : List ℕ) → Inverse 12 (entry m) (entry n) → (s : List ℕ) → length s ≡ 12
     → ((i : ℕ) → i < 12 → Canonical (cell s i)) → times m (times n s) ≡ s

@@ -1,3 +1,4 @@
+pub mod RowWords
 pub mod Unweighting
 pub mod ReadyWords
 pub mod Scaled

@@ -16,7 +16,7 @@ use Rattle.field.specs.MontgomeryHelpers.{timesWord}
 use Rattle.field.proofs.Forms.{times-lt}
 use Rattle.sums.specs.Sums.{weight}
 use Rattle.matrix.specs.Matrix.{entry}
-use Rattle.matrix.proofs.RowWords.{rowWords, next-gathered}
+use Rattle.mixing.proofs.RowWords.{rowWords, next-gathered}
 use Rattle.mixing.specs.MixingHelpers.{weightedEntry, columnWord, ready, IsReady, readyEntry}
 use Rattle.mixing.proofs.Unweighting.{weighted-again, scale-unweighted}
 

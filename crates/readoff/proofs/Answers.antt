@@ -13,7 +13,8 @@ use Rattle.refusals.specs.declared.Refusal.the-variants.{DestinationLength}
 use Rattle.refusals.specs.declared.Answer.the-variants as answer
 use Rattle.refusals.specs.declared.TestsAnswer.{TestsAnswer}
 use Rattle.refusals.specs.declared.TestsAnswer.the-variants.{Accepted, Refused}
-use Rattle.refusals.proofs.Laws.{passed, both-accepted, tests-accepted, tests-refused, leaves-old, leaves-new}
+use Rattle.refusals.proofs.Laws.{passed, both-accepted, tests-accepted, tests-refused, tests-turned-back}
+use Rattle.refusals.proofs.Laws.{leaves-old, leaves-new}
 use Rattle.constraints.specs.Constraints.{constraintTest}
 use Rattle.constraints.specs.ReadOff.{readTaps}
 use Rattle.checker.specs.Answers.{openingTest, checkTest}
@@ -36,7 +37,14 @@ module _ (T t claim : List ℕ) (c size : ℕ) where
       let i = check-inputs T t claim c (sym (same-test s) ∙ e) in
       (s, i .0, i .1)
 
--- ---- what is left in the destination, by the answer
+-- ---- what is answered and left in the destination where a test refuses
+pub turned-back : (T t claim old : List ℕ) (c : ℕ) {r : Refusal}
+    → answer.Refused r ≡ readOffTest T t claim c (length old)
+    → (Refused r ≡ readOffAnswer T t claim c (length old)) × (old ≡ readOffLeaves T t claim c old)
+unfolding readOffAnswer readOffLeaves
+turned-back T t claim old c e = (tests-turned-back e _ refl, leaves-old e _ refl)
+
+-- ---- what is left there, by the answer
 module _ (T t claim old : List ℕ) (c : ℕ) {a : TestsAnswer}
     (answered : a ≡ readOffAnswer T t claim c (length old)) where
   pub accepted : {n : ℕ} → a ≡ Accepted n → readOffTest T t claim c (length old) ≡ answer.Accepted

@@ -67,29 +67,7 @@ fn write_taps(inverse: &[u64], table: &[u64], trace: &[u64], k: usize, destinati
     }
 }
 
-// What Read-off tests: 1, 2, 4; 7; 17; 8; 9; 10; 11.
-fn test_read_off(
-    table: &[u64],
-    trace: &[u64],
-    claim: &[u64; 4],
-    c: usize,
-    size: usize,
-) -> TestsAnswer
-    ensures { λ r. ⌜ r ≡ readOffAnswer (now (table .entry)) (now (trace .entry)) (now (claim .entry)) c size ⌝ }
-{
-    let mut ready = [0u64; READY_WORDS];
-    let opening = checker::test_opening(table, trace, c, &mut ready);
-    let Answer::Accepted = opening else {
-        return TestsAnswer::Refused(opening.refusal());
-    };
-    let k = trace.len() / BATCH_WORDS;
-    if size != BATCH_TAP_WORDS * k + TAP_WORDS {
-        return TestsAnswer::Refused(Refusal::DestinationLength);
-    }
-    checker::test_trace(&ready, table, trace, claim, c, k)
-}
-
-// Read-off: it writes when every test has passed, and all taps, whatever c is.
+// Read-off: 1, 2, 4; 7; 17; 8; 9; 10; 11. It writes when every test has passed, and all taps, whatever c is.
 pub fn read_off(
     table: &[u64],
     trace: &[u64],
@@ -102,12 +80,20 @@ pub fn read_off(
         × (now (destination .exit)
         ≡ readOffLeaves (now (table .entry)) (now (trace .entry)) claim c (now (destination .entry))) ⌝ }
 {
-    let answer = test_read_off(table, trace, &claim, c, destination.len());
+    let mut ready = [0u64; READY_WORDS];
+    let opening = checker::test_opening(table, trace, c, &mut ready);
+    let Answer::Accepted = opening else {
+        return TestsAnswer::Refused(opening.refusal());
+    };
+    let k = trace.len() / BATCH_WORDS;
+    if destination.len() != BATCH_TAP_WORDS * k + TAP_WORDS {
+        return TestsAnswer::Refused(Refusal::DestinationLength);
+    }
+    let inverse = steps::back_ready(table);
+    let answer = checker::test_trace(&ready, &inverse, table, trace, &claim, c, k);
     let TestsAnswer::Accepted(_) = answer else {
         return answer;
     };
-    let k = trace.len() / BATCH_WORDS;
-    let inverse = steps::back_ready(table);
     write_taps(&inverse, table, trace, k, destination);
     answer
 }

@@ -12,11 +12,10 @@ use Rattle.lists.specs.Lists.{choose, cell, tab}
 use Rattle.lists.proofs.Tab.{length-tab, cell-tab, tab-ext, tab-unique, filled}
 use Rattle.lists.proofs.Tab.{filled-before, filled-after, length-filled}
 use Rattle.field.specs.Field.{add, cube}
-use Rattle.field.specs.MontgomeryHelpers.{timesWord}
-use Rattle.matrix.specs.Matrix.{entry, timesColumn, times}
+use Rattle.matrix.specs.Matrix.{timesColumn, times}
 use Rattle.matrix.proofs.States.{cell-times}
 use Rattle.mixing.specs.MixingHelpers.{IsReady, readyEntry}
-use Rattle.mixing.proofs.ReadyWords.{is-ready, ready-entry}
+use Rattle.mixing.proofs.ReadyWords.{is-ready}
 use Rattle.table.specs.Table.{inverseOf, firstStepConstant, secondStepConstant}
 use Rattle.table.specs.ReadyHelpers.{matrixReady}
 use Rattle.hash.specs.Hash.{cubes, plus, secondStep}
@@ -26,15 +25,10 @@ use Rattle.constraints.specs.Constraints.{minus, backStep}
 use Rattle.steps.specs.StepHelpers.{backReady, columns, backScale}
 use Rattle.steps.proofs.Scales.{back-cell}
 
--- the inverse made ready, and its entries
-module _ (T ready : List ℕ) (e : ready ≡ backReady T) where
-  pub back-is : IsReady ready
-  unfolding backReady
-  back-is = subst IsReady (sym e) (is-ready (inverseOf T) backScale)
-
-  back-entry : (i n : ℕ) → i < 12 → n < 12 → readyEntry ready i n ≡ timesWord (entry (inverseOf T) i n) backScale
-  unfolding backReady
-  back-entry i n hi hn = ap (λ r. readyEntry r i n) e ∙ ready-entry (inverseOf T) backScale i n hi hn
+-- the inverse made ready
+pub back-is : (T ready : List ℕ) → ready ≡ backReady T → IsReady ready
+unfolding backReady
+back-is T ready e = subst IsReady (sym e) (is-ready (inverseOf T) backScale)
 
 -- a matrix made ready times a column
 abbrev pub mixedBy : List ℕ → List ℕ → List ℕ
@@ -86,7 +80,7 @@ second-made T ready s cubed mixed out round count hc er ec em e =
 pub undone-made : (T ready s less mixed out : List ℕ) (round : ℕ) → ready ≡ backReady T
     → less ≡ minus s (firstStepConstant T round) → mixed ≡ mixedBy ready less
     → out ≡ tab 12 (λ j. montgomeryCube (cell mixed j)) → out ≡ backStep T round s
-unfolding backStep cubes
+unfolding backStep cubes backReady
 undone-made T ready s less mixed out round er el em e =
     e
     ∙ tab-ext 12 (λ j. montgomeryCube (cell mixed j)) (λ i. cube (cell (times (inverseOf T) less) i)) same
@@ -96,5 +90,5 @@ undone-made T ready s less mixed out round er el em e =
     same i h =
         ap montgomeryCube
         (ap (λ x. cell x i) em ∙ cell-tab 12 (timesColumn 12 (readyEntry ready) (cell less)) i h)
-        ∙ back-cell (inverseOf T) i (readyEntry ready) (λ n l. back-entry T ready er i n h l) (cell less)
+        ∙ back-cell (inverseOf T) ready er (cell less) i h
         ∙ ap cube (sym (cell-times (inverseOf T) less i h))

@@ -14,6 +14,7 @@ use Rattle.lists.specs.Lists.{choose, cell, tab}
 use Rattle.lists.proofs.Tab.{cell-tab}
 use Rattle.lists.proofs.First.{first-none, found-at}
 use Rattle.field.specs.Field.{P}
+use Rattle.field.specs.MontgomeryHelpers.{unitSquare}
 use Rattle.words.specs.Words.{CanonicalTo, AllCanonical, firstBad}
 use Rattle.matrix.specs.Matrix.{product, identity, entry, timesColumn}
 use Rattle.matrix.proofs.Linear.{times-ext, product-column}
@@ -21,7 +22,7 @@ use Rattle.mixing.specs.MixingHelpers.{readyEntry}
 use Rattle.refusals.specs.declared.Answer.the-variants.{Accepted, Refused}
 use Rattle.refusals.specs.declared.Refusal.the-variants.{TableLength, TableWord, WrongInverse}
 use Rattle.table.specs.Table.{tableWords, matrixOf, inverseOf, unlike, firstUnlike, tableTest}
-use Rattle.table.specs.ReadyHelpers.{matrixUnit, matrixReady}
+use Rattle.table.specs.ReadyHelpers.{matrixReady}
 use Rattle.table.proofs.Ready.{product-scaled, unit-cancel, unit-diagonal}
 
 -- ---- the product, column by column
@@ -55,7 +56,7 @@ next-cell r n c x k i h ec ex =
 
 -- cell c of M times n, row by row, times 2^128
 pub at-cell : (t r n s : List ℕ) (c : ℕ) → r ≡ matrixReady t → c < 144 → s ≡ tab 144 (byColumns r n)
-    → cell s (12 * (c % 12) + c / 12) ≡ (product 12 (entry (matrixOf t)) (entry n) (c / 12) (c % 12) * matrixUnit) % P
+    → cell s (12 * (c % 12) + c / 12) ≡ (product 12 (entry (matrixOf t)) (entry n) (c / 12) (c % 12) * unitSquare) % P
 at-cell t r n s c er h e =
     ap (λ l. cell l (12 * (c % 12) + c / 12)) e
     ∙ cell-tab 144 (byColumns r n) (12 * (c % 12) + c / 12) (omega arith)
@@ -73,18 +74,18 @@ identity-lt true = omega arith
 identity-lt false = omega arith
 
 module _ (t : List ℕ) (c v d : ℕ)
-    (value : v ≡ (product 12 (entry (matrixOf t)) (entry (inverseOf t)) (c / 12) (c % 12) * matrixUnit) % P)
-    (wanted : d ≡ choose (eqb (c / 12) (c % 12)) matrixUnit 0) where
+    (value : v ≡ (product 12 (entry (matrixOf t)) (entry (inverseOf t)) (c / 12) (c % 12) * unitSquare) % P)
+    (wanted : d ≡ choose (eqb (c / 12) (c % 12)) unitSquare 0) where
   found : ℕ
   found = product 12 (entry (matrixOf t)) (entry (inverseOf t)) (c / 12) (c % 12)
 
-  same : d ≡ (identity (c / 12) (c % 12) * matrixUnit) % P
+  same : d ≡ (identity (c / 12) (c % 12) * unitSquare) % P
   same = wanted ∙ unit-diagonal (eqb (c / 12) (c % 12))
 
   pub unlike-yes : (v ≡ d → ⊥) → unlike t c ≡ true
   unfolding unlike found
   unlike-yes h =
-      rw (ne-eqb found (identity (c / 12) (c % 12)) (λ e. h (value ∙ ap (λ x. (x * matrixUnit) % P) e ∙ sym same)))
+      rw (ne-eqb found (identity (c / 12) (c % 12)) (λ e. h (value ∙ ap (λ x. (x * unitSquare) % P) e ∙ sym same)))
 
   pub unlike-no : v ≡ d → unlike t c ≡ false
   unfolding unlike found product

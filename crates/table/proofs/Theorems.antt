@@ -1,7 +1,7 @@
 -- What the table test promises (document 01, "The table"): each answer says what is wrong, and where.
 -- Assumes nothing.
 use Prim.Native.Nat.{ℕ, _+_, _*_, _/_, _%_, _≤_, _<_}
-use mathlib.Core.Path.{_≡_, refl, sym, ap₂, _∙_, subst}
+use mathlib.Core.Path.{_≡_, refl, sym, ap, ap₂, _∙_, subst}
 use mathlib.Core.Bool.{false}
 use mathlib.Core.List.{List}
 use native.Mathlib.Decide.{ℕ-discrete}
@@ -20,8 +20,10 @@ use Rattle.refusals.specs.declared.Refusal.{Refusal}
 use Rattle.refusals.specs.declared.Refusal.the-variants.{TableLength, TableWord, NoInverse, WrongInverse}
 use Rattle.refusals.specs.declared.Answer.{Answer}
 use Rattle.refusals.specs.declared.Answer.the-variants.{Accepted, Refused}
+use Rattle.refusals.specs.Answers.{leaves}
 use Rattle.table.specs.Table.{tableWords, matrixOf, inverseOf, initialConstant}
 use Rattle.table.specs.Table.{firstStepConstant, secondStepConstant, unlike, firstUnlike, tableTest, IsTable}
+use Rattle.table.specs.ReadyHelpers.{matrixReady, readyLeft}
 use Rattle.table.proofs.Parts as parts
 use Rattle.table.proofs.Tested as tested
 
@@ -54,6 +56,11 @@ pub test-complete : (t : List ℕ) → IsTable t → tableTest t ≡ Accepted
 test-complete t h =
     sym
     (tested.accepted t (h .size) (all-good t (h .canonical) ∙ h .size) (tested.passes t (identity-like t (h .inverse))))
+
+-- and then leaves M made ready
+pub ready-left : (t old : List ℕ) {r : List ℕ} → IsTable t → r ≡ readyLeft t old → r ≡ matrixReady t
+unfolding readyLeft
+ready-left t old h e = e ∙ ap (λ a. leaves a (matrixReady t) old) (test-complete t h)
 
 -- ---- the places of its refusals
 
@@ -148,9 +155,6 @@ test-never-3 t = go (tableTest t) (test-answers t)
 
 -- ---- what an accepted table holds
 module _ (t : List ℕ) (h : IsTable t) where
-  pub matrix-length : length (matrixOf t) ≡ 144
-  matrix-length = parts.length-matrix t (h .size)
-
   pub matrix-canonical : AllCanonical (matrixOf t)
   matrix-canonical = parts.matrix-canonical t (h .size) (h .canonical)
 

@@ -5,6 +5,7 @@ ghost use lib.Dec.{eqb};
 ghost use lib.ListN.{length};
 ghost use Rattle.lists.specs.Lists.{choose, cell, tab};
 ghost use Rattle.field.specs.Field.{Canonical};
+ghost use Rattle.field.specs.MontgomeryHelpers.{unitSquare};
 ghost use Rattle.words.specs.Words.{AllCanonical};
 ghost use Rattle.numbers.specs.Numbers.{width};
 ghost use Rattle.matrix.specs.Matrix.{matrixWords, entry, product};
@@ -12,7 +13,7 @@ ghost use Rattle.mixing.specs.MixingHelpers.{IsReady, readyEntry};
 ghost use Rattle.table.specs.Table.{tableWords, matrixOf, inverseOf};
 ghost use Rattle.table.specs.Table.{constant, initialConstant, firstStepConstant, secondStepConstant};
 ghost use Rattle.table.specs.Table.{firstUnlike, tableTest, IsTable};
-ghost use Rattle.table.specs.ReadyHelpers.{matrixUnit, matrixReady};
+ghost use Rattle.table.specs.ReadyHelpers.{matrixReady, readyLeft};
 use matrix::MATRIX_WORDS;
 use mixing::READY_WORDS;
 use numbers::WIDTH;
@@ -92,7 +93,7 @@ fn column(n: &[u64], k: usize) -> [u64; WIDTH]
 const SCALE: u64 = 2148101911894228676;
 
 // M made ready, times 2^128.
-pub fn matrix_ready(table: &[u64]) -> [u64; READY_WORDS]
+fn matrix_ready(table: &[u64]) -> [u64; READY_WORDS]
     requires { ⌜ (length (now table) ≡ tableWords) × AllCanonical (now table) ⌝ }
     ensures { λ r. ⌜ r ≡ matrixReady (now (table .entry)) ⌝ }
 {
@@ -118,7 +119,7 @@ fn product_columns(ready: &[u64], n: &[u64]) -> [u64; MATRIX_WORDS]
 
 // The identity in row i and column k, times 2^128.
 fn identity(i: usize, k: usize) -> u64
-    ensures { λ r. ⌜ r ≡ choose (eqb i k) matrixUnit 0 ⌝ }
+    ensures { λ r. ⌜ r ≡ choose (eqb i k) unitSquare 0 ⌝ }
 {
     if i == k { montgomery::SQUARE } else { 0 }
 }
@@ -140,11 +141,12 @@ fn first_unlike(ready: &[u64], table: &[u64]) -> usize
     MATRIX_WORDS
 }
 
-// The table test, with which every operation but Prepare begins: 1, 2, 4. Where it accepts it leaves M made ready.
-pub fn test_ready(table: &[u64], ready: &mut [u64; READY_WORDS]) -> Answer
+// The table test, with which every operation but Prepare begins: 1, 2, 4. It multiplies M made ready by the stored
+// inverse, and leaves it so, for whoever goes on with an accepted table.
+pub fn test_and_ready(table: &[u64], ready: &mut [u64; READY_WORDS]) -> Answer
     ensures { λ r. ⌜
         (r ≡ tableTest (now (table .entry)))
-        × (IsTable (now (table .entry)) → now (ready .exit) ≡ matrixReady (now (table .entry))) ⌝ }
+        × (now (ready .exit) ≡ readyLeft (now (table .entry)) (now (ready .entry))) ⌝ }
 {
     if table.len() != WORDS {
         return Answer::Refused(Refusal::TableLength);
@@ -154,11 +156,11 @@ pub fn test_ready(table: &[u64], ready: &mut [u64; READY_WORDS]) -> Answer
         return Answer::Refused(Refusal::TableWord(bad));
     }
     let made = matrix_ready(table);
-    *ready = made;
-    let cell = first_unlike(ready, table);
+    let cell = first_unlike(&made, table);
     if cell != MATRIX_WORDS {
         return Answer::Refused(Refusal::WrongInverse(cell));
     }
+    *ready = made;
     Answer::Accepted
 }
 
@@ -167,5 +169,5 @@ pub fn test(table: &[u64]) -> Answer
     ensures { λ r. ⌜ r ≡ tableTest (now (table .entry)) ⌝ }
 {
     let mut room = [0u64; READY_WORDS];
-    test_ready(table, &mut room)
+    test_and_ready(table, &mut room)
 }

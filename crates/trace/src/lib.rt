@@ -5,7 +5,7 @@ ghost use lib.ListN.{length, take};
 ghost use Rattle.words.specs.Words.{AllCanonical, CanonicalTo};
 ghost use Rattle.numbers.specs.Numbers.{firstRow, tapWords, traceWords, width};
 ghost use Rattle.table.specs.Table.{IsTable};
-ghost use Rattle.table.specs.ReadyHelpers.{matrixReady};
+ghost use Rattle.table.specs.ReadyHelpers.{matrixReady, readyLeft};
 ghost use Rattle.hash.specs.Hash.{middleState, finalState, chain};
 ghost use Rattle.trace.specs.Trace.{trace};
 ghost use Rattle.trace.specs.RowHelpers.{withRows, rowsBefore, hashRow};
@@ -154,9 +154,9 @@ fn write_hashes(
 fn test_build(table: &[u64], taps: &[u64], size: usize, ready: &mut [u64; READY_WORDS]) -> Answer
     ensures { λ r. ⌜
         (r ≡ buildTest (now (table .entry)) (now (taps .entry)) size)
-        × (IsTable (now (table .entry)) → now (ready .exit) ≡ matrixReady (now (table .entry))) ⌝ }
+        × (now (ready .exit) ≡ readyLeft (now (table .entry)) (now (ready .entry))) ⌝ }
 {
-    let of_table = table::test_ready(table, ready);
+    let of_table = table::test_and_ready(table, ready);
     let Answer::Accepted = of_table else {
         return of_table;
     };

@@ -3,14 +3,14 @@
 use mathlib.Core.Path.{_≡_, refl, sym, ap, _∙_}
 use mathlib.Core.List.{List}
 use Prim.Native.Nat.{ℕ, _*_, _%_, _<_}
-use native.Mathlib.Nat.{mul-one, mod-lt, mod-eq-of-lt}
+use native.Mathlib.Nat.{mod-lt}
 use native.Mathlib.Omega.{arith}
 use Rattle.lists.specs.Lists.{cell, tab}
 use Rattle.lists.proofs.Tab.{cell-tab, tab-ext}
 use Rattle.field.specs.Field.{P, mul, root}
 use Rattle.field.specs.MontgomeryHelpers.{unitInverse, divided}
 use Rattle.field.proofs.Forms.{divided-lt}
-use Rattle.field.proofs.Modular.{mul-mod-l, mul-mod-r}
+use Rattle.field.proofs.Modular.{mul-mod-l, mul-undone}
 use Rattle.roots.proofs.Scaled.{root-scaled}
 use Rattle.matrix.specs.Matrix.{entry, timesColumn, times}
 use Rattle.matrix.proofs.States.{cell-times}
@@ -20,24 +20,14 @@ use Rattle.table.specs.Table.{inverseOf}
 use Rattle.hash.specs.Hash.{roots}
 use Rattle.steps.specs.StepHelpers.{backScale, backReady}
 
--- modulo p, where j is the inverse of 2^64, d the scale, and f the constant
-module _ (p d j f : ℕ) (inv : (d * (j * (f * f * f))) % p ≡ 1) where
-  restored : (y : ℕ) → y < p → (((y * d) % p * j) % p * (f * f * f)) % p ≡ y
-  restored y h =
-      mul-mod-l p ((y * d) % p * j) (f * f * f)
-      ∙ ap (λ z. z % p) (turned ((y * d) % p) (f * f * f))
-      ∙ mul-mod-l p (y * d) (j * (f * f * f))
-      ∙ ap (λ z. z % p) (spread (f * f * f))
-      ∙ sym (mul-mod-r p y (d * (j * (f * f * f))))
-      ∙ ap (λ z. (y * z) % p) inv
-      ∙ ap (λ z. z % p) (mul-one y)
-      ∙ mod-eq-of-lt h
-    where
-      turned : (a c : ℕ) → a * j * c ≡ a * (j * c)
-      turned a c = omega arith
-
-      spread : (c : ℕ) → y * d * (j * c) ≡ y * (d * (j * c))
-      spread c = omega arith
+-- modulo p: d is the scale and j the inverse of 2^64, and f^3 undoes both
+restored : (p d j f y : ℕ) → (d * j * (f * f * f)) % p ≡ 1 → y < p → (((y * d) % p * j) % p * (f * f * f)) % p ≡ y
+restored p d j f y one h =
+    ap (λ z. (z * (f * f * f)) % p) (mul-mod-l p (y * d) j ∙ ap (λ z. z % p) turned)
+    ∙ mul-undone p (d * j) (f * f * f) y one h
+  where
+    turned : y * d * j ≡ y * (d * j)
+    turned = omega arith
 
 exchanged : (p f r : ℕ) → (f * r) % p ≡ (r * f) % p
 exchanged p f r = ap (λ z. z % p) swapped
@@ -50,7 +40,7 @@ root-term y h =
     exchanged P 1320274735724748368 (root (divided ((y * divided backScale) % P)))
     ∙ root-scaled (divided ((y * divided backScale) % P)) 1320274735724748368 y
     (divided-lt ((y * divided backScale) % P))
-    (restored P (divided backScale) unitInverse 1320274735724748368 refl y h)
+    (restored P (divided backScale) unitInverse 1320274735724748368 y refl h)
 
 column-lt : (m : List ℕ) (x : ℕ → ℕ) (i : ℕ) → timesColumn 12 (entry m) x i < P
 unfolding timesColumn

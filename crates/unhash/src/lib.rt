@@ -14,8 +14,9 @@ use refusals::Pair;
 use refusals::PairAnswer;
 use refusals::Refusal;
 
-// What a root is multiplied by to make up for the inverse's scale, and for cells taken for words of Montgomery's form.
-const ROOT: u64 = 1320274735724748368;
+// 2^(64 THIRD (1 - 2 THIRD)) mod p: times this factor a root makes up for the scale of the inverse made ready, which is
+// the cube root of 2^128, and for cells that are taken for words of Montgomery's form.
+const ROOT_FACTOR: u64 = 1320274735724748368;
 
 // The second step of the round undone, to its middle state: s less its constant, times the inverse of M, then rooted.
 fn undo_second_step(ready: &[u64], table: &[u64], round: usize, s: [u64; WIDTH]) -> [u64; WIDTH]
@@ -24,7 +25,7 @@ fn undo_second_step(ready: &[u64], table: &[u64], round: usize, s: [u64; WIDTH])
     ensures { λ r. ⌜ r ≡ secondStepUndone (now (table .entry)) round s ⌝ }
 {
     let less = steps::less_second_step(table, round, s);
-    roots::scaled_roots(mixing::mix(ready, less), ROOT)
+    roots::scaled_roots(mixing::mix(ready, less), ROOT_FACTOR)
 }
 
 // The state before round 0, from the one after round 9: the last round is undone first.

@@ -8,6 +8,7 @@ use Rattle.numbers.specs.Numbers.{tapWordBatches}
 use Rattle.refusals.specs.Refusals.{digest}
 use Rattle.refusals.proofs.Laws.{digest-turned-back, digest-returned}
 use Rattle.table.proofs.Ready.{ready-is}
+use Rattle.table.proofs.Theorems.{ready-left}
 use Rattle.hash.specs.Hash.{chain as chain-of}
 use Rattle.chain.specs.Answers.{chainAnswer}
 use Rattle.chain.proofs.Answers.{ChainInputs, chain-inputs, digest-take}
@@ -43,7 +44,7 @@ inputs c = chain-inputs _ _ (sym (c .before .before .test-chain .ensures .0) ∙
 slice-aggregate-last-state : tie.Need-slice-aggregate-last-state
 slice-aggregate-last-state c =
     let told = c .before in
-    sym (ready-is _ _ (told .before .before .test-chain .ensures .1 (inputs told .table)) .size)
+    sym (ready-is _ _ (ready-left _ _ (inputs told .table) (told .before .before .test-chain .ensures .1)) .size)
 
 mul-last-state : tie.Need-mul-last-state
 mul-last-state c = search needs
@@ -56,7 +57,7 @@ last-state-requires c κs =
       omega (arith, i .permitted .high),
       omega (arith, i .size),
       i .canonical,
-      told .before .before .test-chain .ensures .1 (i .table),
+      ready-left _ _ (i .table) (told .before .before .test-chain .ensures .1),
     )
 
 array-read-t15 : tie.Need-array-read-t15

@@ -21,7 +21,7 @@ abbrev entry : tie.After-tap-batches → tie.Start
 entry counted = counted .before .before .before .before .before .before .before
 
 -- and where the table is tested
-abbrev tested : tie.After-tap-batches → tie.After-test-ready
+abbrev tested : tie.After-tap-batches → tie.After-test-and-ready
 tested counted = counted .before .before .before
 
 -- there the table is accepted, and what is answered is left to the taps' length and words
@@ -32,7 +32,7 @@ accepted : (c : tie.After-tap-batches) {o : Answer} → let taps = entry c .args
 unfolding chainTest
 accepted c e =
     let told = c .before in
-    after-accepted (told .before .before .test-ready .ensures .0) (told .enum-told .given .1) e
+    after-accepted (told .before .before .test-and-ready .ensures .0) (told .enum-told .given .1) e
 
 -- and after a permitted length, to the words
 permitted : (f : tie.After-first-bad) {o : Answer} → let c = f .before .before .before in
@@ -44,8 +44,8 @@ permitted f e =
     accepted c
     (unless-passed _ (tap-permitted mostBatches n (c .tap-batches .ensures) (f .before .enum-told3 .given .1) .0) e)
 
-test-ready-requires : tie.Need-test-ready-requires
-test-ready-requires c κs = search needs
+test-and-ready-requires : tie.Need-test-and-ready-requires
+test-and-ready-requires c κs = search needs
 
 enum-told : tie.Need-enum-told
 enum-told c = search needs
@@ -57,7 +57,7 @@ returns : tie.Need-returns
 unfolding chainTest
 returns c =
     let t = c .before .before in
-    (after-refused _ (t .test-ready .ensures .0) (c .enum-told2 .given .1), t .test-ready .ensures .1)
+    (after-refused _ (t .test-and-ready .ensures .0) (c .enum-told2 .given .1), t .test-and-ready .ensures .1)
 
 tap-batches-requires : tie.Need-tap-batches-requires
 tap-batches-requires c κs = search needs
@@ -73,7 +73,7 @@ returns-2 c =
     let counted = c .before .before in
     let n = length (entry counted .args .taps .now) in
     let e = tap-refused mostBatches n (counted .tap-batches .ensures) (c .enum-told4 .given .1) in
-    (accepted counted (unless-refused _ e refl), tested counted .test-ready .ensures .1)
+    (accepted counted (unless-refused _ e refl), tested counted .test-and-ready .ensures .1)
 
 first-bad-requires : tie.Need-first-bad-requires
 first-bad-requires c κs = search needs
@@ -83,21 +83,21 @@ returns-3 c =
     let bad = c .before .first-bad .ensures in
     let f = c .before in (
       permitted f (unless-refused _ (scanned-bad _ bad (c .if1 .taken)) (ap (λ i. Refused (TapWord i)) bad)),
-      tested (f .before .before .before) .test-ready .ensures .1,
+      tested (f .before .before .before) .test-and-ready .ensures .1,
     )
 
 returns-4 : tie.Need-returns-4
 returns-4 c =
     let f = c .before in (
       permitted f (unless-passed _ (scanned-good _ (f .first-bad .ensures) (c .if1 .left)) refl),
-      tested (f .before .before .before) .test-ready .ensures .1,
+      tested (f .before .before .before) .test-and-ready .ensures .1,
     )
 
 pub test-chain-spec : {M : Type 1} → statement M
 test-chain-spec =
     tie.close
     (tie.spec
-    test-ready-requires
+    test-and-ready-requires
     enum-told
     enum-told-2
     returns

@@ -18,8 +18,8 @@ use borrow.Author.Needs.{needs}
 use Rattle.checker.proofs.test_opening.Statement.{statement}
 use Rattle.checker.proofs.test_opening.Tie as tie
 
-test-ready-requires : tie.Need-test-ready-requires
-test-ready-requires c κs = search needs
+test-and-ready-requires : tie.Need-test-and-ready-requires
+test-and-ready-requires c κs = search needs
 
 enum-told : tie.Need-enum-told
 enum-told c = search needs
@@ -31,7 +31,7 @@ returns : tie.Need-returns
 unfolding openingTest
 returns c =
     let t = c .before .before in
-    (after-refused _ (t .test-ready .ensures .0) (c .enum-told2 .given .1), t .test-ready .ensures .1)
+    (after-refused _ (t .test-and-ready .ensures .0) (c .enum-told2 .given .1), t .test-and-ready .ensures .1)
 
 trace-batches-requires : tie.Need-trace-batches-requires
 trace-batches-requires c κs = search needs
@@ -50,8 +50,8 @@ returns-2 c =
     let t = told .before .before in
     let words = length (t .before .before .before .before .args .trace .now) in
     let refused = trace-refused mostBatches words (b .trace-batches .ensures) (c .enum-told3 .given .1) in (
-      after-accepted (t .test-ready .ensures .0) (told .enum-told .given .1) (unless-refused _ refused refl),
-      t .test-ready .ensures .1,
+      after-accepted (t .test-and-ready .ensures .0) (told .enum-told .given .1) (unless-refused _ refused refl),
+      t .test-and-ready .ensures .1,
     )
 
 -- the trace has k batches, and c is to be tested
@@ -59,7 +59,7 @@ abbrev entry : tie.After-known-told → tie.Start
 entry c = c .before .before .before .before .before .before .before .before .before .before
 
 -- and where the table is tested
-abbrev tested : tie.After-known-told → tie.After-test-ready
+abbrev tested : tie.After-known-told → tie.After-test-and-ready
 tested c = c .before .before .before .before .before .before
 
 abbrev words : tie.After-known-told → ℕ
@@ -72,13 +72,13 @@ unfolding openingTest
 sized c e =
     let b = c .before .before .before in
     let told = b .before in
-    after-accepted (told .before .before .test-ready .ensures .0) (told .enum-told .given .1)
+    after-accepted (told .before .before .test-and-ready .ensures .0) (told .enum-told .given .1)
     (unless-passed _ (trace-permitted mostBatches (words c) (b .trace-batches .ensures) (c .before .k .given .1) .0) e)
 
 returns-3 : tie.Need-returns-3
 returns-3 c =
     let k = c .before in
-    (sized k (unless-refused _ (under 1 _ _ (c .if1 .taken)) refl), tested k .test-ready .ensures .1)
+    (sized k (unless-refused _ (under 1 _ _ (c .if1 .taken)) refl), tested k .test-and-ready .ensures .1)
 
 returns-4 : tie.Need-returns-4
 returns-4 c =
@@ -86,7 +86,7 @@ returns-4 c =
     let known = trace-permitted mostBatches (words k) (k .before .before .before .trace-batches .ensures)
     (k .before .k .given .1) .1 in
     let above : traceWordBatches (words k) < entry k .args .c = omega (arith, c .if2 .taken) in
-    (sized k (unless-refused _ (over 1 _ _ above) refl), tested k .test-ready .ensures .1)
+    (sized k (unless-refused _ (over 1 _ _ above) refl), tested k .test-and-ready .ensures .1)
 
 returns-5 : tie.Need-returns-5
 returns-5 c =
@@ -95,13 +95,13 @@ returns-5 c =
     (k .before .k .given .1) .1 in
     let low : 1 ≤ entry k .args .c = omega (arith, c .before .if1 .left) in
     let high : entry k .args .c ≤ traceWordBatches (words k) = omega (arith, c .if2 .left) in
-    (sized k (unless-passed _ (in-range 1 _ _ low high) refl), tested k .test-ready .ensures .1)
+    (sized k (unless-passed _ (in-range 1 _ _ low high) refl), tested k .test-and-ready .ensures .1)
 
 pub test-opening-spec : {M : Type 1} → statement M
 test-opening-spec =
     tie.close
     (tie.spec
-    test-ready-requires
+    test-and-ready-requires
     enum-told
     enum-told-2
     returns

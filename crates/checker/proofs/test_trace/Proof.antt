@@ -30,7 +30,7 @@ returns c =
 
 -- the claim is canonical, and the trace is to be tested
 abbrev entry : tie.After-enum-told → tie.Start
-entry c = c .before .before .before .before .before .before .before
+entry c = c .before .before .before .before .before .before .before .before
 
 claimed : (c : tie.After-enum-told) {o : Answer} → let a = entry c .args in
     o ≡ fromWords (a .table .now) (a .trace .now) (a .claim .now) (a .c) (a .k)
@@ -56,19 +56,19 @@ returns-2 c =
     tests-turned-back
     (claimed (t .before) (words-refused _ _ _ _ _ (t .test-words .ensures) (c .refusal2 .ensures) refl)) _ refl
 
-test-constraints-requires : tie.Need-test-constraints-requires
-test-constraints-requires c κs =
+walk-tests-requires : tie.Need-walk-tests-requires
+walk-tests-requires c κs =
     let t = c .before .before in
     let start = entry (t .before) in
     let p = start .pre in
     let canonical = canonical-words (start .args .trace .now) (t .test-words .ensures) (c .enum-told3 .given .1) in
-    (p .0, canonical, p .1, p .2, p .3, p .4)
+    (p .4, p .5, p .0, canonical, p .1, p .2, p .3)
 
 returns-3 : tie.Need-returns-3
 returns-3 c =
     let told = c .before in
     let t = told .before .before in
-    walked _ _ (c .test-constraints .ensures)
+    walked _ _ (c .walk-tests .ensures)
     (claimed (t .before) (words-passed _ _ _ _ _ (t .test-words .ensures) (told .enum-told3 .given .1) refl))
 
 pub test-trace-spec : {M : Type 1} → statement M
@@ -85,5 +85,5 @@ test-trace-spec =
     enum-told-4
     refusal-requires-2
     returns-2
-    test-constraints-requires
+    walk-tests-requires
     returns-3)

@@ -2,157 +2,240 @@
 -- begins with the output of the altered list's first 3c + 1 taps.
 -- Assumes nothing.
 use mathlib.Core.Path.{_≡_, refl, sym, _∙_}
-use Prim.Native.Nat.{_≤_}
+use Prim.Native.Nat.{_^_, _≤_, _<_}
 use native.Mathlib.Omega.{arith}
 use lib.ListN.{length}
 use Rattle.numbers.specs.Numbers.{traceWordBatches}
 use Rattle.refusals.specs.declared.Answer.the-variants.{Accepted, Refused}
-use Rattle.refusals.proofs.Laws.{tests-accepted, tests-refused, digest-turned-back, digest-returned}
-use Rattle.refusals.proofs.Laws.{leaves-old, leaves-new}
-use Rattle.edit.specs.Answers.{editTest, alteredTaps, editAnswer, editLeaves}
+use Rattle.refusals.specs.Answers.{testsAfter}
+use Rattle.refusals.proofs.Laws.{after-refused, after-accepted, tests-accepted, tests-refused}
+use Rattle.refusals.proofs.Laws.{digest-turned-back, digest-returned, leaves-old, leaves-new}
+use Rattle.table.proofs.Ready.{ready-is}
+use Rattle.table.proofs.Theorems.{ready-left}
+use Rattle.constraints.specs.Constraints.{tests}
+use Rattle.steps.proofs.Made.{back-is}
+use Rattle.checker.proofs.Answers.{Opened, opened-by, walked}
 use Rattle.rewriting.specs.EditHelpers.{Rewritable}
 use Rattle.rewriting.proofs.Rewriting.{has-claim-row, output-shown}
+use Rattle.edit.specs.Answers.{editTest, alteredTaps, editAnswer, editLeaves}
 use Rattle.edit.proofs.Answers.{edit-inputs, rewritable}
 use borrow.Author.Needs.{needs}
 use Rattle.edit.proofs.edit.Statement.{statement}
 use Rattle.edit.proofs.edit.Tie as tie
 
--- the function's entry, from where the tests have answered
-abbrev entry : tie.After-test-edit → tie.Start
-entry t = t .before .before .before .before .before .before
+-- the function's entry, from where the opening tests have answered
+abbrev entry : tie.After-test-opening → tie.Start
+entry t = t .before .before .before .before .before
 
-slice-aggregate-test-edit : tie.Need-slice-aggregate-test-edit
-slice-aggregate-test-edit c = search needs
-
-test-edit-requires : tie.Need-test-edit-requires
-test-edit-requires c κs = search needs
+test-opening-requires : tie.Need-test-opening-requires
+test-opening-requires c κs = search needs
 
 enum-told : tie.Need-enum-told
 enum-told c = search needs
 
-four : (start : tie.Start) → (length (start .args .t3) ≡ 4) × (length (start .args .t6) ≡ 4)
-four start = (search needs, search needs)
+enum-told-2 : tie.Need-enum-told-2
+enum-told-2 c = search needs
+
+refusal-requires : tie.Need-refusal-requires
+refusal-requires c κs = search needs
+
+same-length : tie.Need-same-length
+same-length c = search needs
+
+-- an opening test refuses
+closed : (c : tie.After-refusal) → let a = entry (c .before .before .before) .args in
+    Refused (c .refusal .result) ≡ editTest (a .table .now) (a .trace .now) (a .t3) (a .c) (a .tap .0) (a .t6)
+unfolding editTest
+closed c = after-refused _ (sym (c .refusal .ensures) ∙ c .before .before .before .test-opening .ensures .0) refl
+
+returns : tie.Need-returns
+unfolding editAnswer editLeaves
+returns c = (digest-turned-back (closed c) _ refl, leaves-old (closed c) _ refl)
+
+-- the opening tests are passed: what is known then
+few : (c : tie.After-enum-told) → let a = entry (c .before .before) .args in
+    let k = traceWordBatches (length (a .trace .now)) in
+    Opened (a .table .now) (a .trace .now) (a .c) k × (k < 2 ^ 32)
+few c = opened-by _ _ _ (c .before .before .test-opening .ensures .0) (c .enum-told .given .1)
+
+back-ready-requires : tie.Need-back-ready-requires
+back-ready-requires c κs = few c .0 .table
+
+slice-aggregate-test-edit : tie.Need-slice-aggregate-test-edit
+slice-aggregate-test-edit c =
+    let told = c .before .before in
+    sym (ready-is _ _ (ready-left _ _ (few told .0 .table) (told .before .before .test-opening .ensures .1)) .size)
+
+slice-aggregate-test-edit-2 : tie.Need-slice-aggregate-test-edit-2
+slice-aggregate-test-edit-2 c = sym (back-is _ _ (c .before .before .back-ready .ensures) .size)
+
+slice-aggregate-test-edit-3 : tie.Need-slice-aggregate-test-edit-3
+slice-aggregate-test-edit-3 c = search needs
+
+test-edit-requires : tie.Need-test-edit-requires
+test-edit-requires c κs =
+    let made = c .before .before .before .before .before in
+    let told = made .before in
+    let s = few told in (
+      s .0 .table,
+      s .0 .size,
+      s .0 .high,
+      s .1,
+      ready-left _ _ (s .0 .table) (told .before .before .test-opening .ensures .1),
+      made .back-ready .ensures,
+    )
+
+enum-told-3 : tie.Need-enum-told-3
+enum-told-3 c = search needs
+
+-- where the inverse is made ready, from where the last tests have answered
+abbrev made-of : tie.After-test-edit → tie.After-back-ready
+made-of t = t .before .before .before .before .before .before
+
+abbrev start : tie.After-test-edit → tie.Start
+start t = entry (made-of t .before .before .before)
+
+-- what these answer is the answer of all
+answered : (t : tie.After-test-edit) → let a = start t .args in
+    t .test-edit .result
+    ≡ testsAfter (editTest (a .table .now) (a .trace .now) (a .t3) (a .c) (a .tap .0) (a .t6))
+    (length (tests (traceWordBatches (length (a .trace .now))) (a .c)))
+unfolding editTest
+answered t =
+    let told = made-of t .before in
+    walked _ _ (t .test-edit .ensures)
+    (after-accepted (told .before .before .test-opening .ensures .0) (told .enum-told .given .1) refl)
+
+four : (s : tie.Start) → (length (s .args .t3) ≡ 4) × (length (s .args .t6) ≡ 4)
+four s = (search needs, search needs)
 
 -- every test is passed, and the trace can be rewritten
-passes : (c : tie.After-enum-told) → let a = entry (c .before .before) .args in
+passes : (c : tie.After-enum-told3) → let a = start (c .before .before) .args in
     editTest (a .table .now) (a .trace .now) (a .t3) (a .c) (a .tap .0) (a .t6) ≡ Accepted
-passes c = tests-accepted _ _ _ (sym (c .before .before .test-edit .ensures) ∙ c .enum-told .given .1) .0
+passes c = tests-accepted _ _ _ (sym (answered (c .before .before)) ∙ c .enum-told3 .given .1) .0
 
-can-rewrite : (c : tie.After-enum-told) → let a = entry (c .before .before) .args in
+can-rewrite : (c : tie.After-enum-told3) → let a = start (c .before .before) .args in
     Rewritable (a .table .now) (a .trace .now) (traceWordBatches (length (a .trace .now))) (a .tap .0) (a .t6)
-can-rewrite c = rewritable _ _ _ _ _ _ (four (entry (c .before .before)) .0) (passes c)
+can-rewrite c = rewritable _ _ _ _ _ _ (four (start (c .before .before)) .0) (passes c)
 
 -- c is from 1 to k
-counted : (c : tie.After-enum-told) → let a = entry (c .before .before) .args in
+counted : (c : tie.After-enum-told3) → let a = start (c .before .before) .args in
     (1 ≤ a .c) × (a .c ≤ traceWordBatches (length (a .trace .now)))
 counted c =
     let o = edit-inputs _ _ _ _ _ _ (passes c) .0 .opening in
     (o .low, o .high)
 
-matrix-ready-requires : tie.Need-matrix-ready-requires
-matrix-ready-requires c κs =
-    let t = can-rewrite c .table in
-    (t .size, t .canonical)
-
-back-ready-requires : tie.Need-back-ready-requires
-back-ready-requires c κs = can-rewrite (c .before) .table
-
 slice-aggregate-rewrite : tie.Need-slice-aggregate-rewrite
-slice-aggregate-rewrite c = search needs
+slice-aggregate-rewrite c =
+    let told = made-of (c .before .before .before) .before in
+    sym (ready-is _ _ (ready-left _ _ (few told .0 .table) (told .before .before .test-opening .ensures .1)) .size)
 
 slice-aggregate-rewrite-2 : tie.Need-slice-aggregate-rewrite-2
-slice-aggregate-rewrite-2 c = search needs
+slice-aggregate-rewrite-2 c = sym (back-is _ _ (made-of (c .before .before .before .before) .back-ready .ensures) .size)
 
 rewrite-requires : tie.Need-rewrite-requires
 rewrite-requires c κs =
-    let inverse = c .before .before .before in
-    let ready = inverse .before in
-    (inverse .back-ready .ensures, can-rewrite (ready .before), ready .matrix-ready .ensures)
+    let passed = c .before .before .before in
+    let made = made-of (passed .before .before) in
+    let told = made .before in (
+      made .back-ready .ensures,
+      can-rewrite passed,
+      ready-left _ _ (few told .0 .table) (told .before .before .test-opening .ensures .1),
+    )
 
-sub-t21 : tie.Need-sub-t21
-sub-t21 c = counted (c .before .before .before .before .before .before .before .before .before) .0
+-- where every test is passed, from where the trace is rewritten
+abbrev passed-of : tie.After-rewrite → tie.After-enum-told3
+passed-of w = w .before .before .before .before
+
+sub-t44 : tie.Need-sub-t44
+sub-t44 c = counted (passed-of (c .before .before .before)) .0
 
 row-requires : tie.Need-row-requires
 row-requires c κs =
-    let told = c .before .before .before .before .before .before .before .before .before in
-    (omega (arith, can-rewrite told .few, counted told .1), omega arith)
+    let passed = passed-of (c .before .before .before) in
+    (omega (arith, can-rewrite passed .few, counted passed .1), omega arith)
 
 cells-requires : tie.Need-cells-requires
 cells-requires c κs =
     let written = c .before .before .before .before in
-    let told = written .before .before .before .before .before .before in
-    let start = entry (told .before .before) in
-    let m = counted told in
-    has-claim-row _ _ _ _ _ (can-rewrite told) (four start .1) _ (m .0) (m .1) _ (c .row .ensures) _
-    (written .rewrite .ensures)
+    let passed = passed-of written in
+    let m = counted passed in
+    has-claim-row _ _ _ _ _ (can-rewrite passed) (four (start (passed .before .before)) .1) _ (m .0) (m .1) _
+    (c .row .ensures) _ (written .rewrite .ensures)
 
-array-read-t38 : tie.Need-array-read-t38
-array-read-t38 c = search needs
+array-read-t48 : tie.Need-array-read-t48
+array-read-t48 c = search needs
 
-array-read-t41 : tie.Need-array-read-t41
-array-read-t41 c = search needs
+array-read-t51 : tie.Need-array-read-t51
+array-read-t51 c = search needs
 
-array-read-t44 : tie.Need-array-read-t44
-array-read-t44 c = search needs
+array-read-t54 : tie.Need-array-read-t54
+array-read-t54 c = search needs
 
-array-read-t47 : tie.Need-array-read-t47
-array-read-t47 c = search needs
+array-read-t57 : tie.Need-array-read-t57
+array-read-t57 c = search needs
 
 enum-known-answer : tie.Need-enum-known-answer
 enum-known-answer c = search needs
 
-same-length : tie.Need-same-length
-same-length c = search needs
-
-returns : tie.Need-returns
-unfolding editAnswer editLeaves alteredTaps
-returns c =
-    let row = c .before in
-    let written = row .before .before .before .before in
-    let told = written .before .before .before .before .before .before in
-    let start = entry (told .before .before) in
-    let m = counted told in
-    let e = written .rewrite .ensures in (
-      digest-returned refl (passes told)
-          (output-shown _ _ _ _ _ (can-rewrite told) (four start .1) _ (m .0) (m .1) _ (row .row .ensures) _ e _
-          (c .cells .ensures .0)),
-      leaves-new refl _ (passes told) e,
-    )
-
 same-length-2 : tie.Need-same-length-2
 same-length-2 c = search needs
 
--- a test refuses
-refuses : (c : tie.After-known-told) → let a = entry (c .before .before .before) .args in
+returns-2 : tie.Need-returns-2
+unfolding editAnswer editLeaves alteredTaps
+returns-2 c =
+    let row = c .before in
+    let written = row .before .before .before .before in
+    let passed = passed-of written in
+    let m = counted passed in
+    let e = written .rewrite .ensures in (
+      digest-returned refl (passes passed)
+          (output-shown _ _ _ _ _ (can-rewrite passed) (four (start (passed .before .before)) .1) _ (m .0) (m .1) _
+          (row .row .ensures) _ e _ (c .cells .ensures .0)),
+      leaves-new refl _ (passes passed) e,
+    )
+
+same-length-3 : tie.Need-same-length-3
+same-length-3 c = search needs
+
+-- one of the last tests refuses
+refuses : (c : tie.After-known-told) → let a = start (c .before .before .before) .args in
     editTest (a .table .now) (a .trace .now) (a .t3) (a .c) (a .tap .0) (a .t6)
     ≡ Refused (c .before .answer .given .0 .0)
-refuses c = tests-refused _ _ _ (sym (c .before .before .before .test-edit .ensures) ∙ c .before .answer .given .1)
+refuses c = tests-refused _ _ _ (sym (answered (c .before .before .before)) ∙ c .before .answer .given .1)
 
-returns-2 : tie.Need-returns-2
+returns-3 : tie.Need-returns-3
 unfolding editAnswer editLeaves
-returns-2 c = (digest-turned-back (sym (refuses c)) _ refl, leaves-old (sym (refuses c)) _ refl)
+returns-3 c = (digest-turned-back (sym (refuses c)) _ refl, leaves-old (sym (refuses c)) _ refl)
 
 pub edit-spec : {M : Type 1} → statement M
 edit-spec =
     tie.close
     (tie.spec
-    slice-aggregate-test-edit
-    test-edit-requires
+    test-opening-requires
     enum-told
-    matrix-ready-requires
+    enum-told-2
+    refusal-requires
+    same-length
+    returns
     back-ready-requires
+    slice-aggregate-test-edit
+    slice-aggregate-test-edit-2
+    slice-aggregate-test-edit-3
+    test-edit-requires
+    enum-told-3
     slice-aggregate-rewrite
     slice-aggregate-rewrite-2
     rewrite-requires
-    sub-t21
+    sub-t44
     row-requires
     cells-requires
-    array-read-t38
-    array-read-t41
-    array-read-t44
-    array-read-t47
+    array-read-t48
+    array-read-t51
+    array-read-t54
+    array-read-t57
     enum-known-answer
-    same-length
-    returns
     same-length-2
-    returns-2)
+    returns-2
+    same-length-3
+    returns-3)

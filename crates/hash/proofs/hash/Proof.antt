@@ -6,6 +6,7 @@ use lib.ListN.{length}
 use Rattle.refusals.specs.Refusals.{state}
 use Rattle.refusals.proofs.Laws.{state-turned-back, state-returned}
 use Rattle.table.proofs.Ready.{ready-is}
+use Rattle.table.proofs.Theorems.{ready-left}
 use Rattle.hash.specs.Hash.{finalState}
 use Rattle.hash.specs.Answers.{hashAnswer}
 use Rattle.hash.proofs.Answers.{HashInputs, hash-inputs}
@@ -73,7 +74,7 @@ inputs c = hash-inputs _ _ (sym (c .before .before .test-hash .ensures .0) ∙ c
 slice-aggregate-final-state : tie.Need-slice-aggregate-final-state
 slice-aggregate-final-state c =
     let told = c .before in
-    sym (ready-is _ _ (told .before .before .test-hash .ensures .1 (inputs told .table)) .size)
+    sym (ready-is _ _ (ready-left _ _ (inputs told .table) (told .before .before .test-hash .ensures .1)) .size)
 
 final-state-requires : tie.Need-final-state-requires
 final-state-requires c κs =
@@ -84,7 +85,7 @@ final-state-requires c κs =
     let i = inputs told in (
       i .table,
       canonical-state (two-taps w (eight start)) (two-taps-state w (eight start) (i .canonical)),
-      t .test-hash .ensures .1 (i .table),
+      ready-left _ _ (i .table) (t .test-hash .ensures .1),
     )
 
 of-requires : tie.Need-of-requires

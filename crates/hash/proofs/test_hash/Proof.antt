@@ -10,8 +10,8 @@ use borrow.Author.Needs.{needs}
 use Rattle.hash.proofs.test_hash.Statement.{statement}
 use Rattle.hash.proofs.test_hash.Tie as tie
 
-test-ready-requires : tie.Need-test-ready-requires
-test-ready-requires c κs = search needs
+test-and-ready-requires : tie.Need-test-and-ready-requires
+test-and-ready-requires c κs = search needs
 
 enum-told : tie.Need-enum-told
 enum-told c = search needs
@@ -23,7 +23,7 @@ returns : tie.Need-returns
 unfolding hashTest
 returns c =
     let t = c .before .before in
-    (after-refused _ (t .test-ready .ensures .0) (c .enum-told2 .given .1), t .test-ready .ensures .1)
+    (after-refused _ (t .test-and-ready .ensures .0) (c .enum-told2 .given .1), t .test-and-ready .ensures .1)
 
 first-bad-requires : tie.Need-first-bad-requires
 first-bad-requires c κs = search needs
@@ -34,9 +34,9 @@ returns-2 c =
     let told = c .before .before in
     let t = told .before .before in
     let bad = c .before .first-bad .ensures in (
-      after-accepted (t .test-ready .ensures .0) (told .enum-told .given .1)
+      after-accepted (t .test-and-ready .ensures .0) (told .enum-told .given .1)
           (unless-refused _ (scanned-bad _ bad (c .if1 .taken)) (ap (λ i. Refused (TapWord i)) bad)),
-      t .test-ready .ensures .1,
+      t .test-and-ready .ensures .1,
     )
 
 returns-3 : tie.Need-returns-3
@@ -44,12 +44,12 @@ unfolding hashTest
 returns-3 c =
     let told = c .before .before in
     let t = told .before .before in (
-      after-accepted (t .test-ready .ensures .0) (told .enum-told .given .1)
+      after-accepted (t .test-and-ready .ensures .0) (told .enum-told .given .1)
           (unless-passed _ (scanned-good _ (c .before .first-bad .ensures) (c .if1 .left)) refl),
-      t .test-ready .ensures .1,
+      t .test-and-ready .ensures .1,
     )
 
 pub test-hash-spec : {M : Type 1} → statement M
 test-hash-spec =
     tie.close
-    (tie.spec test-ready-requires enum-told enum-told-2 returns first-bad-requires returns-2 returns-3)
+    (tie.spec test-and-ready-requires enum-told enum-told-2 returns first-bad-requires returns-2 returns-3)

@@ -6,7 +6,7 @@ use Prim.Native.Nat.{_+_, _-_, _%_, _<_, _≤_}
 use native.Mathlib.Omega.{arith}
 use borrow.Author.Needs.{needs}
 use Rattle.lists.specs.Lists.{cell}
-use Rattle.matrix.proofs.RowWords.{rowWords, none-gathered, words-size, words-canonical, all-gathered}
+use Rattle.mixing.proofs.RowWords.{rowWords, none-gathered, words-size, words-canonical, all-gathered}
 use Rattle.mixing.specs.MixingHelpers.{readyEntry}
 use Rattle.mixing.proofs.ReadyWords.{two-gathered}
 use Rattle.mixing.proofs.mix.Statement.{statement}

@@ -9,11 +9,11 @@ use borrow.Author.Count.{below-more}
 use lib.ListN.{length}
 use Rattle.lists.specs.Lists.{cell, tab}
 use Rattle.field.specs.Field.{P}
+use Rattle.field.specs.MontgomeryHelpers.{unitSquare}
 use Rattle.words.specs.Words.{AllCanonical}
 use Rattle.matrix.specs.Matrix.{matrixWords, product, entry as entry-of}
 use Rattle.table.specs.Table.{matrixOf, inverseOf, unlike}
 use Rattle.table.proofs.Parts.{length-inverse, inverse-canonical}
-use Rattle.table.specs.ReadyHelpers.{matrixUnit}
 use Rattle.table.proofs.Ready.{ready-is}
 use Rattle.table.proofs.Tested.{byColumns, at-cell, unlike-yes, unlike-no, stops, passes}
 use borrow.Author.Needs.{needs}
@@ -51,7 +51,7 @@ table-of made = entry made .args .table .now
 -- the product's cells are those of M times the stored inverse, times 2^128
 value-at : (made : tie.After-product-columns Inv-loop μ-loop) (c : ℕ) → c < 144 → let t = table-of made in
     cell (made .product-columns .result) (12 * (c % 12) + c / 12)
-    ≡ (product 12 (entry-of (matrixOf t)) (entry-of (inverseOf t)) (c / 12) (c % 12) * matrixUnit) % P
+    ≡ (product 12 (entry-of (matrixOf t)) (entry-of (inverseOf t)) (c / 12) (c % 12) * unitSquare) % P
 value-at made c h =
     let s = entry made in
     at-cell (s .args .table .now) (s .args .ready .now) (inverseOf (s .args .table .now)) _ c (s .pre .2) h

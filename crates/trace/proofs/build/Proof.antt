@@ -8,6 +8,7 @@ use Rattle.numbers.specs.Numbers.{tapWordBatches}
 use Rattle.refusals.specs.Refusals.{digest}
 use Rattle.refusals.proofs.Laws.{digest-turned-back, digest-returned, leaves-old, leaves-new}
 use Rattle.table.proofs.Ready.{ready-is}
+use Rattle.table.proofs.Theorems.{ready-left}
 use Rattle.chain.proofs.Answers.{digest-take}
 use Rattle.trace.specs.Answers.{buildAnswer, buildLeaves}
 use Rattle.trace.proofs.Answers.{BuildInputs, build-inputs}
@@ -47,7 +48,7 @@ inputs c = build-inputs _ _ _ (sym (c .before .before .test-build .ensures .0) �
 slice-aggregate-write-hashes : tie.Need-slice-aggregate-write-hashes
 slice-aggregate-write-hashes c =
     let told = c .before in
-    sym (ready-is _ _ (told .before .before .test-build .ensures .1 (inputs told .table)) .size)
+    sym (ready-is _ _ (ready-left _ _ (inputs told .table) (told .before .before .test-build .ensures .1)) .size)
 
 write-hashes-requires : tie.Need-write-hashes-requires
 write-hashes-requires c κs =
@@ -58,7 +59,7 @@ write-hashes-requires c κs =
       omega (arith, i .permitted .high),
       i .taps,
       i .room,
-      told .before .before .test-build .ensures .1 (i .table),
+      ready-left _ _ (i .table) (told .before .before .test-build .ensures .1),
     )
 
 array-read-t18 : tie.Need-array-read-t18

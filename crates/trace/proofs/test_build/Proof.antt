@@ -26,7 +26,7 @@ abbrev entry : tie.After-tap-batches → tie.Start
 entry counted = counted .before .before .before .before .before .before .before
 
 -- and where the table is tested
-abbrev tested : tie.After-tap-batches → tie.After-test-ready
+abbrev tested : tie.After-tap-batches → tie.After-test-and-ready
 tested counted = counted .before .before .before
 
 abbrev words : tie.After-tap-batches → ℕ
@@ -41,7 +41,7 @@ accepted : (c : tie.After-tap-batches) {o : Answer} → let taps = entry c .args
 unfolding buildTest
 accepted c e =
     let told = c .before in
-    after-accepted (told .before .before .test-ready .ensures .0) (told .enum-told .given .1) e
+    after-accepted (told .before .before .test-and-ready .ensures .0) (told .enum-told .given .1) e
 
 -- where k is known, the taps' length is permitted
 abbrev counted : tie.After-known-told → tie.After-tap-batches
@@ -67,8 +67,8 @@ roomy f e =
     (unless-passed _ (permitted p .0)
     (unless-passed _ (eq-eqb _ _ (f .before .if1 .left ∙ ap (λ n. 384 * n) (sym (permitted p .1)))) e))
 
-test-ready-requires : tie.Need-test-ready-requires
-test-ready-requires c κs = search needs
+test-and-ready-requires : tie.Need-test-and-ready-requires
+test-and-ready-requires c κs = search needs
 
 enum-told : tie.Need-enum-told
 enum-told c = search needs
@@ -80,7 +80,7 @@ returns : tie.Need-returns
 unfolding buildTest
 returns c =
     let t = c .before .before in
-    (after-refused _ (t .test-ready .ensures .0) (c .enum-told2 .given .1), t .test-ready .ensures .1)
+    (after-refused _ (t .test-and-ready .ensures .0) (c .enum-told2 .given .1), t .test-and-ready .ensures .1)
 
 tap-batches-requires : tie.Need-tap-batches-requires
 tap-batches-requires c κs = search needs
@@ -95,7 +95,7 @@ returns-2 : tie.Need-returns-2
 returns-2 c =
     let taps = c .before .before in
     let refused = tap-refused mostBatches (words taps) (taps .tap-batches .ensures) (c .enum-told3 .given .1) in
-    (accepted taps (unless-refused _ refused refl), tested taps .test-ready .ensures .1)
+    (accepted taps (unless-refused _ refused refl), tested taps .test-and-ready .ensures .1)
 
 mul-if1 : tie.Need-mul-if1
 mul-if1 c = omega (arith, permitted c .2)
@@ -105,7 +105,7 @@ returns-3 c =
     let p = c .before in
     let other = ne-eqb _ _ (λ e. c .if1 .taken (e ∙ ap (λ n. 384 * n) (permitted p .1))) in (
       accepted (counted p) (unless-passed _ (permitted p .0) (unless-refused _ other refl)),
-      tested (counted p) .test-ready .ensures .1,
+      tested (counted p) .test-and-ready .ensures .1,
     )
 
 first-bad-requires : tie.Need-first-bad-requires
@@ -116,21 +116,21 @@ returns-4 c =
     let bad = c .before .first-bad .ensures in
     let f = c .before in (
       roomy f (unless-refused _ (scanned-bad _ bad (c .if2 .taken)) (ap (λ i. Refused (TapWord i)) bad)),
-      tested (counted (f .before .before)) .test-ready .ensures .1,
+      tested (counted (f .before .before)) .test-and-ready .ensures .1,
     )
 
 returns-5 : tie.Need-returns-5
 returns-5 c =
     let f = c .before in (
       roomy f (unless-passed _ (scanned-good _ (f .first-bad .ensures) (c .if2 .left)) refl),
-      tested (counted (f .before .before)) .test-ready .ensures .1,
+      tested (counted (f .before .before)) .test-and-ready .ensures .1,
     )
 
 pub test-build-spec : {M : Type 1} → statement M
 test-build-spec =
     tie.close
     (tie.spec
-    test-ready-requires
+    test-and-ready-requires
     enum-told
     enum-told-2
     returns
