@@ -1,13 +1,13 @@
 // Check: the tests before the walk, and the walk (document 01, "The 52 constraints"; document 02, U6).
 ghost use mathlib.Core.Path.{_≡_};
-ghost use Prim.Native.Nat.{_*_, _≤_, _<_, _^_};
+ghost use Prim.Native.Nat.{_≤_, _<_, _^_};
 ghost use lib.ListN.{length};
-ghost use Rattle.words.specs.Words.{AllCanonical, canonicalWords, firstBad};
+ghost use Rattle.words.specs.Words.{canonicalWords, firstBad};
 ghost use Rattle.numbers.specs.Numbers.{traceWords};
 ghost use Rattle.refusals.specs.Answers.{unless, testsAfter};
 ghost use Rattle.table.specs.Table.{IsTable};
-ghost use Rattle.constraints.specs.Constraints.{tests};
 ghost use Rattle.table.specs.ReadyHelpers.{matrixReady, readyLeft};
+ghost use Rattle.constraints.specs.Constraints.{tests};
 ghost use Rattle.steps.specs.StepHelpers.{backReady};
 ghost use Rattle.checker.specs.Answers.{openingTest, traceTest, checkAnswer};
 use mixing::READY_WORDS;

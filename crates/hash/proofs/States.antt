@@ -17,7 +17,7 @@ use Rattle.matrix.specs.Matrix.{timesColumn, times}
 use Rattle.table.specs.Table.{IsTable, initialConstant, firstStepConstant, secondStepConstant}
 use Rattle.table.proofs.Theorems.{initial-length, initial-canonical, first-step-length, first-step-canonical}
 use Rattle.table.proofs.Theorems.{second-step-length, second-step-canonical}
-use Rattle.hash.specs.Hash.{roots, cubes, plus, mix, firstStep, secondStep, stateAt, middleState, finalState}
+use Rattle.hash.specs.Hash.{roots, cubes, plus, firstStep, secondStep, stateAt, middleState, finalState}
 
 -- twelve canonical cells
 pub record IsState (s : List ℕ) : Type 0 where

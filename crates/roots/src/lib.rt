@@ -1,4 +1,4 @@
-// Twelve cube roots in one recursion on the halved exponent, in Montgomery's form.
+// Twelve cube roots at a time, by powers in Montgomery's form.
 ghost use mathlib.Core.Path.{_≡_};
 ghost use lib.ListN.{length};
 ghost use Rattle.lists.specs.Lists.{cell, tab};
@@ -31,7 +31,8 @@ fn powers_times(acc: &mut [u64; WIDTH], x: &mut [u64; WIDTH], e: u64, q: u32)
     powers_times(acc, x, e / 2, q);
 }
 
-// Each cell of by times that of base raised to e.
+// Each cell of by times that of base raised to e: where e is a power of two, the exponents' bits joined, those of base
+// first.
 fn joined(base: [u64; WIDTH], e: u64, by: [u64; WIDTH], q: u32) -> [u64; WIDTH]
     requires { ⌜ (length base ≡ width) × CanonicalTo width base × (length by ≡ width) × CanonicalTo width by
         × (q ≡ quotient) ⌝ }
@@ -44,8 +45,8 @@ fn joined(base: [u64; WIDTH], e: u64, by: [u64; WIDTH], q: u32) -> [u64; WIDTH]
     acc
 }
 
-// Each cell raised to (2p - 1) / 3, whose bits are 01 over and over but for two places: 5, 85, 21845 and 5592405 have
-// two, four, eight and twelve of these pairs.
+// Each cell raised to (2p - 1) / 3, whose bits are 01 over and over but for two places: two, four, eight and twelve of
+// these pairs are the exponents 5, 85, 21845 and 5592405. So 9 products do, where one call of the power takes 31.
 fn third_powers(x: [u64; WIDTH], q: u32) -> [u64; WIDTH]
     requires { ⌜ (length x ≡ width) × CanonicalTo width x × (q ≡ quotient) ⌝ }
     ensures { λ r. ⌜ (elements r ≡ powers (elements x) third) × CanonicalTo width r × (length r ≡ width) ⌝ }
@@ -61,8 +62,8 @@ fn third_powers(x: [u64; WIDTH], q: u32) -> [u64; WIDTH]
     joined(last, 2, x, q)
 }
 
-// Every cell rooted, but for a factor: a cell is taken for a word of the form as it is, which stands for the cell divided
-// by 2^64, and a product with `factor` leaves the form.
+// The roots of the elements that the cells stand for, as words of Montgomery's form, times the factor; the product with
+// it leaves the form.
 pub fn scaled_roots(s: [u64; WIDTH], factor: u64) -> [u64; WIDTH]
     requires { ⌜ CanonicalTo width s × Canonical factor ⌝ }
     ensures { λ r. ⌜ (r ≡ tab width (λ j. mul factor (root (divided (cell s j))))) × CanonicalTo width r ⌝ }

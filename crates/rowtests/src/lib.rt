@@ -2,8 +2,8 @@
 // constraints").
 ghost use mathlib.Core.Path.{_≡_};
 ghost use Rattle.table.specs.Table.{IsTable};
-ghost use Rattle.constraints.specs.Constraints.{holds};
 ghost use Rattle.table.specs.ReadyHelpers.{matrixReady};
+ghost use Rattle.constraints.specs.Constraints.{holds};
 ghost use Rattle.steps.specs.StepHelpers.{backReady};
 ghost use Rattle.rowtests.specs.TestHelpers.{forwardOf, backAfter, InTrace, AppliesIn};
 use applying::CLAIMS;

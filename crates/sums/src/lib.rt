@@ -1,5 +1,5 @@
-// Sums of twelve products, gathered in one word: after each step there is one word below p. A step adds a term and
-// divides the sum by 2^32; what this takes from a term is given to it beforehand, as its weight.
+// Sums of twelve products, gathered in one word. A term is added and the sum divided by 2^32; what this takes from a term
+// is given to it beforehand, as its weight. A step takes two terms, and after it there is one word below p.
 ghost use mathlib.Core.Path.{_≡_};
 ghost use Prim.Native.Nat.{_*_, _%_, _^_};
 ghost use Rattle.lists.specs.Lists.{cell, tab};
@@ -67,7 +67,7 @@ pub fn loose_term(word: u64, low: u64, high: u64, x: u64, q: u32) -> u64
     t / montgomery::HALF + more + Fp::P - t % montgomery::HALF * (q as u64)
 }
 
-// (word + low x) / 2^32: a step with one term, or the last term of a step.
+// (word + low x) / 2^32: the last term of a step.
 pub fn term(word: u64, low: u64, high: u64, x: u64, q: u32) -> u64
     requires { ⌜ Term word low high x × (q ≡ quotient) ⌝ }
     ensures { λ r. ⌜ (r ≡ gathered word low x) × Canonical r ⌝ }

@@ -3,7 +3,6 @@
 -- Assumes nothing.
 use mathlib.Core.Path.{ap, _∙_}
 use native.Mathlib.Omega.{arith}
-use borrow.Author.Needs.{needs}
 use Rattle.table.specs.Table.{firstStepConstant}
 use Rattle.table.proofs.Ready.{ready-is}
 use Rattle.hash.specs.Hash.{plus, firstStep}

@@ -1,50 +1,39 @@
+-- `roots::third_powers`: each link of the chain is one power more, and the last is to the exponent (2p − 1)/3.
+-- Assumes nothing.
 use native.Mathlib.Omega.{arith}
 use borrow.Author.Needs.{needs}
 use Rattle.roots.specs.PowerHelpers.{elements}
 use Rattle.roots.proofs.Powers.{first-link, linked}
 use Rattle.roots.proofs.third_powers.Statement.{statement}
 use Rattle.roots.proofs.third_powers.Tie as tie
-use Rattle.roots.proofs.third_powers.Reads as reads
-use Rattle.roots.proofs.third_powers.Lts as lts
-use Rattle.roots.proofs.joined.Reads as joined-reads
 
--- src/lib.rt:50:9
 joined-requires : tie.Need-joined-requires
 joined-requires c κs = search needs
 
--- src/lib.rt:51:9
 joined-requires-2 : tie.Need-joined-requires-2
 joined-requires-2 c κs = search needs
 
--- src/lib.rt:52:9
 joined-requires-3 : tie.Need-joined-requires-3
 joined-requires-3 c κs = search needs
 
--- src/lib.rt:53:9
 joined-requires-4 : tie.Need-joined-requires-4
 joined-requires-4 c κs = search needs
 
--- src/lib.rt:54:9
 joined-requires-5 : tie.Need-joined-requires-5
 joined-requires-5 c κs = search needs
 
--- src/lib.rt:55:9
 joined-requires-6 : tie.Need-joined-requires-6
 joined-requires-6 c κs = search needs
 
--- src/lib.rt:56:9
 joined-requires-7 : tie.Need-joined-requires-7
 joined-requires-7 c κs = search needs
 
--- src/lib.rt:57:9
 joined-requires-8 : tie.Need-joined-requires-8
 joined-requires-8 c κs = search needs
 
--- src/lib.rt:58:5
 joined-requires-9 : tie.Need-joined-requires-9
 joined-requires-9 c κs = search needs
 
--- src/lib.rt:46:1
 returns : tie.Need-returns
 returns c =
     let x = c .before .before .before .before .before .before .before .before .before .args .x in
