@@ -4,6 +4,7 @@ ghost use mathlib.Core.List.{_++_};
 ghost use Prim.Native.Nat.{_+_, _*_, _<_, _≤_, _^_};
 ghost use lib.ListN.{length, take, replicate};
 ghost use Rattle.words.specs.Words.{AllCanonical};
+ghost use Rattle.mixing.specs.MixingHelpers.{readyWords};
 ghost use Rattle.table.specs.Table.{IsTable};
 ghost use Rattle.table.specs.ReadyHelpers.{matrixReady, readyLeft};
 ghost use Rattle.hash.specs.Hash.{input, tap, outputAt};
@@ -73,6 +74,7 @@ fn last_state(ready: &[u64], table: &[u64], taps: &[u64], hashes: usize) -> [u64
 
 // What Chain tests: 1, 2, 4, 5, 6. The table test leaves M made ready.
 fn test_chain(table: &[u64], taps: &[u64], ready: &mut [u64; READY_WORDS]) -> Answer
+    requires { ⌜ length (now ready) ≡ readyWords ⌝ }
     ensures { λ r. ⌜
         (r ≡ chainTest (now (table .entry)) (now (taps .entry)))
         × (now (ready .exit) ≡ readyLeft (now (table .entry)) (now (ready .entry))) ⌝ }

@@ -5,6 +5,7 @@ ghost use lib.ListN.{length};
 ghost use Rattle.words.specs.Words.{canonicalWords, firstBad};
 ghost use Rattle.numbers.specs.Numbers.{traceWords};
 ghost use Rattle.refusals.specs.Answers.{unless, testsAfter};
+ghost use Rattle.mixing.specs.MixingHelpers.{readyWords};
 ghost use Rattle.table.specs.Table.{IsTable};
 ghost use Rattle.table.specs.ReadyHelpers.{matrixReady, readyLeft};
 ghost use Rattle.constraints.specs.Constraints.{tests};
@@ -25,6 +26,7 @@ pub fn test_opening(
     c: usize,
     ready: &mut [u64; READY_WORDS],
 ) -> Answer
+    requires { ⌜ length (now ready) ≡ readyWords ⌝ }
     ensures { λ r. ⌜
         (r ≡ openingTest (now (table .entry)) (now (trace .entry)) c)
         × (now (ready .exit) ≡ readyLeft (now (table .entry)) (now (ready .entry))) ⌝ }
@@ -106,7 +108,8 @@ pub fn check(table: &[u64], trace: &[u64], claim: [u64; 4], c: usize) -> TestsAn
     let Answer::Accepted = opening else {
         return TestsAnswer::Refused(opening.refusal());
     };
-    let inverse = steps::back_ready(table);
+    let mut inverse = [0u64; READY_WORDS];
+    steps::make_inverse_ready(table, &mut inverse);
     let k = trace.len() / BATCH_WORDS;
     test_trace(&ready, &inverse, table, trace, &claim, c, k)
 }

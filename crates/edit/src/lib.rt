@@ -73,7 +73,8 @@ pub fn edit(
     let Answer::Accepted = opening else {
         return DigestAnswer::Refused(opening.refusal());
     };
-    let inverse = steps::back_ready(table);
+    let mut inverse = [0u64; READY_WORDS];
+    steps::make_inverse_ready(table, &mut inverse);
     let k = trace.len() / BATCH_WORDS;
     let answer = test_edit(&ready, &inverse, table, trace, &claim, c, tap, &words, k);
     match answer {

@@ -1,9 +1,11 @@
 // The Rescue hash (document 01, "Hash and chain").
 ghost use mathlib.Core.Path.{_≡_};
 ghost use Prim.Native.Nat.{_<_};
+ghost use lib.ListN.{length};
 ghost use Rattle.lists.specs.Lists.{cell, tab};
 ghost use Rattle.words.specs.Words.{CanonicalTo};
 ghost use Rattle.numbers.specs.Numbers.{width};
+ghost use Rattle.mixing.specs.MixingHelpers.{readyWords};
 ghost use Rattle.table.specs.Table.{IsTable, firstStepConstant, secondStepConstant};
 ghost use Rattle.table.specs.ReadyHelpers.{matrixReady, readyLeft};
 ghost use Rattle.hash.specs.Hash.{plus, firstStep, secondStep, stateAt, finalState};
@@ -110,6 +112,7 @@ pub fn final_state(ready: &[u64], table: &[u64], input: [u64; WIDTH]) -> [u64; W
 
 // What Hash tests, and Unhash before its 16: 1, 2, 4, 6. The table test leaves M made ready.
 pub fn test_hash(table: &[u64], words: &[u64], ready: &mut [u64; READY_WORDS]) -> Answer
+    requires { ⌜ length (now ready) ≡ readyWords ⌝ }
     ensures { λ r. ⌜
         (r ≡ hashTest (now (table .entry)) (now (words .entry)))
         × (now (ready .exit) ≡ readyLeft (now (table .entry)) (now (ready .entry))) ⌝ }

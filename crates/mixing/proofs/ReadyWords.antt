@@ -67,34 +67,31 @@ module _ (m : List ℕ) (scale : ℕ) where
       back = omega arith
 
   -- ---- how they are stored
-  -- the words of the first j columns, and zeros
-  pub storedTo : ℕ → List ℕ
-  storedTo j = sets (replicate 288 0) 0 (tab (24 * j) word)
+  -- the words of the first j columns, and of the room z what is behind them
+  pub storedTo : List ℕ → ℕ → List ℕ
+  storedTo z j = sets z 0 (tab (24 * j) word)
 
-  pub none-stored : replicate 288 0 ≡ storedTo 0
+  pub none-stored : (z : List ℕ) → z ≡ storedTo z 0
   unfolding storedTo tab
-  none-stored = refl
+  none-stored z = refl
 
-  pub next-stored : (j : ℕ) (out low high : List ℕ) → out ≡ storedTo j
+  pub next-stored : (z : List ℕ) (j : ℕ) (out low high : List ℕ) → out ≡ storedTo z j
       → ((i : ℕ) → i < 12 → cell low i ≡ weightedEntry m scale i j)
       → ((i : ℕ) → i < 12 → cell high i ≡ 2 ^ 31 * weightedEntry m scale i j % P)
-      → sets (sets out (24 * j) (tab 12 (cell low))) (24 * j + 12) (tab 12 (cell high)) ≡ storedTo (j + 1)
+      → sets (sets out (24 * j) (tab 12 (cell low))) (24 * j + 12) (tab 12 (cell high)) ≡ storedTo z (j + 1)
   unfolding storedTo
-  next-stored j out low high e hl hh =
+  next-stored z j out low high e hl hh =
       stored z _ (24 * j + 12) word (cell high)
       (stored z out (24 * j) word (cell low) e (λ i h. hl i h ∙ sym (lower j i h)))
       (λ i h. hh i h ∙ sym (upper j i h))
       ∙ ap (λ n. sets z 0 (tab n word)) place
     where
-      z : List ℕ
-      z = replicate 288 0
-
       place : 24 * j + 12 + 12 ≡ 24 * (j + 1)
       place = omega arith
 
-  pub all-stored : storedTo 12 ≡ ready m scale
+  pub all-stored : (z : List ℕ) → length z ≡ 288 → storedTo z 12 ≡ ready m scale
   unfolding storedTo word ready
-  all-stored = sets-all (replicate 288 0) (tab 288 word) (length-tab 288 word)
+  all-stored z size = sets-all z (tab 288 word) (length-tab 288 word ∙ sym size)
 
   -- ---- what they are
   cell-word : (t : ℕ) → t < 288 → cell (ready m scale) t ≡ word t

@@ -43,21 +43,21 @@ fn store(out: &mut [u64; READY_WORDS], start: usize, words: [u64; WIDTH])
     }
 }
 
-// m made ready, each entry times the scale and divided by 2^64.
-pub fn ready(m: &[u64], scale: u64) -> [u64; READY_WORDS]
-    requires { ⌜ (length (now m) ≡ matrixWords) × AllCanonical (now m) × Canonical scale ⌝ }
-    ensures { λ r. ⌜ r ≡ ready (now (m .entry)) scale ⌝ }
+// Makes m ready in a room of the caller's, each entry times the scale and divided by 2^64. It is lent, so that no matrix
+// made ready is ever copied.
+pub fn make_ready(m: &[u64], scale: u64, out: &mut [u64; READY_WORDS])
+    requires { ⌜ (length (now m) ≡ matrixWords) × AllCanonical (now m) × Canonical scale
+        × (length (now out) ≡ readyWords) ⌝ }
+    ensures { λ r. ⌜ now (out .exit) ≡ ready (now (m .entry)) scale ⌝ }
 {
     let q = montgomery::quotient(m[0]);
     let factors = sums::weighted([scale; WIDTH], q);
-    let mut out = [0u64; READY_WORDS];
     for j in 0..WIDTH {
         let low = scaled_column(m, j, factors[j], q);
         let start = COLUMN_WORDS * j;
-        store(&mut out, start, low);
-        store(&mut out, start + WIDTH, sums::raised(low, q));
+        store(out, start, low);
+        store(out, start + WIDTH, sums::raised(low, q));
     }
-    out
 }
 
 // A step of every row: its word plus columns j and j + 1 times x and y.

@@ -89,7 +89,8 @@ pub fn read_off(
     if destination.len() != BATCH_TAP_WORDS * k + TAP_WORDS {
         return TestsAnswer::Refused(Refusal::DestinationLength);
     }
-    let inverse = steps::back_ready(table);
+    let mut inverse = [0u64; READY_WORDS];
+    steps::make_inverse_ready(table, &mut inverse);
     let answer = checker::test_trace(&ready, &inverse, table, trace, &claim, c, k);
     let TestsAnswer::Accepted(_) = answer else {
         return answer;

@@ -3,8 +3,10 @@
 // scales make up for that.
 ghost use mathlib.Core.Path.{_≡_};
 ghost use Prim.Native.Nat.{_<_, _≤_};
+ghost use lib.ListN.{length};
 ghost use Rattle.words.specs.Words.{CanonicalTo};
 ghost use Rattle.numbers.specs.Numbers.{width};
+ghost use Rattle.mixing.specs.MixingHelpers.{readyWords};
 ghost use Rattle.table.specs.Table.{IsTable, initialConstant, firstStepConstant, secondStepConstant};
 ghost use Rattle.table.specs.ReadyHelpers.{matrixReady};
 ghost use Rattle.hash.specs.Hash.{secondStep};
@@ -56,12 +58,12 @@ pub fn less_second_step(table: &[u64], round: usize, s: [u64; WIDTH]) -> [u64; W
     out
 }
 
-// The inverse of M made ready for undoing the first steps.
-pub fn back_ready(table: &[u64]) -> [u64; READY_WORDS]
-    requires { ⌜ IsTable (now table) ⌝ }
-    ensures { λ r. ⌜ r ≡ backReady (now (table .entry)) ⌝ }
+// Makes the inverse of M ready for undoing the first steps.
+pub fn make_inverse_ready(table: &[u64], inverse: &mut [u64; READY_WORDS])
+    requires { ⌜ IsTable (now table) × (length (now inverse) ≡ readyWords) ⌝ }
+    ensures { λ r. ⌜ now (inverse .exit) ≡ backReady (now (table .entry)) ⌝ }
 {
-    mixing::ready(table::inverse(table), BACK)
+    mixing::make_ready(table::inverse(table), BACK, inverse);
 }
 
 // The first `count` columns of the second step of the round: the cells cubed, times M, plus its constant.

@@ -9,11 +9,11 @@ ghost use Rattle.field.specs.MontgomeryHelpers.{unitSquare};
 ghost use Rattle.words.specs.Words.{AllCanonical};
 ghost use Rattle.numbers.specs.Numbers.{width};
 ghost use Rattle.matrix.specs.Matrix.{matrixWords, entry, product};
-ghost use Rattle.mixing.specs.MixingHelpers.{IsReady, readyEntry};
+ghost use Rattle.mixing.specs.MixingHelpers.{readyWords, IsReady, readyEntry};
 ghost use Rattle.table.specs.Table.{tableWords, matrixOf, inverseOf};
 ghost use Rattle.table.specs.Table.{constant, initialConstant, firstStepConstant, secondStepConstant};
 ghost use Rattle.table.specs.Table.{firstUnlike, tableTest, IsTable};
-ghost use Rattle.table.specs.ReadyHelpers.{matrixReady, readyLeft};
+ghost use Rattle.table.specs.ReadyHelpers.{matrixReady, unlikeInRow, readyLeft};
 use matrix::MATRIX_WORDS;
 use mixing::READY_WORDS;
 use numbers::WIDTH;
@@ -92,12 +92,13 @@ fn column(n: &[u64], k: usize) -> [u64; WIDTH]
 // 2^192 mod p: 2^64 for the division when M is made ready, and 2^128 for cells that come divided by it.
 const SCALE: u64 = 2148101911894228676;
 
-// M made ready, times 2^128.
-fn matrix_ready(table: &[u64]) -> [u64; READY_WORDS]
-    requires { ⌜ (length (now table) ≡ tableWords) × AllCanonical (now table) ⌝ }
-    ensures { λ r. ⌜ r ≡ matrixReady (now (table .entry)) ⌝ }
+// Makes M ready, times 2^128.
+fn make_ready(table: &[u64], ready: &mut [u64; READY_WORDS])
+    requires { ⌜
+        (length (now table) ≡ tableWords) × AllCanonical (now table) × (length (now ready) ≡ readyWords) ⌝ }
+    ensures { λ r. ⌜ now (ready .exit) ≡ matrixReady (now (table .entry)) ⌝ }
 {
-    mixing::ready(matrix(table), SCALE)
+    mixing::make_ready(matrix(table), SCALE, ready);
 }
 
 // The matrix that was made ready times n, column by column: cell (i, k) stands at 12 * k + i.
@@ -124,18 +125,30 @@ fn identity(i: usize, k: usize) -> u64
     if i == k { montgomery::SQUARE } else { 0 }
 }
 
-// The first cell, row by row, in which M times the stored inverse is unlike the identity, or 144: both times 2^128.
+// The first column in which a row of the product is unlike the identity's, or 12: both times 2^128.
+fn unlike_in_row(product: &[u64; MATRIX_WORDS], row: usize) -> usize
+    requires { ⌜ (length (now product) ≡ matrixWords) × (row < width) ⌝ }
+    ensures { λ r. ⌜ r ≡ unlikeInRow (now (product .entry)) row ⌝ }
+{
+    for k in 0..WIDTH {
+        if product[WIDTH * k + row] != identity(row, k) {
+            return k;
+        }
+    }
+    WIDTH
+}
+
+// The first cell, row by row, in which M times the stored inverse is unlike the identity, or 144.
 fn first_unlike(ready: &[u64], table: &[u64]) -> usize
     requires { ⌜
         (length (now table) ≡ tableWords) × AllCanonical (now table) × (now ready ≡ matrixReady (now table)) ⌝ }
     ensures { λ r. ⌜ r ≡ firstUnlike (now (table .entry)) ⌝ }
 {
     let product = product_columns(ready, inverse(table));
-    for c in 0..MATRIX_WORDS {
-        let row = c / WIDTH;
-        let k = c % WIDTH;
-        if product[WIDTH * k + row] != identity(row, k) {
-            return c;
+    for row in 0..WIDTH {
+        let k = unlike_in_row(&product, row);
+        if k != WIDTH {
+            return WIDTH * row + k;
         }
     }
     MATRIX_WORDS
@@ -144,6 +157,7 @@ fn first_unlike(ready: &[u64], table: &[u64]) -> usize
 // The table test, with which every operation but Prepare begins: 1, 2, 4. It multiplies M made ready by the stored
 // inverse, and leaves it so, for whoever goes on with an accepted table.
 pub fn test_and_ready(table: &[u64], ready: &mut [u64; READY_WORDS]) -> Answer
+    requires { ⌜ length (now ready) ≡ readyWords ⌝ }
     ensures { λ r. ⌜
         (r ≡ tableTest (now (table .entry)))
         × (now (ready .exit) ≡ readyLeft (now (table .entry)) (now (ready .entry))) ⌝ }
@@ -155,12 +169,11 @@ pub fn test_and_ready(table: &[u64], ready: &mut [u64; READY_WORDS]) -> Answer
     if bad != WORDS {
         return Answer::Refused(Refusal::TableWord(bad));
     }
-    let made = matrix_ready(table);
-    let cell = first_unlike(&made, table);
+    make_ready(table, ready);
+    let cell = first_unlike(ready, table);
     if cell != MATRIX_WORDS {
         return Answer::Refused(Refusal::WrongInverse(cell));
     }
-    *ready = made;
     Answer::Accepted
 }
 

@@ -4,6 +4,7 @@ ghost use Prim.Native.Nat.{_+_, _*_, _-_, _≤_, _<_, _^_};
 ghost use lib.ListN.{length, take};
 ghost use Rattle.words.specs.Words.{AllCanonical, CanonicalTo};
 ghost use Rattle.numbers.specs.Numbers.{firstRow, tapWords, traceWords, width};
+ghost use Rattle.mixing.specs.MixingHelpers.{readyWords};
 ghost use Rattle.table.specs.Table.{IsTable};
 ghost use Rattle.table.specs.ReadyHelpers.{matrixReady, readyLeft};
 ghost use Rattle.hash.specs.Hash.{middleState, finalState, chain};
@@ -152,6 +153,7 @@ fn write_hashes(
 
 // What Build tests: 1, 2, 4, 5, 8, 6. The table test leaves M made ready.
 fn test_build(table: &[u64], taps: &[u64], size: usize, ready: &mut [u64; READY_WORDS]) -> Answer
+    requires { ⌜ length (now ready) ≡ readyWords ⌝ }
     ensures { λ r. ⌜
         (r ≡ buildTest (now (table .entry)) (now (taps .entry)) size)
         × (now (ready .exit) ≡ readyLeft (now (table .entry)) (now (ready .entry))) ⌝ }

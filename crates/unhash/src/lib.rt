@@ -19,26 +19,25 @@ use refusals::Refusal;
 const ROOT_FACTOR: u64 = 1320274735724748368;
 
 // The second step of the round undone, to its middle state: s less its constant, times the inverse of M, then rooted.
-fn undo_second_step(ready: &[u64], table: &[u64], round: usize, s: [u64; WIDTH]) -> [u64; WIDTH]
+fn undo_second_step(inverse: &[u64], table: &[u64], round: usize, s: [u64; WIDTH]) -> [u64; WIDTH]
     requires { ⌜
-        IsTable (now table) × (round < 10) × CanonicalTo width s × (now ready ≡ backReady (now table)) ⌝ }
+        IsTable (now table) × (round < 10) × CanonicalTo width s × (now inverse ≡ backReady (now table)) ⌝ }
     ensures { λ r. ⌜ r ≡ secondStepUndone (now (table .entry)) round s ⌝ }
 {
     let less = steps::less_second_step(table, round, s);
-    roots::scaled_roots(mixing::mix(ready, less), ROOT_FACTOR)
+    roots::scaled_roots(mixing::mix(inverse, less), ROOT_FACTOR)
 }
 
 // The state before round 0, from the one after round 9: the last round is undone first.
-fn undo_rounds(table: &[u64], s: [u64; WIDTH]) -> [u64; WIDTH]
-    requires { ⌜ IsTable (now table) × CanonicalTo width s ⌝ }
+fn undo_rounds(inverse: &[u64], table: &[u64], s: [u64; WIDTH]) -> [u64; WIDTH]
+    requires { ⌜ IsTable (now table) × CanonicalTo width s × (now inverse ≡ backReady (now table)) ⌝ }
     ensures { λ r. ⌜ r ≡ roundsUndone (now (table .entry)) 10 s ⌝ }
 {
-    let inverse = steps::back_ready(table);
     let mut state = s;
     for undone in 0..10 {
         let round = 9 - undone;
-        let middle = undo_second_step(&inverse, table, round, state);
-        let before = steps::back_step(&inverse, table, round, middle);
+        let middle = undo_second_step(inverse, table, round, state);
+        let before = steps::back_step(inverse, table, round, middle);
         state = before;
     }
     state
@@ -67,12 +66,14 @@ fn ends_in_zeros(input: [u64; WIDTH]) -> bool
 pub fn unhash(table: &[u64], cells: [u64; WIDTH]) -> PairAnswer
     ensures { λ r. ⌜ r ≡ unhashAnswer (now (table .entry)) cells ⌝ }
 {
-    let mut room = [0u64; READY_WORDS];
-    let answer = hash::test_hash(table, &cells, &mut room);
+    let mut ready = [0u64; READY_WORDS];
+    let answer = hash::test_hash(table, &cells, &mut ready);
     let Answer::Accepted = answer else {
         return PairAnswer::Refused(answer.refusal());
     };
-    let state = undo_rounds(table, cells);
+    // M made ready has served the table test; its room takes the inverse.
+    steps::make_inverse_ready(table, &mut ready);
+    let state = undo_rounds(&ready, table, cells);
     let input = steps::less_initial(table, state);
     if !ends_in_zeros(input) {
         return PairAnswer::Refused(Refusal::NoPair);

@@ -42,34 +42,34 @@ known : (c : tie.After-enum-told) → let a = entry c .args in
     Opened (a .table .now) (a .trace .now) (a .c) k × (k < 2 ^ 32)
 known c = opened-by _ _ _ (c .before .before .test-opening .ensures .0) (c .enum-told .given .1)
 
-back-ready-requires : tie.Need-back-ready-requires
-back-ready-requires c κs = known c .0 .table
+make-inverse-ready-requires : tie.Need-make-inverse-ready-requires
+make-inverse-ready-requires c κs = (known (c .before) .0 .table, refl)
 
 slice-aggregate-test-trace : tie.Need-slice-aggregate-test-trace
 slice-aggregate-test-trace c =
-    let told = c .before .before in
+    let told = c .before .before .before in
     sym (ready-is _ _ (ready-left _ _ (known told .0 .table) (told .before .before .test-opening .ensures .1)) .size)
 
 slice-aggregate-test-trace-2 : tie.Need-slice-aggregate-test-trace-2
-slice-aggregate-test-trace-2 c = sym (back-is _ _ (c .before .before .back-ready .ensures) .size)
+slice-aggregate-test-trace-2 c = sym (back-is _ _ (c .before .before .make-inverse-ready .ensures) .size)
 
 test-trace-requires : tie.Need-test-trace-requires
 test-trace-requires c κs =
     let made = c .before .before .before in
-    let told = made .before in
+    let told = made .before .before in
     let s = known told in (
       s .0 .table,
       s .0 .size,
       s .0 .high,
       s .1,
       ready-left _ _ (s .0 .table) (told .before .before .test-opening .ensures .1),
-      made .back-ready .ensures,
+      made .make-inverse-ready .ensures,
     )
 
 returns-2 : tie.Need-returns-2
 unfolding checkAnswer checkTest
 returns-2 c =
-    let told = c .before .before .before .before .before in
+    let told = c .before .before .before .before .before .before in
     walked _ _ (c .test-trace .ensures)
     (after-accepted (told .before .before .test-opening .ensures .0) (told .enum-told .given .1) refl)
 
@@ -82,7 +82,7 @@ check-spec =
     enum-told-2
     refusal-requires
     returns
-    back-ready-requires
+    make-inverse-ready-requires
     slice-aggregate-test-trace
     slice-aggregate-test-trace-2
     test-trace-requires

@@ -58,16 +58,16 @@ few : (c : tie.After-enum-told) → let a = entry (c .before .before) .args in
     Opened (a .table .now) (a .trace .now) (a .c) k × (k < 2 ^ 32)
 few c = opened-by _ _ _ (c .before .before .test-opening .ensures .0) (c .enum-told .given .1)
 
-back-ready-requires : tie.Need-back-ready-requires
-back-ready-requires c κs = few c .0 .table
+make-inverse-ready-requires : tie.Need-make-inverse-ready-requires
+make-inverse-ready-requires c κs = (few (c .before) .0 .table, refl)
 
 slice-aggregate-test-edit : tie.Need-slice-aggregate-test-edit
 slice-aggregate-test-edit c =
-    let told = c .before .before in
+    let told = c .before .before .before in
     sym (ready-is _ _ (ready-left _ _ (few told .0 .table) (told .before .before .test-opening .ensures .1)) .size)
 
 slice-aggregate-test-edit-2 : tie.Need-slice-aggregate-test-edit-2
-slice-aggregate-test-edit-2 c = sym (back-is _ _ (c .before .before .back-ready .ensures) .size)
+slice-aggregate-test-edit-2 c = sym (back-is _ _ (c .before .before .make-inverse-ready .ensures) .size)
 
 slice-aggregate-test-edit-3 : tie.Need-slice-aggregate-test-edit-3
 slice-aggregate-test-edit-3 c = search needs
@@ -75,25 +75,25 @@ slice-aggregate-test-edit-3 c = search needs
 test-edit-requires : tie.Need-test-edit-requires
 test-edit-requires c κs =
     let made = c .before .before .before .before .before in
-    let told = made .before in
+    let told = made .before .before in
     let s = few told in (
       s .0 .table,
       s .0 .size,
       s .0 .high,
       s .1,
       ready-left _ _ (s .0 .table) (told .before .before .test-opening .ensures .1),
-      made .back-ready .ensures,
+      made .make-inverse-ready .ensures,
     )
 
 enum-told-3 : tie.Need-enum-told-3
 enum-told-3 c = search needs
 
 -- where the inverse is made ready, from where the last tests have answered
-abbrev made-of : tie.After-test-edit → tie.After-back-ready
+abbrev made-of : tie.After-test-edit → tie.After-make-inverse-ready
 made-of t = t .before .before .before .before .before .before
 
 abbrev start : tie.After-test-edit → tie.Start
-start t = entry (made-of t .before .before .before)
+start t = entry (made-of t .before .before .before .before)
 
 -- what these answer is the answer of all
 answered : (t : tie.After-test-edit) → let a = start t .args in
@@ -102,7 +102,7 @@ answered : (t : tie.After-test-edit) → let a = start t .args in
     (length (tests (traceWordBatches (length (a .trace .now))) (a .c)))
 unfolding editTest
 answered t =
-    let told = made-of t .before in
+    let told = made-of t .before .before in
     walked _ _ (t .test-edit .ensures)
     (after-accepted (told .before .before .test-opening .ensures .0) (told .enum-told .given .1) refl)
 
@@ -127,18 +127,18 @@ counted c =
 
 slice-aggregate-rewrite : tie.Need-slice-aggregate-rewrite
 slice-aggregate-rewrite c =
-    let told = made-of (c .before .before .before) .before in
+    let told = made-of (c .before .before .before) .before .before in
     sym (ready-is _ _ (ready-left _ _ (few told .0 .table) (told .before .before .test-opening .ensures .1)) .size)
 
 slice-aggregate-rewrite-2 : tie.Need-slice-aggregate-rewrite-2
-slice-aggregate-rewrite-2 c = sym (back-is _ _ (made-of (c .before .before .before .before) .back-ready .ensures) .size)
+slice-aggregate-rewrite-2 c = sym (back-is _ _ (made-of (c .before .before .before .before) .make-inverse-ready .ensures) .size)
 
 rewrite-requires : tie.Need-rewrite-requires
 rewrite-requires c κs =
     let passed = c .before .before .before in
     let made = made-of (passed .before .before) in
-    let told = made .before in (
-      made .back-ready .ensures,
+    let told = made .before .before in (
+      made .make-inverse-ready .ensures,
       can-rewrite passed,
       ready-left _ _ (few told .0 .table) (told .before .before .test-opening .ensures .1),
     )
@@ -147,8 +147,8 @@ rewrite-requires c κs =
 abbrev passed-of : tie.After-rewrite → tie.After-enum-told3
 passed-of w = w .before .before .before .before
 
-sub-t44 : tie.Need-sub-t44
-sub-t44 c = counted (passed-of (c .before .before .before)) .0
+sub-t45 : tie.Need-sub-t45
+sub-t45 c = counted (passed-of (c .before .before .before)) .0
 
 row-requires : tie.Need-row-requires
 row-requires c κs =
@@ -163,17 +163,17 @@ cells-requires c κs =
     has-claim-row _ _ _ _ _ (can-rewrite passed) (four (start (passed .before .before)) .1) _ (m .0) (m .1) _
     (c .row .ensures) _ (written .rewrite .ensures)
 
-array-read-t48 : tie.Need-array-read-t48
-array-read-t48 c = search needs
+array-read-t49 : tie.Need-array-read-t49
+array-read-t49 c = search needs
 
-array-read-t51 : tie.Need-array-read-t51
-array-read-t51 c = search needs
+array-read-t52 : tie.Need-array-read-t52
+array-read-t52 c = search needs
 
-array-read-t54 : tie.Need-array-read-t54
-array-read-t54 c = search needs
+array-read-t55 : tie.Need-array-read-t55
+array-read-t55 c = search needs
 
-array-read-t57 : tie.Need-array-read-t57
-array-read-t57 c = search needs
+array-read-t58 : tie.Need-array-read-t58
+array-read-t58 c = search needs
 
 enum-known-answer : tie.Need-enum-known-answer
 enum-known-answer c = search needs
@@ -218,7 +218,7 @@ edit-spec =
     refusal-requires
     same-length
     returns
-    back-ready-requires
+    make-inverse-ready-requires
     slice-aggregate-test-edit
     slice-aggregate-test-edit-2
     slice-aggregate-test-edit-3
@@ -227,13 +227,13 @@ edit-spec =
     slice-aggregate-rewrite
     slice-aggregate-rewrite-2
     rewrite-requires
-    sub-t44
+    sub-t45
     row-requires
     cells-requires
-    array-read-t48
-    array-read-t51
-    array-read-t54
-    array-read-t57
+    array-read-t49
+    array-read-t52
+    array-read-t55
+    array-read-t58
     enum-known-answer
     same-length-2
     returns-2

@@ -70,28 +70,28 @@ add-if1 c = omega (arith, few c .1)
 returns-2 : tie.Need-returns-2
 returns-2 c = turned-back _ _ _ _ _ (opened (c .before) (unless-refused _ (ne-eqb _ _ (c .if1 .taken)) refl))
 
-back-ready-requires : tie.Need-back-ready-requires
-back-ready-requires c κs = few (c .before) .0 .table
+make-inverse-ready-requires : tie.Need-make-inverse-ready-requires
+make-inverse-ready-requires c κs = (few (c .before .before) .0 .table, refl)
 
 slice-aggregate-test-trace : tie.Need-slice-aggregate-test-trace
 slice-aggregate-test-trace c =
-    let told = c .before .before .before in
+    let told = c .before .before .before .before in
     sym (ready-is _ _ (ready-left _ _ (few told .0 .table) (told .before .before .test-opening .ensures .1)) .size)
 
 slice-aggregate-test-trace-2 : tie.Need-slice-aggregate-test-trace-2
-slice-aggregate-test-trace-2 c = sym (back-is _ _ (c .before .before .back-ready .ensures) .size)
+slice-aggregate-test-trace-2 c = sym (back-is _ _ (c .before .before .make-inverse-ready .ensures) .size)
 
 test-trace-requires : tie.Need-test-trace-requires
 test-trace-requires c κs =
     let made = c .before .before .before in
-    let told = made .before .before in
+    let told = made .before .before .before in
     let s = few told in (
       s .0 .table,
       s .0 .size,
       s .0 .high,
       s .1,
       ready-left _ _ (s .0 .table) (told .before .before .test-opening .ensures .1),
-      made .back-ready .ensures,
+      made .make-inverse-ready .ensures,
     )
 
 enum-told-3 : tie.Need-enum-told-3
@@ -100,9 +100,12 @@ enum-told-3 c = search needs
 enum-told-4 : tie.Need-enum-told-4
 enum-told-4 c = search needs
 
--- where the destination's length is right, from where the last tests have answered
+-- from where the last tests have answered: where the inverse is made ready, and where the destination's length is right
+abbrev made-of : tie.After-test-trace → tie.After-make-inverse-ready
+made-of t = t .before .before .before .before
+
 abbrev room : tie.After-test-trace → tie.Else1
-room t = t .before .before .before .before .before
+room t = made-of t .before .before
 
 abbrev start : tie.After-test-trace → tie.Start
 start t = entry (room t .before .before .before)
@@ -132,14 +135,14 @@ passes c =
     accepted (a .table .now) (a .trace .now) (a .t3) (a .destination .now) (a .c) (answered t) (c .enum-told3 .given .1)
 
 slice-aggregate-write-taps : tie.Need-slice-aggregate-write-taps
-slice-aggregate-write-taps c = omega arith
+slice-aggregate-write-taps c = sym (back-is _ _ (made-of (c .before .before .before) .make-inverse-ready .ensures) .size)
 
 write-taps-requires : tie.Need-write-taps-requires
 write-taps-requires c κs =
     let told = c .before .before in
     let i = read-off-inputs _ _ _ _ _ (passes told) in
     let o = i .1 .opening in (
-      told .before .before .before .before .before .before .back-ready .ensures,
+      made-of (told .before .before) .make-inverse-ready .ensures,
       o .table,
       i .1 .canonical,
       o .size,
@@ -174,7 +177,7 @@ read-off-spec =
     mul-if1
     add-if1
     returns-2
-    back-ready-requires
+    make-inverse-ready-requires
     slice-aggregate-test-trace
     slice-aggregate-test-trace-2
     test-trace-requires

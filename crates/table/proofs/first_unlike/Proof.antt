@@ -1,32 +1,28 @@
--- `table::first_unlike`: the product is of M and the stored inverse, and the cells passed are those of the identity.
+-- `table::first_unlike`: the product is of M and the stored inverse, and the rows passed are those of the identity.
 -- Assumes nothing.
 use mathlib.Core.Path.{_≡_, sym, ap, _∙_, subst}
 use mathlib.Core.Bool.{false}
 use mathlib.Core.List.{List}
-use Prim.Native.Nat.{ℕ, _+_, _*_, _-_, _/_, _%_, _≤_, _<_}
+use Prim.Native.Nat.{ℕ, _*_, _-_, _≤_, _<_}
 use native.Mathlib.Omega.{arith}
-use borrow.Author.Count.{below-more}
 use lib.ListN.{length}
-use Rattle.lists.specs.Lists.{cell, tab}
-use Rattle.field.specs.Field.{P}
-use Rattle.field.specs.MontgomeryHelpers.{unitSquare}
+use Rattle.lists.specs.Lists.{tab}
+use Rattle.lists.proofs.Tab.{length-tab}
 use Rattle.words.specs.Words.{AllCanonical}
-use Rattle.matrix.specs.Matrix.{matrixWords, product, entry as entry-of}
-use Rattle.table.specs.Table.{matrixOf, inverseOf, unlike}
+use Rattle.matrix.specs.Matrix.{matrixWords}
+use Rattle.table.specs.Table.{inverseOf, unlike}
 use Rattle.table.proofs.Parts.{length-inverse, inverse-canonical}
 use Rattle.table.proofs.Ready.{ready-is}
-use Rattle.table.proofs.Tested.{byColumns, at-cell, unlike-yes, unlike-no, stops, passes}
+use Rattle.table.proofs.Tested.{byColumns, unlike-within, row-stops, row-passes, passes}
 use borrow.Author.Needs.{needs}
 use Rattle.table.proofs.first_unlike.Statement.{statement}
 use Rattle.table.proofs.first_unlike.Tie as tie
 
 abbrev Inv-loop : tie.InvT-loop
-Inv-loop ready table product c₀ c =
-    (c ≤ 144) × ((d : ℕ) → d < c → unlike table d ≡ false)
+Inv-loop ready table product row₀ row = (row ≤ 12) × ((d : ℕ) → d < 12 * row → unlike table d ≡ false)
 
 abbrev μ-loop : tie.MeasureT-loop
-μ-loop ready table product c₀ c =
-    144 - c
+μ-loop ready table product row₀ row = 12 - row
 
 inverse-requires : tie.Need-inverse-requires Inv-loop μ-loop
 inverse-requires c κs = search needs
@@ -45,64 +41,49 @@ product-columns-requires c κs =
 abbrev entry : tie.After-product-columns Inv-loop μ-loop → tie.Start Inv-loop μ-loop
 entry made = made .before .before .before .before
 
-abbrev table-of : tie.After-product-columns Inv-loop μ-loop → List ℕ
-table-of made = entry made .args .table .now
-
--- the product's cells are those of M times the stored inverse, times 2^128
-value-at : (made : tie.After-product-columns Inv-loop μ-loop) (c : ℕ) → c < 144 → let t = table-of made in
-    cell (made .product-columns .result) (12 * (c % 12) + c / 12)
-    ≡ (product 12 (entry-of (matrixOf t)) (entry-of (inverseOf t)) (c / 12) (c % 12) * unitSquare) % P
-value-at made c h =
-    let s = entry made in
-    at-cell (s .args .table .now) (s .args .ready .now) (inverseOf (s .args .table .now)) _ c (s .pre .2) h
-    (made .product-columns .ensures
-    ∙ ap (λ n. tab matrixWords (byColumns (s .args .ready .now) n)) (made .before .inverse .ensures))
+-- the product, by columns
+product-is : (made : tie.After-product-columns Inv-loop μ-loop) → let a = entry made .args in
+    made .product-columns .result ≡ tab 144 (byColumns (a .ready .now) (inverseOf (a .table .now)))
+product-is made =
+    made .product-columns .ensures
+    ∙ ap (λ n. tab matrixWords (byColumns (entry made .args .ready .now) n)) (made .before .inverse .ensures)
 
 loop-holds : tie.Need-loop-holds Inv-loop μ-loop
-loop-holds c =
-    (omega arith, λ d h. absurd (omega arith))
+loop-holds c = (omega arith, λ d h. absurd (omega arith))
 
-mul-if1 : tie.Need-mul-if1 Inv-loop μ-loop
-mul-if1 c = search needs
+unlike-in-row-requires : tie.Need-unlike-in-row-requires Inv-loop μ-loop
+unlike-in-row-requires c κs =
+    let made = c .before .before .before in
+    (ap length (product-is made) ∙ length-tab 144 _, omega arith)
 
-add-if1 : tie.Need-add-if1 Inv-loop μ-loop
-add-if1 c = search needs
+mul-result : tie.Need-mul-result Inv-loop μ-loop
+mul-result c = search needs
 
-mul-if1-2 : tie.Need-mul-if1-2 Inv-loop μ-loop
-mul-if1-2 c = search needs
-
-array-read-if1 : tie.Need-array-read-if1 Inv-loop μ-loop
-array-read-if1 c = search needs
-
-identity-requires : tie.Need-identity-requires Inv-loop μ-loop
-identity-requires c κs =
-    search needs
+add-result : tie.Need-add-result Inv-loop μ-loop
+add-result c = omega (arith, subst (λ k. k ≤ 12) (sym (c .before .unlike-in-row .ensures)) (unlike-within _ _))
 
 returns : tie.Need-returns Inv-loop μ-loop
 returns c =
-    let head = c .before .before .before in
+    let found = c .before in
+    let head = found .before .before .before in
     let made = head .before in
-    let t = table-of made in
-    let l = head .loop in
-    let value = value-at made (l .c) (omega arith) in
-    stops t (l .c) (omega arith) (l .inv .1)
-    (unlike-yes t (l .c) _ _ value (c .before .identity .ensures) (c .if1 .taken))
+    row-stops _ _ _ (entry made .pre .2) (product-is made) (head .loop .row) (omega arith) (head .loop .inv .1) _
+    (found .unlike-in-row .ensures) (c .if1 .taken)
 
-add-c : tie.Need-add-c Inv-loop μ-loop
-add-c c = search needs
+add-row : tie.Need-add-row Inv-loop μ-loop
+add-row c = search needs
 
 loop-less : tie.Need-loop-less Inv-loop μ-loop
 loop-less c = search needs
 
 loop-again : tie.Need-loop-again Inv-loop μ-loop
 loop-again c =
-    let head = c .before .before .before in
-    let made = head .before in
-    let t = table-of made in
-    let l = head .loop in
-    let value = value-at made (l .c) (omega arith) in (
+    let found = c .before in
+    let head = found .before .before .before in
+    let made = head .before in (
       omega arith,
-      below-more _ _ (l .inv .1) (unlike-no t (l .c) _ _ value (c .before .identity .ensures) (c .if1 .left)),
+      row-passes _ _ _ (entry made .pre .2) (product-is made) (head .loop .row) (omega arith) (head .loop .inv .1) _
+          (found .unlike-in-row .ensures) (c .if1 .left),
     )
 
 returns-2 : tie.Need-returns-2 Inv-loop μ-loop
@@ -117,13 +98,11 @@ first-unlike-spec =
     inverse-requires
     product-columns-requires
     loop-holds
-    mul-if1
-    add-if1
-    mul-if1-2
-    array-read-if1
-    identity-requires
+    unlike-in-row-requires
+    mul-result
+    add-result
     returns
-    add-c
+    add-row
     loop-less
     loop-again
     returns-2)

@@ -1,63 +1,66 @@
--- `table::test_and_ready`: each return is the case of the definition that the tests before it left, and only an accepted
--- table leaves M made ready.
+-- `table::test_and_ready`: each return is the case of the definition that the tests before it left; M is made ready
+-- where the table's words are canonical.
 -- Assumes nothing.
-use mathlib.Core.Path.{refl, sym, _∙_}
+use mathlib.Core.Path.{_≡_, sym, _∙_}
+use lib.ListN.{length}
+use Rattle.words.specs.Words.{AllCanonical, firstBad}
 use Rattle.words.proofs.Laws.{good-all}
-use Rattle.refusals.proofs.Laws.{leaves-old, leaves-new}
-use Rattle.table.specs.ReadyHelpers.{readyLeft}
-use Rattle.table.proofs.Ready.{ready-is}
+use Rattle.table.specs.Table.{tableWords}
+use Rattle.table.proofs.Tested.{kept-at-1, kept-at-2, made-ready}
 use Rattle.table.proofs.Tested.{wrong-length, wrong-word, wrong-cell, accepted}
 use borrow.Author.Needs.{needs}
 use Rattle.table.proofs.test_and_ready.Statement.{statement}
 use Rattle.table.proofs.test_and_ready.Tie as tie
 
 returns : tie.Need-returns
-unfolding readyLeft
-returns c =
-    let e = wrong-length _ (c .if1 .taken) in
-    (e, leaves-old e _ refl)
+returns c = (wrong-length _ (c .if1 .taken), kept-at-1 _ _ (c .if1 .taken))
 
 first-bad-requires : tie.Need-first-bad-requires
 first-bad-requires c κs = search needs
 
 returns-2 : tie.Need-returns-2
-unfolding readyLeft
 returns-2 c =
-    let e = wrong-word _ (c .before .before .if1 .left) _ (c .before .first-bad .ensures) (c .if2 .taken) in
-    (e, leaves-old e _ refl)
-
-matrix-ready-requires : tie.Need-matrix-ready-requires
-matrix-ready-requires c κs =
     let size = c .before .before .if1 .left in
-    (size, good-all _ (sym (c .before .first-bad .ensures) ∙ c .if2 .left ∙ sym size))
+    let bad = c .before .first-bad .ensures in
+    (wrong-word _ size _ bad (c .if2 .taken), kept-at-2 _ _ size (λ e. c .if2 .taken (bad ∙ e)))
 
-slice-aggregate-first-unlike : tie.Need-slice-aggregate-first-unlike
-slice-aggregate-first-unlike c = sym (ready-is _ _ (c .before .matrix-ready .ensures) .size)
+-- the function's entry, from where length and words are right, and what is known then
+abbrev entry : tie.Else2 → tie.Start
+entry c = c .before .before .before .before
+
+known : (c : tie.Else2) → let t = entry c .args .table .now in
+    (length t ≡ tableWords) × (firstBad t ≡ tableWords) × AllCanonical t
+known c =
+    let size = c .before .before .if1 .left in
+    let good = sym (c .before .first-bad .ensures) ∙ c .if2 .left in
+    (size, good, good-all _ (good ∙ sym size))
+
+make-ready-requires : tie.Need-make-ready-requires
+make-ready-requires c κs =
+    let k = known (c .before) in
+    (k .0, k .2, entry (c .before) .pre)
 
 first-unlike-requires : tie.Need-first-unlike-requires
 first-unlike-requires c κs =
-    let b = c .before .before in
-    let size = b .before .before .if1 .left in (
-      size,
-      good-all _ (sym (b .before .first-bad .ensures) ∙ b .if2 .left ∙ sym size),
-      c .before .matrix-ready .ensures,
-    )
+    let made = c .before .before in
+    let k = known (made .before .before) in
+    (k .0, k .2, made .make-ready .ensures)
 
 returns-3 : tie.Need-returns-3
-unfolding readyLeft
 returns-3 c =
-    let b = c .before .before .before .before in
-    let e = wrong-cell _ (b .before .before .if1 .left) (sym (b .before .first-bad .ensures) ∙ b .if2 .left) _
-    (c .before .first-unlike .ensures) (c .if3 .taken) in
-    (e, leaves-old e _ refl)
+    let made = c .before .before .before .before in
+    let k = known (made .before .before) in (
+      wrong-cell _ (k .0) (k .1) _ (c .before .first-unlike .ensures) (c .if3 .taken),
+      made .make-ready .ensures ∙ made-ready _ _ (k .0) (k .1),
+    )
 
 returns-4 : tie.Need-returns-4
-unfolding readyLeft
 returns-4 c =
-    let b = c .before .before .before .before in
-    let e = accepted _ (b .before .before .if1 .left) (sym (b .before .first-bad .ensures) ∙ b .if2 .left)
-    (sym (c .before .first-unlike .ensures) ∙ c .if3 .left) in
-    (e, leaves-new e _ refl (c .before .before .before .matrix-ready .ensures))
+    let made = c .before .before .before .before in
+    let k = known (made .before .before) in (
+      accepted _ (k .0) (k .1) (sym (c .before .first-unlike .ensures) ∙ c .if3 .left),
+      made .make-ready .ensures ∙ made-ready _ _ (k .0) (k .1),
+    )
 
 pub test-and-ready-spec : {M : Type 1} → statement M
 test-and-ready-spec =
@@ -66,8 +69,7 @@ test-and-ready-spec =
     returns
     first-bad-requires
     returns-2
-    matrix-ready-requires
-    slice-aggregate-first-unlike
+    make-ready-requires
     first-unlike-requires
     returns-3
     returns-4)

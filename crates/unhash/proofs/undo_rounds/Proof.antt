@@ -14,18 +14,15 @@ use Rattle.unhash.proofs.undo_rounds.Statement.{statement}
 use Rattle.unhash.proofs.undo_rounds.Tie as tie
 
 abbrev Inv-loop : tie.InvT-loop
-Inv-loop table inverse state₀ undone₀ state undone =
+Inv-loop inverse table state₀ undone₀ state undone =
     (undone ≤ 10) × CanonicalTo 12 state × (roundsUndone table (10 - undone) state ≡ roundsUndone table 10 state₀)
 
 abbrev μ-loop : tie.MeasureT-loop
-μ-loop table inverse state₀ undone₀ state undone = 10 - undone
+μ-loop inverse table state₀ undone₀ state undone = 10 - undone
 
 -- the function's entry, from the loop's head
 abbrev entry : tie.At-loop Inv-loop μ-loop → tie.Start Inv-loop μ-loop
 entry head = head .before .before .before
-
-back-ready-requires : tie.Need-back-ready-requires Inv-loop μ-loop
-back-ready-requires c κs = search needs
 
 loop-holds : tie.Need-loop-holds Inv-loop μ-loop
 loop-holds c = (omega arith, c .before .before .pre .1, refl)
@@ -33,24 +30,18 @@ loop-holds c = (omega arith, c .before .before .pre .1, refl)
 sub-round : tie.Need-sub-round Inv-loop μ-loop
 sub-round c = search needs
 
-slice-aggregate-undo-second-step : tie.Need-slice-aggregate-undo-second-step Inv-loop μ-loop
-slice-aggregate-undo-second-step c = search needs
-
 undo-second-step-requires : tie.Need-undo-second-step-requires Inv-loop μ-loop
 undo-second-step-requires c κs =
-    let head = c .before .before in
-    (entry head .pre .0, omega arith, head .loop .inv .1, head .before .back-ready .ensures)
-
-slice-aggregate-back-step : tie.Need-slice-aggregate-back-step Inv-loop μ-loop
-slice-aggregate-back-step c = search needs
+    let head = c .before in
+    (entry head .pre .0, omega arith, head .loop .inv .1, entry head .pre .2)
 
 back-step-requires : tie.Need-back-step-requires Inv-loop μ-loop
 back-step-requires c κs =
-    let head = c .before .before .before .before in (
+    let head = c .before .before in (
       entry head .pre .0,
-      head .before .back-ready .ensures,
+      entry head .pre .2,
       omega arith,
-      canonical-state (c .before .undo-second-step .ensures) (secondStepUndone-state _ _ _),
+      canonical-state (c .undo-second-step .ensures) (secondStepUndone-state _ _ _),
     )
 
 add-undone : tie.Need-add-undone Inv-loop μ-loop
@@ -62,8 +53,8 @@ loop-less c = search needs
 loop-again : tie.Need-loop-again Inv-loop μ-loop
 unfolding roundsUndone roundUndone
 loop-again c =
-    let middle = c .before .before in
-    let head = middle .before .before .before in
+    let middle = c .before in
+    let head = middle .before .before in
     let T = entry head .args .table .now in
     let undone = head .loop .undone in
     let left : 10 - (undone + 1) ≡ 9 - undone = omega arith in
@@ -89,12 +80,9 @@ undo-rounds-spec =
     (tie.spec
     Inv-loop
     μ-loop
-    back-ready-requires
     loop-holds
     sub-round
-    slice-aggregate-undo-second-step
     undo-second-step-requires
-    slice-aggregate-back-step
     back-step-requires
     add-undone
     loop-less

@@ -19,7 +19,7 @@ less-second-step-requires c κs = search needs
 mix-requires : tie.Need-mix-requires
 mix-requires c κs =
     let start = c .before .before .before in
-    (back-is (start .args .table .now) (start .args .ready .now) (start .pre .3), c .less-second-step .ensures .1)
+    (back-is (start .args .table .now) (start .args .inverse .now) (start .pre .3), c .less-second-step .ensures .1)
 
 scaled-roots-requires : tie.Need-scaled-roots-requires
 scaled-roots-requires c κs = (c .mix .ensures .1, omega arith)
@@ -31,7 +31,7 @@ returns c =
     let less = multiplied .before in
     let start = less .before .before .before in
     let T = start .args .table .now in
-    undone-roots T (start .args .ready .now) (less .less-second-step .result) (multiplied .mix .result) _
+    undone-roots T (start .args .inverse .now) (less .less-second-step .result) (multiplied .mix .result) _
     (start .pre .3) (multiplied .mix .ensures .0) (c .scaled-roots .ensures .0)
     ∙ ap (λ x. roots (times (inverseOf T) x)) (less .less-second-step .ensures .0)
 

@@ -8,10 +8,13 @@ use borrow.Author.Needs.{needs}
 use borrow.Author.Tests.{not-true, not-false}
 use Rattle.words.specs.Words.{AllCanonical}
 use Rattle.table.specs.Table.{initialConstant}
+use Rattle.table.proofs.Ready.{ready-is}
+use Rattle.table.proofs.Theorems.{ready-left}
 use Rattle.hash.proofs.States.{IsState, state-cell}
 use Rattle.hash.proofs.CodeStates.{canonical-state}
-use Rattle.hash.proofs.Answers.{hash-inputs}
+use Rattle.hash.proofs.Answers.{HashInputs, hash-inputs}
 use Rattle.constraints.specs.Constraints.{minus}
+use Rattle.steps.proofs.Made.{back-is}
 use Rattle.unhash.specs.Unhash.{roundsUndone, inputBefore}
 use Rattle.unhash.proofs.Rounds.{roundsUndone-state}
 use Rattle.unhash.proofs.Answers.{unhash-turned-back, unhash-none, unhash-found}
@@ -42,21 +45,43 @@ returns : tie.Need-returns
 returns c = unhash-turned-back _ _ (c .before .before .before .test-hash .ensures .0) (c .refusal .ensures)
 
 -- the cells that passed are a state
-given : (entry : tie.Start) → AllCanonical (entry .args .t2) → IsState (entry .args .t2)
-given entry a = record { size = search needs; canonical = a }
+given : (start : tie.Start) → AllCanonical (start .args .t2) → IsState (start .args .t2)
+given start a = record { size = search needs; canonical = a }
+
+-- the function's entry, from where the tests have answered
+abbrev entry : tie.After-test-hash → tie.Start
+entry t = t .before .before .before .before
+
+-- what they say where they pass
+inputs : (c : tie.After-enum-told) → let a = entry (c .before .before) .args in HashInputs (a .table .now) (a .t2)
+inputs c = hash-inputs _ _ (sym (c .before .before .test-hash .ensures .0) ∙ c .enum-told .given .1)
+
+make-inverse-ready-requires : tie.Need-make-inverse-ready-requires
+make-inverse-ready-requires c κs =
+    let told = c .before in
+    let table = inputs told .table in
+    (table, ready-is _ _ (ready-left _ _ table (told .before .before .test-hash .ensures .1)) .size)
+
+slice-aggregate-undo-rounds : tie.Need-slice-aggregate-undo-rounds
+slice-aggregate-undo-rounds c = sym (back-is _ _ (c .before .make-inverse-ready .ensures) .size)
 
 undo-rounds-requires : tie.Need-undo-rounds-requires
 undo-rounds-requires c κs =
-    let t = c .before .before in
-    let i = hash-inputs _ _ (sym (t .test-hash .ensures .0) ∙ c .enum-told .given .1) in
-    (i .table, λ j l. state-cell (given (t .before .before .before .before) (i .canonical)) j)
+    let made = c .before in
+    let told = made .before .before in
+    let i = inputs told in
+    let start = given (entry (told .before .before)) (i .canonical) in
+    (i .table, λ j l. state-cell start j, made .make-inverse-ready .ensures)
+
+-- where the tests have passed, from where the rounds are undone
+abbrev told-of : tie.After-undo-rounds → tie.After-enum-told
+told-of c = c .before .before .before .before
 
 less-initial-requires : tie.Need-less-initial-requires
 less-initial-requires c κs =
-    let told = c .before in
-    let t = told .before .before in
-    let i = hash-inputs _ _ (sym (t .test-hash .ensures .0) ∙ told .enum-told .given .1) in
-    let start = given (t .before .before .before .before) (i .canonical) in
+    let told = told-of c in
+    let i = inputs told in
+    let start = given (entry (told .before .before)) (i .canonical) in
     (i .table, canonical-state (c .undo-rounds .ensures) (roundsUndone-state _ 10 start))
 
 ends-in-zeros-requires : tie.Need-ends-in-zeros-requires
@@ -67,7 +92,7 @@ returns-2 c =
     let tested = c .before in
     let found = tested .before in
     let undone = found .before in
-    let told = undone .before in
+    let told = told-of undone in
     unhash-none _ _ (told .before .before .test-hash .ensures .0) (told .enum-told .given .1)
     (input-is _ _ (found .less-initial .ensures) (undone .undo-rounds .ensures))
     (sym (tested .ends-in-zeros .ensures) ∙ not-true _ (c .if1 .taken))
@@ -80,7 +105,7 @@ returns-3 c =
     let tested = c .before .before in
     let found = tested .before in
     let undone = found .before in
-    let told = undone .before in
+    let told = told-of undone in
     unhash-found _ _ (told .before .before .test-hash .ensures .0) (told .enum-told .given .1)
     (input-is _ _ (found .less-initial .ensures) (undone .undo-rounds .ensures))
     (sym (tested .ends-in-zeros .ensures) ∙ not-false _ (c .before .if1 .left)) (c .of .ensures)
@@ -95,6 +120,8 @@ unhash-spec =
     enum-told-2
     refusal-requires
     returns
+    make-inverse-ready-requires
+    slice-aggregate-undo-rounds
     undo-rounds-requires
     less-initial-requires
     ends-in-zeros-requires

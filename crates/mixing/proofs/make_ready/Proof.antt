@@ -1,4 +1,4 @@
--- `mixing::ready`: the columns passed are stored, each with its weight, and then 2^31 times it.
+-- `mixing::make_ready`: the columns passed are stored, each with its weight, and then 2^31 times it.
 -- Assumes nothing.
 use mathlib.Core.Path.{_≡_, refl, ap, _∙_}
 use Prim.Native.Nat.{ℕ, _+_, _*_, _-_, _%_, _^_, _<_, _≤_}
@@ -15,14 +15,14 @@ use Rattle.sums.specs.Sums.{weight}
 use Rattle.matrix.specs.Matrix.{entry}
 use Rattle.mixing.specs.MixingHelpers.{weightedEntry}
 use Rattle.mixing.proofs.ReadyWords.{storedTo, none-stored, next-stored, all-stored}
-use Rattle.mixing.proofs.ready.Statement.{statement}
-use Rattle.mixing.proofs.ready.Tie as tie
+use Rattle.mixing.proofs.make_ready.Statement.{statement}
+use Rattle.mixing.proofs.make_ready.Tie as tie
 
 abbrev Inv-loop : tie.InvT-loop
-Inv-loop m scale q factors out₀ j₀ out j = (j ≤ 12) × (length out ≡ 288) × (out ≡ storedTo m scale j)
+Inv-loop m scale out₀ q factors j₀ out j = (j ≤ 12) × (length out ≡ 288) × (out ≡ storedTo m scale out₀ j)
 
 abbrev μ-loop : tie.MeasureT-loop
-μ-loop m scale q factors out₀ j₀ out j = 12 - j
+μ-loop m scale out₀ q factors j₀ out j = 12 - j
 
 shared-slice-read-quotient : tie.Need-shared-slice-read-quotient Inv-loop μ-loop
 shared-slice-read-quotient c = search needs
@@ -36,7 +36,7 @@ weighted-requires c κs =
     (same-canonical 12 (start .args .scale) (start .pre .2), c .quotient .ensures)
 
 loop-holds : tie.Need-loop-holds Inv-loop μ-loop
-loop-holds c = (omega arith, refl, none-stored _ _)
+loop-holds c = (omega arith, c .before .before .before .before .pre .3, none-stored _ _ _)
 
 mul-scaled-column : tie.Need-mul-scaled-column Inv-loop μ-loop
 mul-scaled-column c = search needs
@@ -109,7 +109,7 @@ loop-again c =
     ∙ ap (λ l. sets l (24 * j + 12) (tab 12 (cell (raised .raised .result)))) (first .store .ensures) in (
       omega arith,
       ap length e ∙ length-sets _ _ (tab 12 _) ∙ length-sets _ _ (tab 12 _) ∙ head .loop .inv .1,
-      e ∙ next-stored m scale j (head .loop .out) (column .scaled-column .result) (raised .raised .result)
+      e ∙ next-stored m scale (start made .args .out .now) j (head .loop .out) (column .scaled-column .result) (raised .raised .result)
           (head .loop .inv .2) low high,
     )
 
@@ -120,10 +120,11 @@ returns c =
     let m = start made .args .m .now in
     let scale = start made .args .scale in
     let e : head .loop .j ≡ 12 = omega arith in
-    head .loop .inv .2 ∙ ap (storedTo m scale) e ∙ all-stored m scale
+    let room = start made .args .out .now in
+    head .loop .inv .2 ∙ ap (storedTo m scale room) e ∙ all-stored m scale room (start made .pre .3)
 
-pub ready-spec : {M : Type 1} → statement M
-ready-spec =
+pub make-ready-spec : {M : Type 1} → statement M
+make-ready-spec =
     tie.close
     (tie.spec
     Inv-loop

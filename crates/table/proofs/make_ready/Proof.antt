@@ -1,4 +1,4 @@
--- `table::matrix_ready`: M's 144 words lie in the table and are canonical; they are made ready with the scale.
+-- `table::make_ready`: M's 144 words lie in the table and are canonical; they are made ready with the scale.
 -- Assumes nothing.
 use mathlib.Core.Path.{sym, ap, _∙_, subst}
 use native.Mathlib.Omega.{arith}
@@ -8,25 +8,26 @@ use Rattle.words.specs.Words.{AllCanonical}
 use Rattle.mixing.specs.MixingHelpers.{ready}
 use Rattle.table.specs.ReadyHelpers.{matrixScale, matrixReady}
 use Rattle.table.proofs.Parts.{length-matrix, matrix-canonical}
-use Rattle.table.proofs.matrix_ready.Statement.{statement}
-use Rattle.table.proofs.matrix_ready.Tie as tie
+use Rattle.table.proofs.make_ready.Statement.{statement}
+use Rattle.table.proofs.make_ready.Tie as tie
 
 matrix-requires : tie.Need-matrix-requires
 matrix-requires c κs = search needs
 
-ready-requires : tie.Need-ready-requires
-ready-requires c κs =
-    let a = c .before .before in
+make-ready-requires : tie.Need-make-ready-requires
+make-ready-requires c κs =
+    let a = c .before .before .before in
     let t = a .args .table .now in
-    let m = c .matrix .ensures in (
+    let m = c .before .matrix .ensures in (
       ap length m ∙ length-matrix t (a .pre .0),
       subst AllCanonical (sym m) (matrix-canonical t (a .pre .0) (a .pre .1)),
       omega arith,
+      a .pre .2,
     )
 
 returns : tie.Need-returns
 unfolding matrixReady
-returns c = c .ready .ensures ∙ ap (λ m. ready m matrixScale) (c .before .matrix .ensures)
+returns c = c .make-ready .ensures ∙ ap (λ m. ready m matrixScale) (c .before .before .matrix .ensures)
 
-pub matrix-ready-spec : {M : Type 1} → statement M
-matrix-ready-spec = tie.close (tie.spec matrix-requires ready-requires returns)
+pub make-ready-spec : {M : Type 1} → statement M
+make-ready-spec = tie.close (tie.spec matrix-requires make-ready-requires returns)
