@@ -10,23 +10,15 @@ cd "$(dirname "$0")/.."
 work=$(mktemp -d)
 trap 'rm -rf "$work"' EXIT
 library=target/staticlib/libexport.a
+. tests/common/archive.sh
 
 fail() {
     echo "tests/season.sh: $*" >&2
     exit 1
 }
 
-# ---- what the library asks for: to fill, copy and compare memory that is there, and nothing else
-nm "$library" >"$work/symbols"
-# a line of nm is address, type and name, and has no address where the name is asked for
-awk 'NF == 3 { defined[$3] = 1 } NF == 2 { asked[$2] = 1 }
-    END { for (name in asked) if (!(name in defined)) print name }' "$work/symbols" | sort >"$work/asked"
-grep -q ' lemoncolumn_build$' "$work/symbols" || fail "$library has no lemoncolumn_build"
-others=$(grep -vxE 'mem(set|cpy|move|cmp)' "$work/asked" | tr '\n' ' ')
-[ -z "$others" ] || fail "the library asks for $others"
-# b, c and d: memory that can be written
-written=$(awk '$2 ~ /^[BbCcDd]$/ { print $3 }' "$work/symbols" | tr '\n' ' ')
-[ -z "$written" ] || fail "the library has memory of its own: $written"
+# ---- what the library asks for, and what memory it has
+alone "$library"
 
 # ---- full size
 (cd rust && cargo run --quiet --release --offline -p bench season) >"$work/table"
