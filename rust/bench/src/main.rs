@@ -1,16 +1,20 @@
 //! The proved library's time beside that of the second implementation (a), of the
 //! yardstick (b), and of the yardstick that reduces late (c), as ratios of one run.
 //!
-//!     rt staticlib export && rt staticlib probes
-//!     cargo run --release --offline -p bench
+//!     rt staticlib export && rt staticlib probes && tools/staticlib-for x86-64-v3
+//!     cd rust && cargo run --release --offline -p bench
 //!
-//! prints the tables of README.md, "Speed". A further operation gets its row, with
-//! its goal, in the list of `operations` or in `field`; one that alters what is
-//! lent to it, as Edit does, in `edits`. Unhash, whose goal goes by Hash, is in
-//! `unhash`, claims that end before the rows do in `claims`, the short edition of the
-//! board file, whose goals go by the full one, in `short`, the converters between the
-//! two, whose goals go by unpacking and packing, in `converters`, and all of them at the
-//! largest k, whose goals go by k = 1024, in `season`.
+//! prints the tables of README.md, "Speed". The last of the three archives, linked by
+//! `newer`, is for the columns of the first table that have its name; without it, or on a
+//! processor of a lower level, they are empty.
+//!
+//! A further operation gets its row, with its goals, in the list of `operations` or in
+//! `field`; one that alters what is lent to it, as Edit does, in `edits`. Unhash, whose
+//! goal goes by the hash of (b), is in `unhash`, claims that end before the rows do in
+//! `claims`, the short edition of the board file, whose goals go by the full one, in
+//! `short`, the converters between the two, whose goals go by unpacking and packing, in
+//! `converters`, and all of them at the largest k, whose goals go by k = 1024, in
+//! `season`.
 //!
 //!     cargo run --release --offline -p bench season
 //!
@@ -26,6 +30,7 @@ mod converters;
 mod editions;
 mod edits;
 mod field;
+mod newer;
 mod operations;
 mod season;
 mod short;

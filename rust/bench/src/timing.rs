@@ -109,83 +109,126 @@ pub fn times(ways: &mut [Way]) -> Vec<f64> {
 }
 
 /// The shortest times of an operation: of the proved library, of the second
-/// implementation (a), and of the yardsticks (b) and (c) where they have it.
+/// implementation (a), of the yardsticks (b) and (c), and of the proved library for
+/// x86-64-v3, as far as they have it.
 struct Times(Vec<f64>);
 
+/// Places among them.
+const PROVED: usize = 0;
+const NEWER: usize = 4;
+
 impl Times {
-    /// The proved library's time, of that of another.
-    fn of(&self, other: usize) -> Option<f64> {
-        self.0.get(other).map(|time| self.0[0] / time)
+    /// The time of one, of that of another.
+    fn ratio(&self, one: usize, other: usize) -> Option<f64> {
+        Some(self.0.get(one)? / self.0.get(other)?)
     }
 }
 
 /// The most that an operation should take, as a ratio to the time of another
-/// implementation, which has this place among the times and this letter, on the
-/// inputs from this number on.
+/// implementation, which has this place among the times and this letter: on the first
+/// day, which is so short that the table takes a good part, and on the longer ones.
 #[derive(Clone, Copy)]
-pub struct Goal {
-    most: f64,
+struct Goal {
+    first: f64,
+    longer: f64,
     place: usize,
     letter: char,
-    from: usize,
 }
 
 impl Goal {
-    pub fn of_second(most: f64) -> Goal {
+    fn of_yardstick(first: f64, longer: f64) -> Goal {
         Goal {
-            most,
-            place: 1,
-            letter: 'a',
-            from: 0,
-        }
-    }
-
-    pub fn of_yardstick(most: f64) -> Goal {
-        Goal {
-            most,
+            first,
+            longer,
             place: 2,
             letter: 'b',
-            from: 0,
         }
-    }
-
-    /// Not on the first day, which is so short that the table takes a good part.
-    pub fn on_long_days(self) -> Goal {
-        Goal { from: 1, ..self }
     }
 }
 
-/// A row: the times of one input, or of each of several, and the goal.
+/// What the proved library should take, and what it should for x86-64-v3.
+#[derive(Clone, Copy, Default)]
+pub struct Goals {
+    plain: Option<Goal>,
+    newer: Option<Goal>,
+}
+
+impl Goals {
+    pub fn none() -> Goals {
+        Goals::default()
+    }
+
+    pub fn of_second(most: f64) -> Goals {
+        Goals {
+            plain: Some(Goal {
+                first: most,
+                longer: most,
+                place: 1,
+                letter: 'a',
+            }),
+            newer: None,
+        }
+    }
+
+    pub fn of_yardstick(first: f64, longer: f64) -> Goals {
+        Goals {
+            plain: Some(Goal::of_yardstick(first, longer)),
+            newer: None,
+        }
+    }
+
+    /// And so much of the yardstick for x86-64-v3.
+    pub fn and_newer(self, most: f64) -> Goals {
+        Goals {
+            newer: Some(Goal::of_yardstick(most, most)),
+            ..self
+        }
+    }
+}
+
+/// A row: the times of one input, or of each of several, and the goals.
 struct Row {
     name: String,
     times: Vec<Times>,
-    goal: Option<Goal>,
+    goals: Goals,
 }
 
 impl Row {
     /// A cell, with one number for each input, or with one where all are alike.
-    fn cell(&self, number: impl Fn(&Times) -> String) -> String {
-        let mut all: Vec<String> = self.times.iter().map(number).collect();
+    fn cell(&self, number: impl Fn(&Times) -> Option<String>) -> String {
+        let numbers = self.times.iter().map(number);
+        let mut all: Vec<String> = numbers.map(Option::unwrap_or_default).collect();
         if all.iter().all(|one| *one == all[0]) {
             all.truncate(1);
         }
         all.join(" / ")
     }
 
-    fn ratio(&self, other: usize) -> String {
-        self.cell(|times| {
-            let ratio = times.of(other);
-            ratio.map_or(String::new(), |ratio| format!("{ratio:.2}"))
-        })
+    fn time(&self, of: usize) -> String {
+        self.cell(|times| times.0.get(of).map(|&time| nanoseconds(time)))
     }
 
-    fn goal(&self) -> String {
-        let Some(goal) = self.goal else {
+    fn ratio(&self, one: usize, other: usize) -> String {
+        self.cell(|times| Some(format!("{:.2}", times.ratio(one, other)?)))
+    }
+
+    /// The goal of the one that has this place among the times.
+    fn goal(&self, of: usize, goal: Option<Goal>) -> String {
+        let (Some(goal), true) = (goal, self.times[0].0.len() > of) else {
             return String::new();
         };
-        let missed = |times: &Times| times.of(goal.place).is_some_and(|ratio| ratio > goal.most);
-        let cell = format!("{:.2} of ({})", goal.most, goal.letter);
-        goal_cell(&cell, self.times[goal.from..].iter().any(missed))
+        let missed = |(day, times): (usize, &Times)| {
+            let most = if day == 0 { goal.first } else { goal.longer };
+            times.ratio(of, goal.place).is_some_and(|it| it > most)
+        };
+        let most = match goal.first == goal.longer {
+            true => format!("{:.2}", goal.first),
+            false => format!("{:.2} / {:.2}", goal.first, goal.longer),
+        };
+        goal_cell(
+            &format!("{most} of ({})", goal.letter),
+            self.times.iter().enumerate().any(missed),
+        )
     }
 }
 
@@ -221,36 +264,44 @@ impl Table {
         Table(vec![])
     }
 
-    /// Measures the proved library, the second implementation and then the
-    /// yardsticks, on each input; answers the proved library's times.
+    /// Measures the proved library, the second implementation, the yardsticks and then
+    /// the proved library for x86-64-v3, on each input; answers the proved library's
+    /// times.
     pub fn row<'a>(
         &mut self,
         name: &str,
-        goal: Option<Goal>,
+        goals: Goals,
         inputs: impl IntoIterator<Item = Vec<Way<'a>>>,
     ) -> Vec<f64> {
         let measured = inputs.into_iter().map(|mut ways| Times(times(&mut ways)));
         let row = Row {
             name: name.to_string(),
             times: measured.collect(),
-            goal,
+            goals,
         };
-        let proved = row.times.iter().map(|times| times.0[0]).collect();
+        let proved = row.times.iter().map(|times| times.0[PROVED]).collect();
         self.0.push(row);
         proved
     }
 
     pub fn print(&self) {
-        println!("| What | proved, ns | of (a) | of (b) | of (c) | goal |");
-        println!("|---|---|---|---|---|---|");
+        println!(
+            "| What | proved, ns | of (a) | of (b) | of (c) | goal \
+             | for x86-64-v3, ns | of (b) | of (c) | goal |"
+        );
+        println!("|---|---|---|---|---|---|---|---|---|---|");
         for row in &self.0 {
             let cells = [
                 row.name.clone(),
-                row.cell(|times| nanoseconds(times.0[0])),
-                row.ratio(1),
-                row.ratio(2),
-                row.ratio(3),
-                row.goal(),
+                row.time(PROVED),
+                row.ratio(PROVED, 1),
+                row.ratio(PROVED, 2),
+                row.ratio(PROVED, 3),
+                row.goal(PROVED, row.goals.plain),
+                row.time(NEWER),
+                row.ratio(NEWER, 2),
+                row.ratio(NEWER, 3),
+                row.goal(NEWER, row.goals.newer),
             ];
             let line = format!("| {} |", cells.join(" | "));
             println!("{}", line.replace("  ", " "));

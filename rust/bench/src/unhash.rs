@@ -1,21 +1,22 @@
-//! Unhash (document 02, U5), beside the proved Hash: ten rounds undone are ten rounds,
-//! so that it should take little more.
+//! Unhash (document 02, U5), beside the proved Hash and that of the yardstick (b): ten
+//! rounds undone are ten rounds, so that it should take of (b)'s what Hash should.
 
 use crate::operations::Day;
 use crate::timing::{goal_cell, nanoseconds, times, Way};
 use lemoncolumn::{Refusal, PAIR_WORDS, STATE_WORDS};
 use std::hint::black_box;
 
-/// What it may take, as a ratio to Hash.
-const GOAL: f64 = 1.1;
+/// What it may take, as a ratio to (b)'s hash.
+const GOAL: f64 = 0.53;
 
-/// The shortest times: of the proved library, of the second implementation, and of
-/// the proved Hash.
+/// The shortest times: of the proved library, of the second implementation, of the
+/// proved Hash, and of (b)'s.
 struct Row {
     name: &'static str,
     proved: f64,
     second: f64,
     hash: f64,
+    yardstick: f64,
 }
 
 /// The third table of README.md, "Speed".
@@ -56,6 +57,9 @@ fn row(
         Way::new(1, || {
             black_box(lemoncolumn::hash(black_box(table), pair)).expect("hashed");
         }),
+        Way::new(1, || {
+            black_box((yardstick::EACH.hash)(black_box(table), pair)).expect("hashed");
+        }),
     ];
     let best = times(&mut ways);
     Row {
@@ -63,19 +67,22 @@ fn row(
         proved: best[0],
         second: best[1],
         hash: best[2],
+        yardstick: best[3],
     }
 }
 
 impl Table {
     pub fn print(&self) {
-        println!("| What | proved, ns | of (a) | of Hash | goal |");
-        println!("|---|---|---|---|---|");
+        println!("| What | proved, ns | of (a) | of Hash | of (b)'s hash | goal |");
+        println!("|---|---|---|---|---|---|");
         for row in &self.0 {
             let time = nanoseconds(row.proved);
-            let (of_second, of_hash) = (row.proved / row.second, row.proved / row.hash);
-            let goal = goal_cell(&format!("{GOAL} of Hash"), of_hash > GOAL);
+            let of_second = row.proved / row.second;
+            let of_hash = row.proved / row.hash;
+            let of_yardstick = row.proved / row.yardstick;
+            let goal = goal_cell(&format!("{GOAL} of (b)'s hash"), of_yardstick > GOAL);
             println!(
-                "| {} | {time} | {of_second:.2} | {of_hash:.2} | {goal} |",
+                "| {} | {time} | {of_second:.2} | {of_hash:.2} | {of_yardstick:.2} | {goal} |",
                 row.name
             );
         }
