@@ -12,7 +12,7 @@ hash::montgomery_cubes 11
 inverse::add_row 6
 lemoncolumn_prepare 6
 mixing::mix 10
-mixing::ready 20
+mixing::make_ready 20
 roots::joined 11
 roots::scaled_roots 6
 '
@@ -26,7 +26,7 @@ hash::second_step 0
 inverse::add_row 0
 lemoncolumn_prepare 1
 mixing::mix 0
-mixing::ready 0
+mixing::make_ready 0
 roots::joined 0
 roots::scaled_roots 0
 '
