@@ -18,7 +18,7 @@ const CALLS: [&str; 5] = [
 fn main() {
     let own = path("CARGO_MANIFEST_DIR");
     let folder = own.join("../../target/staticlib");
-    // the folder, since a file that is not there would have this run each time
+    // The folder, since a file that is not there would have this run each time.
     println!("cargo:rerun-if-changed={}", folder.display());
     let library = folder.join("libprobes.a");
     assert!(
@@ -31,7 +31,9 @@ fn main() {
 
     println!("cargo:rustc-check-cfg=cfg(newer)");
     let library = folder.join("x86-64-v3/libexport.a");
-    if library.is_file() {
+    let time = |file: &Path| file.metadata().and_then(|it| it.modified()).ok();
+    // One that is older than the plain library may be of another state.
+    if library.is_file() && time(&library) >= time(&folder.join("libexport.a")) {
         link_newer(&library);
     }
 }
