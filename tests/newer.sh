@@ -18,8 +18,10 @@ fail() {
     exit 1
 }
 
-# ---- what x86-64-v3 asks for beyond the levels below it, by the kernel's names, of which abm stands for lzcnt
+# ---- what x86-64-v3 asks for beyond the levels below it, by the kernel's names, of which abm stands for lzcnt and avx2
+# for avx and for a system that keeps its registers
 flags=" $(sed -n 's/^flags[[:space:]]*: //p' /proc/cpuinfo | head -n 1) "
+[ "$flags" != '  ' ] || fail "/proc/cpuinfo does not say what the processor has"
 missing=
 for flag in abm avx2 bmi1 bmi2 f16c fma movbe; do
     case $flags in *" $flag "*) ;; *) missing="$missing $flag" ;; esac

@@ -2,7 +2,7 @@
 ghost use mathlib.Core.Path.{_≡_};
 ghost use Prim.Native.Nat.{_^_, _<_};
 ghost use lib.Dec.{ltb};
-ghost use Rattle.field.specs.Field.{P, Canonical, add, sub, neg, mul, square, cube, power, root, inverse};
+ghost use Rattle.field.specs.Field.{P, Canonical, add, sub, neg, mul, square, power, root, inverse};
 ghost use Rattle.field.specs.Gathering.{appended};
 
 // An element, by its canonical word.
@@ -72,13 +72,6 @@ impl Fp {
         ensures { λ r. ⌜ (r .0 ≡ square (self .0)) × Canonical (r .0) ⌝ }
     {
         self.mul(self)
-    }
-
-    pub fn cube(self) -> Fp
-        requires { ⌜ Canonical (self .0) ⌝ }
-        ensures { λ r. ⌜ (r .0 ≡ cube (self .0)) × Canonical (r .0) ⌝ }
-    {
-        self.square().mul(self)
     }
 
     pub fn pow(self, exponent: u64) -> Fp

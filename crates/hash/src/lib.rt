@@ -20,7 +20,7 @@ use refusals::State;
 use refusals::StateAnswer;
 
 // 2^(64 (THIRD - 2)) mod p. A cell that is taken for a word of Montgomery's form stands for the cell divided by 2^64;
-// times this factor its root is that of the cell divided by 2^128, for which M made ready makes up.
+// times this factor its root is the cell's root, divided by 2^128, for which M made ready makes up.
 const ROOT_FACTOR: u64 = 678424015035724853;
 
 // The cube of every cell, divided by 2^128.

@@ -43,8 +43,8 @@ fn store(out: &mut [u64; READY_WORDS], start: usize, words: [u64; WIDTH])
     }
 }
 
-// Makes m ready in a room of the caller's, each entry times the scale and divided by 2^64. It is lent, so that no matrix
-// made ready is ever copied.
+// Makes m ready in a room of the caller's, each entry times the scale and divided by 2^64. The room is lent, so that no
+// matrix made ready is ever copied.
 pub fn make_ready(m: &[u64], scale: u64, out: &mut [u64; READY_WORDS])
     requires { ⌜ (length (now m) ≡ matrixWords) × AllCanonical (now m) × Canonical scale
         × (length (now out) ≡ readyWords) ⌝ }

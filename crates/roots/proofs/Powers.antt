@@ -1,5 +1,5 @@
--- Products and powers cell by cell: their cells, the words that stand for them, and the step of the recursion that
--- halves the exponent.
+-- Products and powers cell by cell: their cells, the words that stand for them, the step of the recursion that halves
+-- the exponent, and the links of the chain by which cells are rooted.
 -- Assumes nothing.
 use mathlib.Core.Path.{_≡_, sym, ap, ap₂, _∙_}
 use mathlib.Core.List.{List}

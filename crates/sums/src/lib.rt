@@ -1,5 +1,5 @@
-// Sums of twelve products, gathered in one word. A term is added and the sum divided by 2^32; what this takes from a term
-// is given to it beforehand, as its weight. A step takes two terms, and after it there is one word below p.
+// Sums of twelve products, gathered in one word. A term is added and the sum divided by 2^32; what this takes from a
+// term is given to it beforehand, as its weight. A step takes two terms, and after it there is one word below p.
 ghost use mathlib.Core.Path.{_≡_};
 ghost use Prim.Native.Nat.{_*_, _%_, _^_};
 ghost use Rattle.lists.specs.Lists.{cell, tab};

@@ -1,5 +1,5 @@
--- M made ready: its products are M's times 2^128, which tells M's own; and where the column's cells make up for it, they
--- are M's own.
+-- M made ready: its products are M's times 2^128, which tells M's own; and where the column's cells make up for it,
+-- they are M's own.
 -- Assumes nothing.
 use mathlib.Core.Path.{_≡_, refl, sym, ap, _∙_, subst}
 use mathlib.Core.Bool.{Bool, true, false}

@@ -130,7 +130,8 @@ module _ (t r s : List ℕ) (er : r ≡ matrixReady t) (es : s ≡ tab 144 (byCo
       place : 12 * k + i ≡ 12 * (c % 12) + c / 12
       place = omega arith
 
-      value : cell s (12 * k + i) ≡ (product 12 (entry (matrixOf t)) (entry (inverseOf t)) (c / 12) (c % 12) * unitSquare) % P
+      value : cell s (12 * k + i)
+          ≡ (product 12 (entry (matrixOf t)) (entry (inverseOf t)) (c / 12) (c % 12) * unitSquare) % P
       value = ap (cell s) place ∙ at-cell t r (inverseOf t) s c er (omega arith) es
 
       wanted : choose (eqb i k) unitSquare 0 ≡ choose (eqb (c / 12) (c % 12)) unitSquare 0

@@ -153,9 +153,6 @@ test-never-3 t = go (tableTest t) (test-answers t)
 
 -- ---- what an accepted table holds
 module _ (t : List ℕ) (h : IsTable t) where
-  pub matrix-canonical : AllCanonical (matrixOf t)
-  matrix-canonical = parts.matrix-canonical t (h .size) (h .canonical)
-
   pub inverse-length : length (inverseOf t) ≡ 144
   inverse-length = parts.length-inverse t (h .size)
 

@@ -23,8 +23,8 @@ matrixScale = 2148101911894228676
 unfoldable pub matrixReady : List ℕ → List ℕ
 matrixReady T = ready (matrixOf T) matrixScale
 
--- the first column in which row i of a product, which stands by columns, is unlike the identity's, or 12: both are times
--- 2^128
+-- the first column in which row i of a product, which stands by columns, is unlike the identity's, or 12: both are
+-- times 2^128
 unfoldable pub unlikeInRow : List ℕ → ℕ → ℕ
 unlikeInRow s i = first width (λ k. not (eqb (cell s (width * k + i)) (choose (eqb i k) unitSquare 0)))
 

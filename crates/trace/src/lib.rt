@@ -45,7 +45,7 @@ fn write_row(destination: &mut [u64], row: RowNumber, cells: [u64; WIDTH])
     put(&mut destination[start..end], cells);
 }
 
-// The ten middle states of a hash as the rows from the given one on. Its final state. Here and below M is made ready.
+// The ten middle states of a hash as the rows from the given one on. Its final state. Here and below M comes made ready.
 fn write_rounds(
     ready: &[u64],
     table: &[u64],

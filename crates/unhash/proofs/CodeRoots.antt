@@ -3,7 +3,7 @@
 use mathlib.Core.Path.{_≡_, refl, sym, ap, _∙_}
 use mathlib.Core.List.{List}
 use Prim.Native.Nat.{ℕ, _*_, _%_, _<_}
-use native.Mathlib.Nat.{mod-lt}
+use native.Mathlib.Nat.{mul-comm}
 use native.Mathlib.Omega.{arith}
 use Rattle.lists.specs.Lists.{cell, tab}
 use Rattle.lists.proofs.Tab.{cell-tab, tab-ext}
@@ -13,6 +13,7 @@ use Rattle.field.proofs.Forms.{divided-lt}
 use Rattle.field.proofs.Modular.{mul-mod-l, mul-undone}
 use Rattle.roots.proofs.Scaled.{root-scaled}
 use Rattle.matrix.specs.Matrix.{entry, timesColumn, times}
+use Rattle.matrix.proofs.Linear.{times-lt}
 use Rattle.matrix.proofs.States.{cell-times}
 use Rattle.mixing.specs.MixingHelpers.{readyEntry}
 use Rattle.mixing.proofs.Scaled.{column-scaled}
@@ -29,38 +30,33 @@ restored p d j f y one h =
     turned : y * d * j ≡ y * (d * j)
     turned = omega arith
 
-exchanged : (p f r : ℕ) → (f * r) % p ≡ (r * f) % p
-exchanged p f r = ap (λ z. z % p) swapped
-  where
-    swapped : f * r ≡ r * f
-    swapped = omega arith
+-- the factor of the roots
+abbrev pub rootFactor : ℕ
+rootFactor = 1320274735724748368
 
-root-term : (y : ℕ) → y < P → mul 1320274735724748368 (root (divided ((y * divided backScale) % P))) ≡ root y
+root-term : (y : ℕ) → y < P → mul rootFactor (root (divided ((y * divided backScale) % P))) ≡ root y
 root-term y h =
-    exchanged P 1320274735724748368 (root (divided ((y * divided backScale) % P)))
-    ∙ root-scaled (divided ((y * divided backScale) % P)) 1320274735724748368 y
+    ap (λ z. z % P) (mul-comm rootFactor (root (divided ((y * divided backScale) % P))))
+    ∙ root-scaled (divided ((y * divided backScale) % P)) rootFactor y
     (divided-lt ((y * divided backScale) % P))
-    (restored P (divided backScale) unitInverse 1320274735724748368 y refl h)
-
-column-lt : (m : List ℕ) (x : ℕ → ℕ) (i : ℕ) → timesColumn 12 (entry m) x i < P
-unfolding timesColumn
-column-lt m x i = mod-lt _ (omega arith)
+    (restored P (divided backScale) unitInverse rootFactor y refl h)
 
 pub undone-roots : (T ready less mixed r : List ℕ) → ready ≡ backReady T
     → mixed ≡ tab 12 (timesColumn 12 (readyEntry ready) (cell less))
-    → r ≡ tab 12 (λ j. mul 1320274735724748368 (root (divided (cell mixed j)))) → r ≡ roots (times (inverseOf T) less)
+    → r ≡ tab 12 (λ j. mul rootFactor (root (divided (cell mixed j)))) → r ≡ roots (times (inverseOf T) less)
 unfolding roots backReady
 undone-roots T ready less mixed r e em er =
     er
-    ∙ tab-ext 12 (λ j. mul 1320274735724748368 (root (divided (cell mixed j))))
+    ∙ tab-ext 12 (λ j. mul rootFactor (root (divided (cell mixed j))))
     (λ j. root (cell (times (inverseOf T) less) j)) same
   where
     same : (i : ℕ) → i < 12
-        → mul 1320274735724748368 (root (divided (cell mixed i))) ≡ root (cell (times (inverseOf T) less) i)
+        → mul rootFactor (root (divided (cell mixed i))) ≡ root (cell (times (inverseOf T) less) i)
     same i h =
-        ap (λ v. mul 1320274735724748368 (root (divided v)))
+        ap (λ v. mul rootFactor (root (divided v)))
         (ap (λ l. cell l i) em
         ∙ cell-tab 12 (timesColumn 12 (readyEntry ready) (cell less)) i h
         ∙ column-scaled (inverseOf T) ready backScale e (cell less) i h)
-        ∙ root-term (timesColumn 12 (entry (inverseOf T)) (cell less) i) (column-lt (inverseOf T) (cell less) i)
+        ∙ root-term (timesColumn 12 (entry (inverseOf T)) (cell less) i)
+        (times-lt 12 (entry (inverseOf T)) (cell less) i)
         ∙ ap root (sym (cell-times (inverseOf T) less i h))

@@ -66,14 +66,14 @@ fn ends_in_zeros(input: [u64; WIDTH]) -> bool
 pub fn unhash(table: &[u64], cells: [u64; WIDTH]) -> PairAnswer
     ensures { λ r. ⌜ r ≡ unhashAnswer (now (table .entry)) cells ⌝ }
 {
-    let mut ready = [0u64; READY_WORDS];
-    let answer = hash::test_hash(table, &cells, &mut ready);
+    let mut room = [0u64; READY_WORDS];
+    let answer = hash::test_hash(table, &cells, &mut room);
     let Answer::Accepted = answer else {
         return PairAnswer::Refused(answer.refusal());
     };
     // M made ready has served the table test; its room takes the inverse.
-    steps::make_inverse_ready(table, &mut ready);
-    let state = undo_rounds(&ready, table, cells);
+    steps::make_inverse_ready(table, &mut room);
+    let state = undo_rounds(&room, table, cells);
     let input = steps::less_initial(table, state);
     if !ends_in_zeros(input) {
         return PairAnswer::Refused(Refusal::NoPair);

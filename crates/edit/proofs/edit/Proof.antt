@@ -131,7 +131,9 @@ slice-aggregate-rewrite c =
     sym (ready-is _ _ (ready-left _ _ (few told .0 .table) (told .before .before .test-opening .ensures .1)) .size)
 
 slice-aggregate-rewrite-2 : tie.Need-slice-aggregate-rewrite-2
-slice-aggregate-rewrite-2 c = sym (back-is _ _ (made-of (c .before .before .before .before) .make-inverse-ready .ensures) .size)
+slice-aggregate-rewrite-2 c =
+    let made = made-of (c .before .before .before .before) in
+    sym (back-is _ _ (made .make-inverse-ready .ensures) .size)
 
 rewrite-requires : tie.Need-rewrite-requires
 rewrite-requires c κs =

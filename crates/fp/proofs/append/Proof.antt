@@ -1,4 +1,4 @@
--- `field::append`: what lies above 2^61 is folded, and the difference of the two is the next word.
+-- `fp::append`: what lies above 2^61 is folded, and the difference of the two is the next word.
 -- Assumes nothing.
 use mathlib.Core.Path.{refl, _∙_}
 use Prim.Native.Nat.{ℕ, _+_, _*_, _/_, _%_, _^_, _<_}

@@ -1,4 +1,4 @@
--- `field::product`: after each digit there is one word, and three digits gather the whole.
+-- `fp::product`: after each digit there is one word, and three digits gather the whole.
 -- Assumes nothing.
 use mathlib.Core.Path.{_≡_, _∙_}
 use native.Mathlib.Omega.{arith}

@@ -1,5 +1,5 @@
--- `hash::first_step`: the definition's three parts, roots, M and the round's first-step constant, are one call each;
--- what each hands on is canonical.
+-- `hash::first_step`: the roots come divided by 2^128, for which M made ready makes up; then the round's first-step
+-- constant is added. What each call hands on is canonical.
 -- Assumes nothing.
 use mathlib.Core.Path.{ap, _∙_}
 use native.Mathlib.Omega.{arith}

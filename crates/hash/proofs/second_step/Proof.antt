@@ -1,5 +1,5 @@
--- `hash::second_step`: the definition's three parts, cubes, M and the round's second-step constant, are one call each;
--- what each hands on is canonical.
+-- `hash::second_step`: the cubes come divided by 2^128, for which M made ready makes up; then the round's second-step
+-- constant is added. What each call hands on is canonical.
 -- Assumes nothing.
 use mathlib.Core.Path.{ap, _∙_}
 use native.Mathlib.Omega.{arith}

@@ -109,7 +109,8 @@ loop-again c =
     ∙ ap (λ l. sets l (24 * j + 12) (tab 12 (cell (raised .raised .result)))) (first .store .ensures) in (
       omega arith,
       ap length e ∙ length-sets _ _ (tab 12 _) ∙ length-sets _ _ (tab 12 _) ∙ head .loop .inv .1,
-      e ∙ next-stored m scale (start made .args .out .now) j (head .loop .out) (column .scaled-column .result) (raised .raised .result)
+      e ∙ next-stored m scale (start made .args .out .now) j (head .loop .out) (column .scaled-column .result)
+          (raised .raised .result)
           (head .loop .inv .2) low high,
     )
 

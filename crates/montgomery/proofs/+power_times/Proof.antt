@@ -1,4 +1,4 @@
--- `field::power_times`: the exponent is halved while the base is squared, and at an odd one the base goes into the
+-- `montgomery::power_times`: the exponent is halved while the base is squared, and at an odd one the base goes into the
 -- accumulator. Each of the three returns is a law of powers in Montgomery's form.
 -- Assumes nothing.
 use mathlib.Core.Path.{sym, ap, _∙_}

@@ -1,4 +1,4 @@
--- `field::montgomery::enter`: the square of 2^64 brings the element into the form.
+-- `montgomery::enter`: the square of 2^64 brings the element into the form.
 -- Assumes nothing.
 use mathlib.Core.Path.{ap, _∙_}
 use borrow.Author.Needs.{needs}

@@ -1,4 +1,4 @@
--- `field::montgomery::gather`: the sum of the upper parts stays below p.
+-- `montgomery::gather`: the sum of the upper parts stays below p.
 -- Assumes nothing.
 use mathlib.Core.Path.{_∙_}
 use native.Mathlib.Omega.{arith}

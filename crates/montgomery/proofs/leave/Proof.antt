@@ -1,4 +1,4 @@
--- `field::montgomery::leave`: a product with 1 divides by 2^64.
+-- `montgomery::leave`: a product with 1 divides by 2^64.
 -- Assumes nothing.
 use mathlib.Core.Path.{_∙_}
 use borrow.Author.Needs.{needs}

@@ -1,4 +1,4 @@
--- `field::montgomery::quotient`: no canonical word reaches 2^62, so that nothing is shifted out.
+-- `montgomery::quotient`: no canonical word reaches 2^62, so that nothing is shifted out.
 -- Assumes nothing.
 use mathlib.Core.Path.{_≡_, ap}
 use Prim.Native.Nat.{_/_, _^_}

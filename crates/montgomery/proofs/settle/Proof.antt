@@ -1,4 +1,4 @@
--- `field::montgomery::settle`: the two upper bits of a wrapped difference are both clear or both set.
+-- `montgomery::settle`: the two upper bits of a wrapped difference are both clear or both set.
 -- Assumes nothing.
 use mathlib.Core.Path.{_≡_}
 use Prim.Native.Nat.{_+_, _%_, _^_}

@@ -1,4 +1,4 @@
--- `field::montgomery::step`: the wrapped difference lies between -p and p.
+-- `montgomery::step`: the wrapped difference lies between -p and p.
 -- Assumes nothing.
 use mathlib.Core.Path.{_≡_, ap, subst, sym, _∙_}
 use Prim.Native.Nat.{ℕ, _+_, _*_, _-_, _/_, _%_, _^_, _<_}

@@ -1,4 +1,4 @@
--- `field::montgomery::times`: after each digit there is one word, and two digits gather the whole.
+-- `montgomery::times`: after each digit there is one word, and two digits gather the whole.
 -- Assumes nothing.
 use mathlib.Core.Path.{_≡_, _∙_}
 use native.Mathlib.Omega.{arith}

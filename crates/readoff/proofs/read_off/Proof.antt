@@ -135,7 +135,9 @@ passes c =
     accepted (a .table .now) (a .trace .now) (a .t3) (a .destination .now) (a .c) (answered t) (c .enum-told3 .given .1)
 
 slice-aggregate-write-taps : tie.Need-slice-aggregate-write-taps
-slice-aggregate-write-taps c = sym (back-is _ _ (made-of (c .before .before .before) .make-inverse-ready .ensures) .size)
+slice-aggregate-write-taps c =
+    let made = made-of (c .before .before .before) in
+    sym (back-is _ _ (made .make-inverse-ready .ensures) .size)
 
 write-taps-requires : tie.Need-write-taps-requires
 write-taps-requires c κs =
@@ -161,8 +163,8 @@ returns-4 c =
     let t = told .before .before in
     let a = start t .args in (
       answered t,
-      read (a .table .now) (a .trace .now) (a .t3) (a .destination .now) (a .c) (answered t) (told .enum-told3 .given .1)
-          (w .write-taps .ensures),
+      read (a .table .now) (a .trace .now) (a .t3) (a .destination .now) (a .c) (answered t)
+          (told .enum-told3 .given .1) (w .write-taps .ensures),
     )
 
 pub read-off-spec : {M : Type 1} → statement M

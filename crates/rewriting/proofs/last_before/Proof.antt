@@ -1,4 +1,4 @@
--- `edit::last_before`: the new tap itself, or the input of the hash that takes the tap in, as the trace holds it.
+-- `rewriting::last_before`: the new tap itself, or the input of the hash that takes the tap in, as the trace holds it.
 -- Assumes nothing.
 use native.Mathlib.Omega.{arith}
 use Rattle.rewriting.proofs.Rewriting.{new-start, held-start}

@@ -1,4 +1,4 @@
--- `edit::next_tap`: the new tap where the hash takes that one in, else what its rows hold.
+-- `rewriting::next_tap`: the new tap where the hash takes that one in, else what its rows hold.
 -- Assumes nothing.
 use mathlib.Core.Path.{sym, _∙_, subst}
 use Rattle.readoff.specs.TapHelpers.{HasTap}

@@ -1,5 +1,5 @@
--- `edit::rewrite`: the rows of the hashes passed are those of the altered list, the others are still the old ones, and
--- the state begins with the altered list's last output.
+-- `rewriting::rewrite`: the rows of the hashes passed are those of the altered list, the others are still the old ones,
+-- and the state begins with the altered list's last output.
 -- Assumes nothing.
 use mathlib.Core.Path.{_≡_, refl, sym, ap, _∙_, subst}
 use mathlib.Core.List.{List}

@@ -1,5 +1,5 @@
 -- `roots::powers_times`: the exponent is halved while the bases are squared, and at an odd one the bases go into the
--- accumulators first. `Passed` is what that test leaves, either way.
+-- accumulators first; at 1 that is all. `Passed` is what the test for an odd one leaves, either way.
 -- Assumes nothing.
 use mathlib.Core.Path.{_≡_, sym, ap, _∙_, subst}
 use mathlib.Core.List.{List}

@@ -52,8 +52,8 @@ returns c =
     let middle = linked (elements x) _ _ _ 21845 11184811 262144 (omega arith) (omega arith) (omega arith) (omega arith)
     eight upper
     (c .before .before .before .joined6 .ensures .0) in
-    let lower = linked (elements x) _ _ _ 21845 2932031116629 65536 (omega arith) (omega arith) (omega arith) (omega arith)
-    eight middle
+    let lower = linked (elements x) _ _ _ 21845 2932031116629 65536 (omega arith) (omega arith) (omega arith)
+    (omega arith) eight middle
     (c .before .before .joined7 .ensures .0) in
     let last = linked (elements x) _ _ _ 1 192153591259419989 4 (omega arith) (omega arith) (omega arith) (omega arith)
     one lower

@@ -1,4 +1,4 @@
--- `table::identity`: `one` where row and column are equal, 0 elsewhere.
+-- `table::identity`: 2^128 where row and column are equal, 0 elsewhere.
 -- Assumes nothing.
 use borrow.Author.Tests.{eq-eqb, ne-eqb}
 use Rattle.table.proofs.identity.Statement.{statement}

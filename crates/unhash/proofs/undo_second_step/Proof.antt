@@ -1,5 +1,5 @@
--- `unhash::undo_second_step`: the definition's three parts, difference, inverse of M and roots, are one call each; what
--- each hands on is canonical.
+-- `unhash::undo_second_step`: the constant is taken off, and the factor of the roots makes up for the scale of the
+-- inverse made ready. What each call hands on is canonical.
 -- Assumes nothing.
 use mathlib.Core.Path.{ap, _∙_}
 use native.Mathlib.Omega.{arith}

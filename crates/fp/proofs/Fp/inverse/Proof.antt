@@ -1,4 +1,4 @@
--- `field::Fp::inverse`: `pow` with the exponent p - 2 is the definition.
+-- `fp::Fp::inverse`: `pow` with the exponent p - 2 is the definition.
 -- Assumes nothing.
 use borrow.Author.Needs.{needs}
 use Rattle.field.specs.Field.{inverse}

@@ -1,4 +1,4 @@
--- `field::Fp::pow`: the word that enters stands for the element, and one times its power leaves as the power.
+-- `fp::Fp::pow`: the word that enters stands for the element, and one times its power leaves as the power.
 -- Assumes nothing.
 use mathlib.Core.Path.{ap, _∙_}
 use native.Mathlib.Omega.{arith}

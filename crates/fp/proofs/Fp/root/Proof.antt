@@ -1,4 +1,4 @@
--- `field::Fp::root`: `pow` with the exponent (2p - 1) / 3 is the definition.
+-- `fp::Fp::root`: `pow` with the exponent (2p - 1) / 3 is the definition.
 -- Assumes nothing.
 use borrow.Author.Needs.{needs}
 use Rattle.field.specs.Field.{root}
