@@ -47,7 +47,7 @@ pub fn test_opening(
     Answer::Accepted
 }
 
-// 9, 10 and 11 are functions of their own, since Edit has 6 between 10 and 11.
+// 9 and 10 are functions of their own, since Edit has 6 between them and the walk.
 
 // 9: the words of the claim.
 pub fn test_claim(claim: &[u64]) -> Answer
