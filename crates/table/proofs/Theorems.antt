@@ -16,6 +16,7 @@ use Rattle.words.proofs.Laws.{within, bad-at, good-before, all-good, good-all}
 use Rattle.matrix.specs.Matrix.{product, identity, Inverse, entry, times}
 use Rattle.matrix.proofs.Dichotomy.{other-side}
 use Rattle.matrix.proofs.States.{times-undo, times-redo}
+use Rattle.mixing.specs.MixingHelpers.{readyWords}
 use Rattle.refusals.specs.declared.Refusal.{Refusal}
 use Rattle.refusals.specs.declared.Refusal.the-variants.{TableLength, TableWord, NoInverse, WrongInverse}
 use Rattle.refusals.specs.declared.Answer.{Answer}
@@ -24,6 +25,7 @@ use Rattle.table.specs.Table.{tableWords, matrixOf, inverseOf, initialCo
 use Rattle.table.specs.Table.{firstStepConstant, secondStepConstant, unlike, firstUnlike, tableTest, IsTable}
 use Rattle.table.specs.ReadyHelpers.{matrixReady, readyLeft}
 use Rattle.table.proofs.Parts as parts
+use Rattle.table.proofs.Ready.{ready-is}
 use Rattle.table.proofs.Tested as tested
 
 pub not-refused : (r : Refusal) → Refused r ≡ Accepted → ⊥
@@ -59,6 +61,9 @@ test-complete t h =
 -- and leaves M of an accepted one made ready
 pub ready-left : (t old : List ℕ) {r : List ℕ} → IsTable t → r ≡ readyLeft t old → r ≡ matrixReady t
 ready-left t old h e = e ∙ sym (tested.made-ready t old (h .size) (all-good t (h .canonical) ∙ h .size))
+
+pub left-size : (t old : List ℕ) {r : List ℕ} → IsTable t → r ≡ readyLeft t old → length r ≡ readyWords
+left-size t old {r} h e = ready-is t r (ready-left t old h e) .size
 
 -- ---- the places of its refusals
 

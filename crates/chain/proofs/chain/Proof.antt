@@ -7,8 +7,7 @@ use lib.ListN.{length}
 use Rattle.numbers.specs.Numbers.{tapWordBatches}
 use Rattle.refusals.specs.Refusals.{digest}
 use Rattle.refusals.proofs.Laws.{digest-turned-back, digest-returned}
-use Rattle.table.proofs.Ready.{ready-is}
-use Rattle.table.proofs.Theorems.{ready-left}
+use Rattle.table.proofs.Theorems.{ready-left, left-size}
 use Rattle.hash.specs.Hash.{chain as chain-of}
 use Rattle.chain.specs.Answers.{chainAnswer}
 use Rattle.chain.proofs.Answers.{ChainInputs, chain-inputs, digest-take}
@@ -44,7 +43,7 @@ inputs c = chain-inputs _ _ (sym (c .before .before .test-chain .ensures .0) ∙
 slice-aggregate-last-state : tie.Need-slice-aggregate-last-state
 slice-aggregate-last-state c =
     let told = c .before in
-    sym (ready-is _ _ (ready-left _ _ (inputs told .table) (told .before .before .test-chain .ensures .1)) .size)
+    sym (left-size _ _ (inputs told .table) (told .before .before .test-chain .ensures .1))
 
 mul-last-state : tie.Need-mul-last-state
 mul-last-state c = search needs

@@ -5,8 +5,7 @@ use Prim.Native.Nat.{_^_, _<_}
 use lib.ListN.{length}
 use Rattle.numbers.specs.Numbers.{traceWordBatches}
 use Rattle.refusals.proofs.Laws.{after-refused, after-accepted, tests-turned-back}
-use Rattle.table.proofs.Ready.{ready-is}
-use Rattle.table.proofs.Theorems.{ready-left}
+use Rattle.table.proofs.Theorems.{ready-left, left-size}
 use Rattle.steps.proofs.Made.{back-is}
 use Rattle.checker.specs.Answers.{checkTest, checkAnswer}
 use Rattle.checker.proofs.Answers.{Opened, opened-by, walked}
@@ -48,7 +47,7 @@ make-inverse-ready-requires c κs = (known (c .before) .0 .table, refl)
 slice-aggregate-test-trace : tie.Need-slice-aggregate-test-trace
 slice-aggregate-test-trace c =
     let told = c .before .before .before in
-    sym (ready-is _ _ (ready-left _ _ (known told .0 .table) (told .before .before .test-opening .ensures .1)) .size)
+    sym (left-size _ _ (known told .0 .table) (told .before .before .test-opening .ensures .1))
 
 slice-aggregate-test-trace-2 : tie.Need-slice-aggregate-test-trace-2
 slice-aggregate-test-trace-2 c = sym (back-is _ _ (c .before .before .make-inverse-ready .ensures) .size)

@@ -10,8 +10,7 @@ use Rattle.refusals.specs.declared.Answer.the-variants.{Accepted, Refused}
 use Rattle.refusals.specs.Answers.{testsAfter}
 use Rattle.refusals.proofs.Laws.{after-refused, after-accepted, tests-accepted, tests-refused}
 use Rattle.refusals.proofs.Laws.{digest-turned-back, digest-returned, leaves-old, leaves-new}
-use Rattle.table.proofs.Ready.{ready-is}
-use Rattle.table.proofs.Theorems.{ready-left}
+use Rattle.table.proofs.Theorems.{ready-left, left-size}
 use Rattle.constraints.specs.Constraints.{tests}
 use Rattle.steps.proofs.Made.{back-is}
 use Rattle.checker.proofs.Answers.{Opened, opened-by, walked}
@@ -64,7 +63,7 @@ make-inverse-ready-requires c κs = (few (c .before) .0 .table, refl)
 slice-aggregate-test-edit : tie.Need-slice-aggregate-test-edit
 slice-aggregate-test-edit c =
     let told = c .before .before .before in
-    sym (ready-is _ _ (ready-left _ _ (few told .0 .table) (told .before .before .test-opening .ensures .1)) .size)
+    sym (left-size _ _ (few told .0 .table) (told .before .before .test-opening .ensures .1))
 
 slice-aggregate-test-edit-2 : tie.Need-slice-aggregate-test-edit-2
 slice-aggregate-test-edit-2 c = sym (back-is _ _ (c .before .before .make-inverse-ready .ensures) .size)
@@ -128,7 +127,7 @@ counted c =
 slice-aggregate-rewrite : tie.Need-slice-aggregate-rewrite
 slice-aggregate-rewrite c =
     let told = made-of (c .before .before .before) .before .before in
-    sym (ready-is _ _ (ready-left _ _ (few told .0 .table) (told .before .before .test-opening .ensures .1)) .size)
+    sym (left-size _ _ (few told .0 .table) (told .before .before .test-opening .ensures .1))
 
 slice-aggregate-rewrite-2 : tie.Need-slice-aggregate-rewrite-2
 slice-aggregate-rewrite-2 c =

@@ -5,8 +5,7 @@ use mathlib.Core.Path.{_≡_, sym, ap, _∙_}
 use lib.ListN.{length}
 use Rattle.refusals.specs.Refusals.{state}
 use Rattle.refusals.proofs.Laws.{state-turned-back, state-returned}
-use Rattle.table.proofs.Ready.{ready-is}
-use Rattle.table.proofs.Theorems.{ready-left}
+use Rattle.table.proofs.Theorems.{ready-left, left-size}
 use Rattle.hash.specs.Hash.{finalState}
 use Rattle.hash.specs.Answers.{hashAnswer}
 use Rattle.hash.proofs.Answers.{HashInputs, hash-inputs}
@@ -74,7 +73,7 @@ inputs c = hash-inputs _ _ (sym (c .before .before .test-hash .ensures .0) ∙ c
 slice-aggregate-final-state : tie.Need-slice-aggregate-final-state
 slice-aggregate-final-state c =
     let told = c .before in
-    sym (ready-is _ _ (ready-left _ _ (inputs told .table) (told .before .before .test-hash .ensures .1)) .size)
+    sym (left-size _ _ (inputs told .table) (told .before .before .test-hash .ensures .1))
 
 final-state-requires : tie.Need-final-state-requires
 final-state-requires c κs =

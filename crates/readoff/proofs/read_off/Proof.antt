@@ -13,8 +13,7 @@ use Rattle.refusals.specs.declared.Answer.{Answer}
 use Rattle.refusals.specs.declared.Answer.the-variants.{Accepted}
 use Rattle.refusals.specs.Answers.{unless}
 use Rattle.refusals.proofs.Laws.{unless-refused, unless-passed, after-refused, after-accepted}
-use Rattle.table.proofs.Ready.{ready-is}
-use Rattle.table.proofs.Theorems.{ready-left}
+use Rattle.table.proofs.Theorems.{ready-left, left-size}
 use Rattle.steps.proofs.Made.{back-is}
 use Rattle.checker.specs.Answers.{traceTest}
 use Rattle.checker.proofs.Answers.{Opened, opened-by, walked}
@@ -76,7 +75,7 @@ make-inverse-ready-requires c κs = (few (c .before .before) .0 .table, refl)
 slice-aggregate-test-trace : tie.Need-slice-aggregate-test-trace
 slice-aggregate-test-trace c =
     let told = c .before .before .before .before in
-    sym (ready-is _ _ (ready-left _ _ (few told .0 .table) (told .before .before .test-opening .ensures .1)) .size)
+    sym (left-size _ _ (few told .0 .table) (told .before .before .test-opening .ensures .1))
 
 slice-aggregate-test-trace-2 : tie.Need-slice-aggregate-test-trace-2
 slice-aggregate-test-trace-2 c = sym (back-is _ _ (c .before .before .make-inverse-ready .ensures) .size)

@@ -7,8 +7,7 @@ use lib.ListN.{length}
 use Rattle.numbers.specs.Numbers.{tapWordBatches}
 use Rattle.refusals.specs.Refusals.{digest}
 use Rattle.refusals.proofs.Laws.{digest-turned-back, digest-returned, leaves-old, leaves-new}
-use Rattle.table.proofs.Ready.{ready-is}
-use Rattle.table.proofs.Theorems.{ready-left}
+use Rattle.table.proofs.Theorems.{ready-left, left-size}
 use Rattle.chain.proofs.Answers.{digest-take}
 use Rattle.trace.specs.Answers.{buildAnswer, buildLeaves}
 use Rattle.trace.proofs.Answers.{BuildInputs, build-inputs}
@@ -48,7 +47,7 @@ inputs c = build-inputs _ _ _ (sym (c .before .before .test-build .ensures .0) �
 slice-aggregate-write-hashes : tie.Need-slice-aggregate-write-hashes
 slice-aggregate-write-hashes c =
     let told = c .before in
-    sym (ready-is _ _ (ready-left _ _ (inputs told .table) (told .before .before .test-build .ensures .1)) .size)
+    sym (left-size _ _ (inputs told .table) (told .before .before .test-build .ensures .1))
 
 write-hashes-requires : tie.Need-write-hashes-requires
 write-hashes-requires c κs =

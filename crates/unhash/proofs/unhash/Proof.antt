@@ -8,8 +8,7 @@ use borrow.Author.Needs.{needs}
 use borrow.Author.Tests.{not-true, not-false}
 use Rattle.words.specs.Words.{AllCanonical}
 use Rattle.table.specs.Table.{initialConstant}
-use Rattle.table.proofs.Ready.{ready-is}
-use Rattle.table.proofs.Theorems.{ready-left}
+use Rattle.table.proofs.Theorems.{left-size}
 use Rattle.hash.proofs.States.{IsState, state-cell}
 use Rattle.hash.proofs.CodeStates.{canonical-state}
 use Rattle.hash.proofs.Answers.{HashInputs, hash-inputs}
@@ -60,7 +59,7 @@ make-inverse-ready-requires : tie.Need-make-inverse-ready-requires
 make-inverse-ready-requires c κs =
     let told = c .before in
     let table = inputs told .table in
-    (table, ready-is _ _ (ready-left _ _ table (told .before .before .test-hash .ensures .1)) .size)
+    (table, left-size _ _ table (told .before .before .test-hash .ensures .1))
 
 slice-aggregate-undo-rounds : tie.Need-slice-aggregate-undo-rounds
 slice-aggregate-undo-rounds c = sym (back-is _ _ (c .before .make-inverse-ready .ensures) .size)
