@@ -88,8 +88,8 @@ module _ (Q : Refusal → Type 0) (causes : TableCauses Q) where
       go : (a : Answer) → table.Answers T a → AnswerEnds Q a
       go a (table.accepted h) = tt
       go a (table.length-refused h) = causes .by-length
-      go a (table.word-refused i h) = causes .by-word i (h .within)
-      go a (table.cell-refused c h) = causes .by-cell c (h .within)
+      go a (table.word-refused i s h) = causes .by-word i (omega (arith, s, h .within))
+      go a (table.cell-refused c s w h) = causes .by-cell c (h .within)
 
   -- ---- Hash: 1, 2, 4, 6; from another language 1, 2, 4, 8, 6
   module _ (T words : List ℕ) (q6 : (i : ℕ) → i < length words → Q (TapWord i)) where

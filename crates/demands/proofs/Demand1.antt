@@ -39,7 +39,7 @@ use Rattle.constraints.specs.Constraints as order
 use Rattle.constraints.specs.ReadOff.{readTaps}
 use Rattle.constraints.proofs.TestCount.{length-tests}
 use Rattle.checker.specs.Answers.{openingTest, checkAnswer, checkTest}
-use Rattle.checker.proofs.Answers.{Opened, opened, check-inputs}
+use Rattle.checker.proofs.Answers.{Opened, opened, CheckInputs, check-inputs}
 use Rattle.readoff.specs.Answers.{readOffAnswer, readOffLeaves, readOffTest}
 use Rattle.readoff.proofs.Answers.{read-off-inputs}
 use Rattle.edit.specs.Answers.{editAnswer, editLeaves, editTest, alteredTaps}
@@ -60,7 +60,9 @@ use Rattle.calls.specs.Calls.{editCallTest, editCall, EditCall, unhashCallTest,
 use Rattle.calls.specs.Calls.{unpackCallTest, unpackCall, UnpackCall, PackShortCall, unpackShortCallTest}
 use Rattle.calls.specs.Calls.{unpackShortCall, UnpackShortCall, ToShortCall, ToFullCall}
 use Rattle.calls.proofs.Answers.{chain-room, build-room}
-use Rattle.handover.proofs.Bits.{RefusalInBits, says, says-accepted}
+use Rattle.exact.specs.Exact.{IsListFor}
+use Rattle.exact.proofs.Exactness.{reads-that-list}
+use Rattle.handover.proofs.Bits.{RefusalInBits, says, says-accepted, tells-one, tells-apart}
 use Rattle.calls.proofs.Endings as ends
 use Rattle.calls.proofs.Endings.{TableCauses}
 use Rattle.calls.proofs.Theorems as bits
@@ -70,7 +72,7 @@ use Rattle.demands.specs.Demand1.{numbers, callNumbers, OneOf, Refuses, 
 use Rattle.demands.specs.Demand1.{chain-refuses, build-refuses, check-refuses, read-off-refuses, edit-refuses}
 use Rattle.demands.specs.Demand1.{unhash-refuses, pack-refuses, unpack-refuses, pack-short-refuses}
 use Rattle.demands.specs.Demand1.{unpack-short-refuses, to-short-refuses, to-full-refuses}
-use Rattle.demands.specs.Demand1.{Answered, accepted, refused}
+use Rattle.demands.specs.Demand1.{Told, Answered, accepted, refused}
 use Rattle.demands.specs.Demand1.{PrepareResult, HashResult, ChainResult, BuildResult, CheckResult, ReadOffResult}
 use Rattle.demands.specs.Demand1.{EditResult, UnhashResult, PackResult, UnpackResult, PackShortResult}
 use Rattle.demands.specs.Demand1.{UnpackShortResult, ToShortResult, ToFullResult, Demand1}
@@ -249,32 +251,33 @@ state-none answer.Accepted s = refl
 state-none (answer.Refused r) s = refl
 
 -- what a word says, from the tests t that it tells of: they are within its bits, and refuse with these numbers only
-module _ (code : ℕ) (ns : List ℕ) (full : ℕ → Type 0) (kept : Type 0) where
-  tests-says : (t : Answer) (n : ℕ) → code ≡ testsCode (testsAfter t n) → (t ≡ answer.Accepted → n < 2 ^ 28)
-      → AnswerEnds RefusalInBits t → AnswerEnds (OneOf ns) t
-      → (t ≡ answer.Accepted → full n) → (IsRefusal t → kept) → Answered code ns full kept
+module _ (code : ℕ) (ns : List ℕ) (Is : Answer → Type 0) (full : ℕ → Type 0) (kept : Type 0) where
+  tests-says : (t : Answer) → Is t → (n : ℕ) → code ≡ testsCode (testsAfter t n)
+      → (t ≡ answer.Accepted → n < 2 ^ 28) → AnswerEnds RefusalInBits t → AnswerEnds (OneOf ns) t
+      → (t ≡ answer.Accepted → full n) → (IsRefusal t → kept) → Answered code ns Is full kept
   unfolding testsCode
-  tests-says answer.Accepted n e l b o f k = accepted n (rw e (says-accepted n (l refl))) (f refl)
-  tests-says (answer.Refused r) n e l b o f k = refused r (rw e (says (told r) b)) o (k (r, refl))
+  tests-says answer.Accepted i n e l b o f k = accepted n i (rw e (says-accepted n (l refl))) (f refl)
+  tests-says (answer.Refused r) i n e l b o f k = refused r i (rw e (says (told r) b)) o (k (r, refl))
 
-  answer-says : (t : Answer) → code ≡ answerCode t → AnswerEnds RefusalInBits t → AnswerEnds (OneOf ns) t
-      → (t ≡ answer.Accepted → full 0) → (IsRefusal t → kept) → Answered code ns full kept
-  answer-says t e = tests-says t 0 (e ∙ answer-none t) (λ a. lit< tt)
+  answer-says : (t : Answer) → Is t → code ≡ answerCode t → AnswerEnds RefusalInBits t → AnswerEnds (OneOf ns) t
+      → (t ≡ answer.Accepted → full 0) → (IsRefusal t → kept) → Answered code ns Is full kept
+  answer-says t i e = tests-says t i 0 (e ∙ answer-none t) (λ a. lit< tt)
 
-  digest-says : (t : Answer) (d : Digest) → code ≡ digestCode (digestAfter t d)
+  digest-says : (t : Answer) → Is t → (d : Digest) → code ≡ digestCode (digestAfter t d)
       → AnswerEnds RefusalInBits t → AnswerEnds (OneOf ns) t
-      → (t ≡ answer.Accepted → full 0) → (IsRefusal t → kept) → Answered code ns full kept
-  digest-says t d e = tests-says t 0 (e ∙ digest-none t d) (λ a. lit< tt)
+      → (t ≡ answer.Accepted → full 0) → (IsRefusal t → kept) → Answered code ns Is full kept
+  digest-says t i d e = tests-says t i 0 (e ∙ digest-none t d) (λ a. lit< tt)
 
-  state-says : (t : Answer) (s : State) → code ≡ stateCode (stateAfter t s)
+  state-says : (t : Answer) → Is t → (s : State) → code ≡ stateCode (stateAfter t s)
       → AnswerEnds RefusalInBits t → AnswerEnds (OneOf ns) t
-      → (t ≡ answer.Accepted → full 0) → (IsRefusal t → kept) → Answered code ns full kept
-  state-says t s e = tests-says t 0 (e ∙ state-none t s) (λ a. lit< tt)
+      → (t ≡ answer.Accepted → full 0) → (IsRefusal t → kept) → Answered code ns Is full kept
+  state-says t i s e = tests-says t i 0 (e ∙ state-none t s) (λ a. lit< tt)
 
 prepare-call : (raw table table′ : List ℕ) (code : ℕ) → PrepareCall raw table code table′
-    → Answered code (callNumbers prepare) (PrepareResult raw table table′) (table′ ≡ table)
+    → Answered code (callNumbers prepare) (λ a. Prepares raw table a table′) (PrepareResult raw table table′) (table′ ≡ table)
 prepare-call raw table table′ code h =
-    answer-says code (callNumbers prepare) (PrepareResult raw table table′) (table′ ≡ table) (h .answer) (h .coded)
+    answer-says code (callNumbers prepare) (λ a. Prepares raw table a table′) (PrepareResult raw table table′)
+    (table′ ≡ table) (h .answer) (h .prepares) (h .coded)
     (bits.prepare-bits raw table table′ (h .answer) (h .prepares))
     (prepare-numbers raw table table′ (h .answer) (h .prepares))
     (λ e. record { none = refl; prepares = subst (λ a. Prepares raw table a table′) e (h .prepares) })
@@ -290,7 +293,7 @@ module _ (t : Answer) (d : Digest) (code : ℕ) (old new : List ℕ) (h : HandsO
 
 hash-call : (T output output′ : List ℕ) (w0 w1 w2 w3 w4 w5 w6 w7 code : ℕ)
     → HandsOverState (hashCall T (w0 ∷ w1 ∷ w2 ∷ w3 ∷ w4 ∷ w5 ∷ w6 ∷ w7 ∷ []) (length output)) code output output′
-    → Answered code (callNumbers hash) (HashResult T (w0 ∷ w1 ∷ w2 ∷ w3 ∷ []) (w4 ∷ w5 ∷ w6 ∷ w7 ∷ []) output′)
+    → Answered code (callNumbers hash) (λ a. hashCallTest T (w0 ∷ w1 ∷ w2 ∷ w3 ∷ w4 ∷ w5 ∷ w6 ∷ w7 ∷ []) (length output) ≡ a) (HashResult T (w0 ∷ w1 ∷ w2 ∷ w3 ∷ []) (w4 ∷ w5 ∷ w6 ∷ w7 ∷ []) output′)
     (output′ ≡ output)
 unfolding hashCall
 hash-call T output output′ w0 w1 w2 w3 w4 w5 w6 w7 code h =
@@ -301,7 +304,7 @@ hash-call T output output′ w0 w1 w2 w3 w4 w5 w6 w7 code h =
     let t = hashCallTest T words (length output) in
     let final = rescue.finalState T (rescue.input a b) in
     let left : Answer → List ℕ = λ x. writtenState (stateAfter x (state final)) output in
-    state-says code ns (HashResult T a b output′) (output′ ≡ output) t (state final) (h .coded)
+    state-says code ns (λ x. t ≡ x) (HashResult T a b output′) (output′ ≡ output) t refl (state final) (h .coded)
     (bits.hash-bits T words (length output) refl)
     (ends.hash-call-ends (OneOf ns) (table-causes ns refl refl refl) T words (λ i l. one-of 6 ns refl) (length output)
     (one-of 8 ns refl))
@@ -341,14 +344,14 @@ build-call-inputs T w rows size e =
     build-inputs T w rows (build-room T w size rows (eqb-true size 4 (d .0)) ∙ e)
 
 chain-call : (T w output output′ : List ℕ) (code : ℕ) → HandsOver (chainCall T w (length output)) code output output′
-    → Answered code (callNumbers chain) (ChainResult T w output′) (output′ ≡ output)
+    → Answered code (callNumbers chain) (λ a. chainCallTest T w (length output) ≡ a) (ChainResult T w output′) (output′ ≡ output)
 unfolding chainCall
 chain-call T w output output′ code h =
     let ns = callNumbers chain in
     let k = tapWordBatches (length w) in
     let t = chainCallTest T w (length output) in
     let d = digest (rescue.chain T w k) in
-    digest-says code ns (ChainResult T w output′) (output′ ≡ output) t d (h .coded)
+    digest-says code ns (λ a. t ≡ a) (ChainResult T w output′) (output′ ≡ output) t refl d (h .coded)
     (bits.chain-bits T w (length output))
     (ends.chain-call-ends (OneOf ns) (table-causes ns refl refl refl) T w (λ n. one-of 5 ns refl)
     (λ k s p i l. one-of 6 ns refl) (length output) (one-of 8 ns refl))
@@ -362,14 +365,15 @@ chain-call T w output output′ code h =
     (output-old t d code output output′ h)
 
 build-call : (T w rows rows′ output output′ : List ℕ) (code : ℕ) → BuildCall T w code rows rows′ output output′
-    → Answered code (callNumbers build) (BuildResult T w rows′ output′) ((rows′ ≡ rows) × (output′ ≡ output))
+    → Answered code (callNumbers build) (λ a. buildCallTest T w (length rows) (length output) ≡ a) (BuildResult T w rows′ output′) ((rows′ ≡ rows) × (output′ ≡ output))
 unfolding buildCall
 build-call T w rows rows′ output output′ code h =
     let ns = callNumbers build in
     let k = tapWordBatches (length w) in
     let t = buildCallTest T w (length rows) (length output) in
     let d = digest (rescue.chain T w k) in
-    digest-says code ns (BuildResult T w rows′ output′) ((rows′ ≡ rows) × (output′ ≡ output)) t d (h .four .coded)
+    digest-says code ns (λ a. t ≡ a) (BuildResult T w rows′ output′) ((rows′ ≡ rows) × (output′ ≡ output)) t refl d
+    (h .four .coded)
     (bits.build-bits T w (length rows) (length output))
     (ends.build-call-ends (OneOf ns) (table-causes ns refl refl refl) T w (λ n. one-of 5 ns refl)
     (λ k s p i l. one-of 6 ns refl) (length rows) (length output) (one-of 8 ns refl))
@@ -384,44 +388,58 @@ build-call T w rows rows′ output output′ code h =
     (λ r. (h .rows ∙ ap (λ x. leaves x (trace T w k) rows) (r .1), output-old t d code output output′ (h .four) r))
 
 module _ (T t : List ℕ) (c0 c1 c2 c3 c : ℕ) where
+  -- what an accepted trace stands for
+  list : (claim : List ℕ) → length claim ≡ 4 → let k = traceWordBatches (length t) in
+      CheckInputs T t claim c k → order.constraintTest T t claim c k ≡ answer.Accepted
+      → IsListFor T t claim c k (readTaps T t k)
+  list claim four i e =
+      let o = i .opening in
+      reads-that-list T t claim c (traceWordBatches (length t)) (o .table) (o .permitted) (o .low) (o .high) (o .size)
+      (i .canonical) four e
+
   check-call : (code : ℕ) → code ≡ testsCode (checkAnswer T t (c0 ∷ c1 ∷ c2 ∷ c3 ∷ []) c)
-      → Answered code (callNumbers check) (CheckResult t c) Unit
+      → Answered code (callNumbers check) (λ a. checkTest T t (c0 ∷ c1 ∷ c2 ∷ c3 ∷ []) c ≡ a) (CheckResult T t (c0 ∷ c1 ∷ c2 ∷ c3 ∷ []) c) Unit
   unfolding checkAnswer
   check-call code h =
       let claim : List ℕ = c0 ∷ c1 ∷ c2 ∷ c3 ∷ [] in
       let k = traceWordBatches (length t) in
-      tests-says code (callNumbers check) (CheckResult t c) Unit (checkTest T t claim c) (length (order.tests k c)) h
+      tests-says code (callNumbers check) (λ a. checkTest T t claim c ≡ a) (CheckResult T t claim c) Unit
+      (checkTest T t claim c) refl (length (order.tests k c)) h
       (λ e. (let o = check-inputs T t claim c e .0 .opening in bits.tests-bits k c (o .permitted) (o .low) (o .high)))
       (bits.check-bits T t claim c refl)
       (check-numbers T t claim c)
-      (λ e. (let o = check-inputs T t claim c e .0 .opening in record {
+      (λ e. (let i = check-inputs T t claim c e in let o = i .0 .opening in record {
         k = k;
         permitted = o .permitted;
         rows = o .size;
         claimed = (o .low, o .high);
         all = length-tests k c (o .low) (o .high);
+        stands-for = (readTaps T t k, list claim refl (i .0) (i .1));
       }))
       (λ r. tt)
 
   read-off-call : (taps taps′ : List ℕ) (code : ℕ) → ReadOffCall T t (c0 ∷ c1 ∷ c2 ∷ c3 ∷ []) c code taps taps′
-      → Answered code (callNumbers read-off) (ReadOffResult T t c taps′) (taps′ ≡ taps)
+      → Answered code (callNumbers read-off) (λ a. readOffTest T t (c0 ∷ c1 ∷ c2 ∷ c3 ∷ []) c (length taps) ≡ a) (ReadOffResult T t (c0 ∷ c1 ∷ c2 ∷ c3 ∷ []) c taps′) (taps′ ≡ taps)
   unfolding readOffAnswer readOffLeaves
   read-off-call taps taps′ code h =
       let claim : List ℕ = c0 ∷ c1 ∷ c2 ∷ c3 ∷ [] in
       let k = traceWordBatches (length t) in
-      tests-says code (callNumbers read-off) (ReadOffResult T t c taps′) (taps′ ≡ taps)
-      (readOffTest T t claim c (length taps)) (length (order.tests k c)) (h .coded)
+      tests-says code (callNumbers read-off) (λ a. readOffTest T t claim c (length taps) ≡ a)
+      (ReadOffResult T t claim c taps′) (taps′ ≡ taps)
+      (readOffTest T t claim c (length taps)) refl (length (order.tests k c)) (h .coded)
       (λ e. (let o = read-off-inputs T t claim c (length taps) e .1 .opening in
       bits.tests-bits k c (o .permitted) (o .low) (o .high)))
       (bits.read-off-bits T t claim c refl (length taps))
       (read-off-numbers T t claim c (length taps))
-      (λ e. (let o = read-off-inputs T t claim c (length taps) e .1 .opening in record {
+      (λ e. (let i = read-off-inputs T t claim c (length taps) e in let o = i .1 .opening in
+      let left = h .list ∙ ap (λ x. leaves x (readTaps T t k) taps) e in record {
         k = k;
         permitted = o .permitted;
         rows = o .size;
         claimed = (o .low, o .high);
         all = length-tests k c (o .low) (o .high);
-        taps-are = h .list ∙ ap (λ x. leaves x (readTaps T t k) taps) e;
+        taps-are = left;
+        stands-for = subst (IsListFor T t claim c k) (sym left) (list claim refl (i .1) (i .2));
       }))
       (λ r. h .list ∙ ap (λ x. leaves x (readTaps T t k) taps) (r .1))
 
@@ -432,7 +450,7 @@ edit-call-inputs T t claim c n new size e = opened T t c (both-accepted (opening
 
 edit-call : (T t t′ output output′ : List ℕ) (c0 c1 c2 c3 c n w0 w1 w2 w3 code : ℕ)
     → EditCall T t (c0 ∷ c1 ∷ c2 ∷ c3 ∷ []) c n (w0 ∷ w1 ∷ w2 ∷ w3 ∷ []) code t′ output output′
-    → Answered code (callNumbers edit) (EditResult T t c n (w0 ∷ w1 ∷ w2 ∷ w3 ∷ []) t′ output′)
+    → Answered code (callNumbers edit) (λ a. editCallTest T t (c0 ∷ c1 ∷ c2 ∷ c3 ∷ []) c n (w0 ∷ w1 ∷ w2 ∷ w3 ∷ []) (length output) ≡ a) (EditResult T t c n (w0 ∷ w1 ∷ w2 ∷ w3 ∷ []) t′ output′)
     ((t′ ≡ t) × (output′ ≡ output))
 unfolding editCall
 edit-call T t t′ output output′ c0 c1 c2 c3 c n w0 w1 w2 w3 code h =
@@ -444,7 +462,8 @@ edit-call T t t′ output output′ c0 c1 c2 c3 c n w0 w1 w2 w3 code h =
     let first = rescue.firstTaps c w in
     let tested = editCallTest T t claim c n new (length output) in
     let d = digest (rescue.chain T first c) in
-    digest-says code ns (EditResult T t c n new t′ output′) ((t′ ≡ t) × (output′ ≡ output)) tested d (h .four .coded)
+    digest-says code ns (λ a. tested ≡ a) (EditResult T t c n new t′ output′) ((t′ ≡ t) × (output′ ≡ output)) tested refl d
+    (h .four .coded)
     (bits.edit-bits T t claim c refl n new (length output) refl)
     (ends.edit-call-ends (OneOf ns) (table-causes ns refl refl refl) T t claim c (λ n. one-of 7 ns refl)
     (λ k e p s o. one-of 17 ns refl) (λ i l. one-of 9 ns refl) (λ k s p i l. one-of 10 ns refl) n new
@@ -463,12 +482,13 @@ edit-call T t t′ output output′ c0 c1 c2 c3 c n w0 w1 w2 w3 code h =
 
 unhash-call : (T taps taps′ : List ℕ) (s0 s1 s2 s3 s4 s5 s6 s7 s8 s9 s10 s11 code : ℕ)
     → let s = s0 ∷ s1 ∷ s2 ∷ s3 ∷ s4 ∷ s5 ∷ s6 ∷ s7 ∷ s8 ∷ s9 ∷ s10 ∷ s11 ∷ [] in
-    UnhashCall T s code taps taps′ → Answered code (callNumbers unhash) (UnhashResult T s taps′) (taps′ ≡ taps)
+    UnhashCall T s code taps taps′ → Answered code (callNumbers unhash) (λ a. unhashCallTest T s (length taps) ≡ a) (UnhashResult T s taps′) (taps′ ≡ taps)
 unhash-call T taps taps′ s0 s1 s2 s3 s4 s5 s6 s7 s8 s9 s10 s11 code h =
     let s : List ℕ = s0 ∷ s1 ∷ s2 ∷ s3 ∷ s4 ∷ s5 ∷ s6 ∷ s7 ∷ s8 ∷ s9 ∷ s10 ∷ s11 ∷ [] in
     let ns = callNumbers unhash in
     let left : Answer → List ℕ = λ x. leaves x (tapsBefore T s) taps in
-    answer-says code ns (UnhashResult T s taps′) (taps′ ≡ taps) (unhashCallTest T s (length taps)) (h .coded)
+    answer-says code ns (λ a. unhashCallTest T s (length taps) ≡ a) (UnhashResult T s taps′) (taps′ ≡ taps)
+    (unhashCallTest T s (length taps)) refl (h .coded)
     (bits.unhash-bits T s (length taps) refl)
     (ends.unhash-call-ends (OneOf ns) (table-causes ns refl refl refl) T s (λ i l. one-of 6 ns refl)
     (λ t c. one-of 16 ns refl) (length taps) (one-of 8 ns refl))
@@ -476,25 +496,26 @@ unhash-call T taps taps′ s0 s1 s2 s3 s4 s5 s6 s7 s8 s9 s10 s11 code h =
     (λ r. h .taps ∙ ap left (r .1))
 
 pack-call : (w file file′ : List ℕ) (c0 c1 c2 c3 code : ℕ) → PackCall w (c0 ∷ c1 ∷ c2 ∷ c3 ∷ []) file code file′
-    → Answered code (callNumbers pack) (PackResult w (c0 ∷ c1 ∷ c2 ∷ c3 ∷ []) file′) (file′ ≡ file)
+    → Answered code (callNumbers pack) (λ a. packTest w (c0 ∷ c1 ∷ c2 ∷ c3 ∷ []) (length file) ≡ a) (PackResult w (c0 ∷ c1 ∷ c2 ∷ c3 ∷ []) file′) (file′ ≡ file)
 unfolding packLeaves
 pack-call w file file′ c0 c1 c2 c3 code h =
     let claim : List ℕ = c0 ∷ c1 ∷ c2 ∷ c3 ∷ [] in
-    answer-says code (callNumbers pack) (PackResult w claim file′) (file′ ≡ file)
-    (packTest w claim (length file)) (h .coded)
+    answer-says code (callNumbers pack) (λ a. packTest w claim (length file) ≡ a) (PackResult w claim file′) (file′ ≡ file)
+    (packTest w claim (length file)) refl (h .coded)
     (bits.pack-bits w claim (length file) refl)
     (pack-numbers w claim (length file))
     (λ e. record { none = refl; file-is = h .file ∙ ap (λ x. leaves x (packed w claim) file) e })
     (λ r. h .file ∙ ap (λ x. leaves x (packed w claim) file) (r .1))
 
 unpack-call : (file taps taps′ claim claim′ : List ℕ) (code : ℕ) → UnpackCall file code taps taps′ claim claim′
-    → Answered code (callNumbers unpack) (UnpackResult file taps′ claim′) ((taps′ ≡ taps) × (claim′ ≡ claim))
+    → Answered code (callNumbers unpack) (λ a. unpackCallTest file (length taps) (length claim) ≡ a) (UnpackResult file taps′ claim′) ((taps′ ≡ taps) × (claim′ ≡ claim))
 unfolding unpackCall
 unpack-call file taps taps′ claim claim′ code h =
     let ns = callNumbers unpack in
     let t = unpackCallTest file (length taps) (length claim) in
     let d = digest (claimIn file) in
-    digest-says code ns (UnpackResult file taps′ claim′) ((taps′ ≡ taps) × (claim′ ≡ claim)) t d (h .four .coded)
+    digest-says code ns (λ a. t ≡ a) (UnpackResult file taps′ claim′) ((taps′ ≡ taps) × (claim′ ≡ claim)) t refl d
+    (h .four .coded)
     (bits.unpack-bits file (length taps) (length claim))
     (ends.unpack-call-ends (OneOf ns) file (one-of 12 ns refl) (λ j l. one-of 13 ns refl) (λ j l. one-of 14 ns refl)
     (length taps) (length claim) (one-of 8 ns refl))
@@ -507,13 +528,13 @@ unpack-call file taps taps′ claim claim′ code h =
 
 pack-short-call : (w file file′ : List ℕ) (c0 c1 c2 c3 code : ℕ)
     → PackShortCall w (c0 ∷ c1 ∷ c2 ∷ c3 ∷ []) file code file′
-    → Answered code (callNumbers pack-short) (PackShortResult w (c0 ∷ c1 ∷ c2 ∷ c3 ∷ []) file′) (file′ ≡ file)
+    → Answered code (callNumbers pack-short) (λ a. packShortTest w (c0 ∷ c1 ∷ c2 ∷ c3 ∷ []) (length file) ≡ a) (PackShortResult w (c0 ∷ c1 ∷ c2 ∷ c3 ∷ []) file′) (file′ ≡ file)
 unfolding packShortLeaves
 pack-short-call w file file′ c0 c1 c2 c3 code h =
     let claim : List ℕ = c0 ∷ c1 ∷ c2 ∷ c3 ∷ [] in
     let left : Answer → List ℕ = λ x. leaves x (packedShort w claim) file in
-    answer-says code (callNumbers pack-short) (PackShortResult w claim file′) (file′ ≡ file)
-    (packShortTest w claim (length file)) (h .coded)
+    answer-says code (callNumbers pack-short) (λ a. packShortTest w claim (length file) ≡ a) (PackShortResult w claim file′)
+    (file′ ≡ file) (packShortTest w claim (length file)) refl (h .coded)
     (bits.pack-short-bits w claim (length file) refl)
     (pack-short-numbers w claim (length file))
     (λ e. record { none = refl; file-is = h .file ∙ ap left e })
@@ -521,7 +542,7 @@ pack-short-call w file file′ c0 c1 c2 c3 code h =
 
 unpack-short-call : (file taps taps′ claim claim′ : List ℕ) (code : ℕ)
     → UnpackShortCall file code taps taps′ claim claim′
-    → Answered code (callNumbers unpack-short) (UnpackShortResult file taps′ claim′)
+    → Answered code (callNumbers unpack-short) (λ a. unpackShortCallTest file (length taps) (length claim) ≡ a) (UnpackShortResult file taps′ claim′)
     ((taps′ ≡ taps) × (claim′ ≡ claim))
 unfolding unpackShortCall
 unpack-short-call file taps taps′ claim claim′ code h =
@@ -529,7 +550,8 @@ unpack-short-call file taps taps′ claim claim′ code h =
     let t = unpackShortCallTest file (length taps) (length claim) in
     let d = digest (shortClaimIn file) in
     let left : Answer → List ℕ = λ x. leaves x (shortTapsIn file) taps in
-    digest-says code ns (UnpackShortResult file taps′ claim′) ((taps′ ≡ taps) × (claim′ ≡ claim)) t d (h .four .coded)
+    digest-says code ns (λ a. t ≡ a) (UnpackShortResult file taps′ claim′) ((taps′ ≡ taps) × (claim′ ≡ claim)) t refl d
+    (h .four .coded)
     (bits.unpack-short-bits file (length taps) (length claim))
     (ends.unpack-short-call-ends (OneOf ns) file (one-of 12 ns refl) (λ j l. one-of 13 ns refl)
     (λ j l. one-of 14 ns refl) (λ j l. one-of 18 ns refl) (length taps) (length claim) (one-of 8 ns refl))
@@ -541,28 +563,52 @@ unpack-short-call file taps taps′ claim claim′ code h =
     (λ r. (h .list ∙ ap left (r .1), output-old t d code claim claim′ (h .four) r))
 
 to-short-call : (file short short′ : List ℕ) (code : ℕ) → ToShortCall file short code short′
-    → Answered code (callNumbers to-short) (ToShortResult file short′) (short′ ≡ short)
+    → Answered code (callNumbers to-short) (λ a. toShortTest file (length short) ≡ a) (ToShortResult file short′) (short′ ≡ short)
 unfolding toShortLeaves
 to-short-call file short short′ code h =
     let left : Answer → List ℕ = λ x. leaves x (packedShort (tapsIn file) (claimIn file)) short in
-    answer-says code (callNumbers to-short) (ToShortResult file short′) (short′ ≡ short)
-    (toShortTest file (length short)) (h .coded)
+    answer-says code (callNumbers to-short) (λ a. toShortTest file (length short) ≡ a) (ToShortResult file short′)
+    (short′ ≡ short) (toShortTest file (length short)) refl (h .coded)
     (bits.to-short-bits file (length short))
     (to-short-numbers file (length short))
     (λ e. record { none = refl; short-is = h .short ∙ ap left e })
     (λ r. h .short ∙ ap left (r .1))
 
 to-full-call : (short file file′ : List ℕ) (code : ℕ) → ToFullCall short file code file′
-    → Answered code (callNumbers to-full) (ToFullResult short file′) (file′ ≡ file)
+    → Answered code (callNumbers to-full) (λ a. toFullTest short (length file) ≡ a) (ToFullResult short file′) (file′ ≡ file)
 unfolding toFullLeaves
 to-full-call short file file′ code h =
     let left : Answer → List ℕ = λ x. leaves x (packed (shortTapsIn short) (shortClaimIn short)) file in
-    answer-says code (callNumbers to-full) (ToFullResult short file′) (file′ ≡ file)
-    (toFullTest short (length file)) (h .coded)
+    answer-says code (callNumbers to-full) (λ a. toFullTest short (length file) ≡ a) (ToFullResult short file′) (file′ ≡ file)
+    (toFullTest short (length file)) refl (h .coded)
     (bits.to-full-bits short (length file))
     (to-full-numbers short (length file))
     (λ e. record { none = refl; file-is = h .file ∙ ap left e })
     (λ r. h .file ∙ ap left (r .1))
+
+-- ---- the numbers
+table : Told
+table = record {
+  table-length = refl;
+  table-word = λ i. refl;
+  no-inverse = refl;
+  wrong-inverse = λ i. refl;
+  tap-length = refl;
+  tap-word = λ i. refl;
+  trace-length = refl;
+  destination-length = refl;
+  claim-word = λ i. refl;
+  trace-word = λ i. refl;
+  constraint = λ i q n. refl;
+  file-length = refl;
+  wrong-kind = λ i. refl;
+  wrong-value = λ i. refl;
+  no-such-tap = refl;
+  no-pair = refl;
+  claim-batches = refl;
+  long-element = λ i. refl;
+  same-edition = refl;
+}
 
 -- ---- the demand
 
@@ -574,6 +620,9 @@ pub demand-1 : Demand1
 unfolding buildAnswer buildLeaves readOffAnswer readOffLeaves editAnswer editLeaves packLeaves unpackAnswer unpackLeaves
     packShortLeaves unpackShortAnswer unpackShortLeaves toShortLeaves toFullLeaves
 demand-1 = record {
+  table = table;
+  tells-one = tells-one;
+  tells-apart = tells-apart;
   numbered = numbered;
   prepare-never-4 = never-4;
   only-prepare-3 = only-3;

@@ -1,16 +1,17 @@
 -- Demand 2: hash, chain and trace are the definitions', a built trace reads off to its taps, and the board file
--- round-trips.
+-- round-trips; by the words and buffers of the calls too.
 -- Assumes nothing.
-use mathlib.Core.Path.{_≡_, sym, ap, ap₂, _∙_}
+use mathlib.Core.Path.{_≡_, refl, sym, ap, ap₂, _∙_}
 use mathlib.Core.List.{List, _++_}
+use mathlib.Core.Logic.{_↔_}
 use Prim.Native.Nat.{ℕ, _+_, _*_, _-_, _≤_}
 use native.Mathlib.Omega.{arith}
 use lib.ListN.{length, take, drop}
 use lib.Seq.{take-at, drop-at}
 use Rattle.words.specs.Words.{AllCanonical}
 use Rattle.words.proofs.Laws.{append-canonical}
-use Rattle.numbers.specs.Numbers.{IsPermitted, tapWordBatches, traceWordBatches}
-use Rattle.refusals.specs.Refusals.{digest, digestWords, state, stateWords}
+use Rattle.numbers.specs.Numbers.{IsPermitted, IsPermittedTo, tapWordBatches, traceWordBatches}
+use Rattle.refusals.specs.Refusals.{indexed, digest, digestWords, state, stateWords}
 use Rattle.refusals.specs.Answers.{digestAfter, stateAfter, testsAfter, leaves}
 use Rattle.refusals.specs.declared.Answer.the-variants as answer
 use Rattle.refusals.specs.declared.Digest.{Digest}
@@ -41,11 +42,21 @@ use Rattle.checker.proofs.Theorems.{check-verdict}
 use Rattle.readoff.specs.Answers.{readOffTest, readOffAnswer, readOffLeaves}
 use Rattle.readoff.proofs.Theorems.{same-for}
 use Rattle.elements.specs.Words.{AllBytes}
+use Rattle.board.specs.Board.{mostFileBatches, fileSize}
 use Rattle.board.specs.Board.{packTest, packed, packLeaves, unpackTest, unpackAnswer, tapsIn, claimIn, unpackLeaves}
-use Rattle.board.proofs.Theorems.{unpack-packed, pack-unpack}
+use Rattle.board.proofs.Answers.{pack-accepted, pack-complete}
+use Rattle.board.proofs.Round.{taps-length}
+use Rattle.board.proofs.Theorems.{unpack-packed, pack-unpack, accepted-board}
+use Rattle.handover.specs.Code.{answerCode, digestCode, testsCode, Says}
+use Rattle.handover.specs.HandsOver.{written}
+use Rattle.handover.proofs.Bits.{says-accepted, zero-accepts}
+use Rattle.calls.specs.Calls.{BuildCall, ReadOffCall, PackCall, UnpackCall}
+use Rattle.calls.proofs.Answers.{unpack-answer, unpack-left}
+use Rattle.calls.proofs.Theorems.{pack-bits}
 use Rattle.exact.proofs.ReadList.{row-of-trace}
 use Rattle.exact.proofs.Exactness.{accepts-built, reading-off-a-built-trace}
 use Rattle.demands.specs.Demand2.{Demand2}
+use Rattle.demands.proofs.Called.{built, unpacked}
 use Rattle.refusals.proofs.Returned.{four-words, twelve-words}
 
 -- ---- hash and chain
@@ -168,6 +179,93 @@ packs file old room d bytes e l =
     let again : packTest taps claim (length room) ≡ answer.Accepted = ap (packTest taps claim) l ∙ p .0 in
     rw passes (again, ap (λ a. leaves a (packed taps claim) room) again ∙ p .1)
 
+pack-accepts : (w claim : List ℕ) (size : ℕ) → length claim ≡ 4
+    → (packTest w claim size ≡ answer.Accepted)
+    ↔ ((k : ℕ) × IsPermittedTo mostFileBatches k × (length w ≡ 12 * k + 4) × AllCanonical w × AllCanonical claim
+    × (size ≡ fileSize k))
+pack-accepts w claim size four = (
+  λ e.
+      let h = pack-accepted w claim size e in
+      (tapWordBatches (length w), h .permitted, h .taps-size, h .taps-canonical, h .claim-canonical, h .size-is),
+  λ h.
+      pack-complete w claim size (h .0) (record {
+        permitted = h .1;
+        taps-size = h .2;
+        size-is = h .5;
+        claim-canonical = h .4;
+        taps-canonical = h .3;
+      }),
+)
+
+unpack-accepts : (file : List ℕ) (size : ℕ) (d : Digest) → AllBytes file
+    → (unpackAnswer file size ≡ Accepted d)
+    ↔ ((taps : List ℕ) × (packTest taps (digestWords d) (length file) ≡ answer.Accepted)
+    × (file ≡ packed taps (digestWords d)) × (size ≡ length taps))
+unpack-accepts file size d bytes = (
+  λ e.
+      let p = pack-unpack file size d bytes e in
+      (tapsIn file, p .0, sym (p .1), accepted-board file size d e .1 ∙ sym (taps-length file)),
+  λ h.
+      let taps = h .0 in
+      ap (λ f. unpackAnswer f size) (h .2)
+      ∙ ap (unpackAnswer (packed taps (digestWords d))) (h .3)
+      ∙ unpack-packed taps (digestWords d) (length file) refl (h .1) .0,
+)
+
+-- ---- the calls
+call-reads-back : (T w rows rows′ output output′ room room′ : List ℕ) (code : ℕ)
+    → BuildCall T w 0 rows rows′ output output′ → length room ≡ length w
+    → let k = tapWordBatches (length w) in
+    ReadOffCall T rows′ output′ k code room room′ → Says code (indexed 0 (372 * k)) × (room′ ≡ w)
+unfolding buildAnswer testsCode
+call-reads-back T w rows rows′ output output′ room room′ code builds l reads =
+    let k = tapWordBatches (length w) in
+    let b = built T w rows rows′ output output′ builds in
+    let r = reads-back T w rows room (b .0) (b .1) l in
+    let tested = digest-accepted (buildTest T w (length rows)) _ (b .0) (b .1) .0 in
+    let most = build-inputs T w (length rows) tested .permitted .high in
+    let said : code ≡ testsCode (counted.Accepted (372 * k)) =
+    reads .coded
+    ∙ ap testsCode (ap₂ (λ t d. readOffAnswer T t d k (length room)) (b .2) (b .3) ∙ r .0) in (
+      rw said (says-accepted (372 * k) (omega (arith, most))),
+      reads .list ∙ ap₂ (λ t d. readOffLeaves T t d k room) (b .2) (b .3) ∙ r .1,
+    )
+
+-- where Pack's word is 0, it accepted
+packing : (w claim file file′ : List ℕ) → length claim ≡ 4 → PackCall w claim file 0 file′
+    → packTest w claim (length file) ≡ answer.Accepted
+packing w claim file file′ four called =
+    zero-accepts (packTest w claim (length file)) (pack-bits w claim (length file) four) (sym (called .coded))
+
+call-unpacks : (w claim file file′ room room′ four four′ : List ℕ) (code : ℕ) → length claim ≡ 4
+    → PackCall w claim file 0 file′ → length room ≡ length w → length four ≡ 4
+    → UnpackCall file′ code room room′ four four′
+    → (code ≡ 0) × (room′ ≡ w) × (four′ ≡ claim)
+unfolding digestCode
+call-unpacks w claim file file′ room room′ four four′ code c packs l f called =
+    let u = unpacks w claim file room c (packing w claim file file′ c packs) l in
+    let answered = sym (unpack-answer (length four) f file′ (length room))
+    ∙ ap (λ s. unpackAnswer s (length room)) (packs .file)
+    ∙ u .0 in (
+      called .four .coded ∙ ap digestCode answered,
+      called .list
+          ∙ sym (unpack-left (length four) f file′ room)
+          ∙ ap (λ s. unpackLeaves s room) (packs .file)
+          ∙ u .1,
+      called .four .output ∙ ap (λ a. written a four) answered ∙ four-words claim c,
+    )
+
+call-packs : (file taps taps′ claim claim′ room room′ : List ℕ) (code : ℕ) → AllBytes file
+    → UnpackCall file 0 taps taps′ claim claim′ → length room ≡ length file → PackCall taps′ claim′ room code room′
+    → (code ≡ 0) × (room′ ≡ file)
+unfolding answerCode
+call-packs file taps taps′ claim claim′ room room′ code bytes called l again =
+    let u = unpacked file taps taps′ claim claim′ called in
+    let p = packs file taps room (u .0) bytes (u .1) l in
+    let test : packTest taps′ claim′ (length room) ≡ answer.Accepted = rw (u .2, u .3) (p .0) in
+    let left : packLeaves taps′ claim′ room ≡ file = rw (u .2, u .3) (p .1) in
+    (again .coded ∙ ap answerCode test, again .file ∙ left)
+
 -- ---- the demand
 pub demand-2 : Demand2
 demand-2 = record {
@@ -179,6 +277,11 @@ demand-2 = record {
   );
   reads-back = reads-back;
   reads-back-early = reads-back-early;
+  pack-accepts = pack-accepts;
   unpacks = unpacks;
   packs = packs;
+  unpack-accepts = unpack-accepts;
+  call-reads-back = call-reads-back;
+  call-unpacks = call-unpacks;
+  call-packs = call-packs;
 }

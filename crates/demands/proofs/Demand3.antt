@@ -1,31 +1,37 @@
--- Demand 3: the checker is exact, the list is unique, reading off finds it, and a refusal names the first failing test.
+-- Demand 3: the checker is exact, the list is unique, reading off finds it, and a refusal names the first failing test;
+-- by the words and buffers of the calls too.
 -- Assumes nothing.
 use mathlib.Core.Path.{_≡_, refl, sym, ap, _∙_, subst}
 use mathlib.Core.List.{List}
-use mathlib.Core.Logic.{_⊎_, _↔_, inl, inr}
+use mathlib.Core.Logic.{_⊎_, ⊎-elim, _↔_, inl, inr}
 use Prim.Native.Nat.{ℕ, _+_, _*_, _≤_}
 use native.Mathlib.Omega.{arith}
 use lib.ListN.{length}
 use Rattle.words.specs.Words.{AllCanonical}
 use Rattle.numbers.specs.Numbers.{IsPermitted, traceWordBatches}
+use Rattle.refusals.specs.Refusals.{told, indexed}
 use Rattle.refusals.specs.Answers.{testsAfter, leaves}
 use Rattle.refusals.specs.declared.Refusal.the-variants.{Constraint}
 use Rattle.refusals.specs.declared.Answer.{Answer}
 use Rattle.refusals.specs.declared.Answer.the-variants as answer
 use Rattle.refusals.specs.declared.TestsAnswer.the-variants.{Accepted, Refused}
-use Rattle.refusals.proofs.Laws.{not-accepted, tests-accepted}
+use Rattle.refusals.proofs.Laws.{not-accepted, tests-accepted, tests-refused, ends-refusal}
 use Rattle.table.specs.Table.{IsTable}
 use Rattle.table.proofs.Theorems.{test-sound}
 use Rattle.constraints.specs.Constraints.{tests, constraintTest}
 use Rattle.constraints.specs.ReadOff.{readTaps}
 use Rattle.constraints.specs.FirstFailing.{IsFirstFailing}
 use Rattle.constraints.proofs.TestCount.{length-tests}
-use Rattle.checker.specs.Answers.{checkAnswer}
+use Rattle.checker.specs.Answers.{checkTest, checkAnswer}
 use Rattle.checker.proofs.Theorems.{check-verdict}
 use Rattle.readoff.specs.Answers.{readOffTest, readOffAnswer, readOffLeaves}
 use Rattle.readoff.proofs.Theorems.{same-for}
 use Rattle.exact.specs.Exact.{IsListFor, IsWholeListFor}
 use Rattle.exact.proofs.Exactness as exact
+use Rattle.handover.specs.Code.{testsCode, Says}
+use Rattle.handover.proofs.Bits.{RefusalInBits, says, says-accepted}
+use Rattle.calls.specs.Calls.{ReadOffCall}
+use Rattle.calls.proofs.Theorems.{check-bits}
 use Rattle.demands.specs.Demand3.{Exact, Demand3}
 
 -- what no earlier refusal turns back
@@ -77,6 +83,50 @@ module _ (T t claim : List ℕ) (c k : ℕ) (table : IsTable T) (permitted : IsP
       let f = failing (λ a. not-accepted r (sym e ∙ a)) in
       inr (f .0, f .1, f .2, checks ∙ ap (λ a. testsAfter a (length (tests k c))) (f .3), f .4)
 
+  -- ---- the calls
+  module _ (code : ℕ) (coded : code ≡ testsCode (checkAnswer T t claim c)) where
+    says-all : checkAnswer T t claim c ≡ Accepted (372 * k) → Says code (indexed 0 (372 * k))
+    unfolding testsCode
+    says-all e = rw (coded ∙ ap testsCode e) (says-accepted (372 * k) (omega (arith, permitted .high)))
+
+    says-failing : (i q n : ℕ) → checkAnswer T t claim c ≡ Refused (Constraint (record { 0 = i }) q n)
+        → Says code (told (Constraint (record { 0 = i }) q n))
+    unfolding checkAnswer testsCode
+    says-failing i q n e =
+        let r = Constraint (record { 0 = i }) q n in
+        let refused = tests-refused (checkTest T t claim c) _ r e in
+        rw (coded ∙ ap testsCode e)
+        (says (told r) (ends-refusal RefusalInBits (checkTest T t claim c) r (check-bits T t claim c claim-size) refused))
+
+    call-decided : Says code (indexed 0 (372 * k))
+        ⊎ ((i : ℕ) × (q : ℕ) × (n : ℕ) × Says code (told (Constraint (record { 0 = i }) q n))
+        × IsFirstFailing T t claim (tests k c) i q n)
+    call-decided =
+        ⊎-elim (λ a. inl (says-all a)) (λ f. inr (f .0, f .1, f .2, says-failing (f .0) (f .1) (f .2) (f .3), f .4))
+        (decided (constraintTest T t claim c k) refl)
+
+    said-accepted : Says code (indexed 0 (372 * k)) → checkAnswer T t claim c ≡ Accepted (372 * k)
+    said-accepted s =
+        ⊎-elim (λ a. a)
+        (λ f. absurd (let s11 = says-failing (f .0) (f .1) (f .2) (f .3) .number in omega (arith, s .number, s11)))
+        (decided (constraintTest T t claim c k) refl)
+
+  call-exactly : (code : ℕ) → code ≡ testsCode (checkAnswer T t claim c)
+      → Says code (indexed 0 (372 * k)) ↔ ((w : List ℕ) × IsListFor T t claim c k w)
+  call-exactly code e =
+      (λ s. accepts-exactly .0 (said-accepted code e s), λ w. says-all code e (accepts-exactly .1 w))
+
+  call-writes : (code : ℕ) (taps taps′ : List ℕ) → length taps ≡ 12 * k + 4 → ReadOffCall T t claim c code taps taps′
+      → (code ≡ testsCode (checkAnswer T t claim c))
+      × (Says code (indexed 0 (372 * k)) → IsListFor T t claim c k taps′)
+  call-writes code taps taps′ l h =
+      let same = ap (readOffAnswer T t claim c) l ∙ agrees in
+      let e = h .coded ∙ ap testsCode same in (
+        e,
+        λ s. subst (IsListFor T t claim c k) (sym (h .list))
+            (writes (372 * k) taps l (same ∙ said-accepted code e s)),
+      )
+
   exactly : Exact T t claim c k (IsListFor T t claim c k)
   exactly = record {
     accepts-exactly = accepts-exactly;
@@ -86,6 +136,9 @@ module _ (T t claim : List ℕ) (c k : ℕ) (table : IsTable T) (permitted : IsP
     read-off-writes = writes;
     whole-order = whole;
     refused-by-11 = decided (constraintTest T t claim c k) refl;
+    call-exactly = call-exactly;
+    call-writes = call-writes;
+    call-refused-by-11 = call-decided;
   }
 
 -- the same, said of lists in other words
@@ -101,6 +154,13 @@ said-of T t claim c k P Q h x = record {
   read-off-writes = λ n old l e. h (readOffLeaves T t claim c old) .0 (x .read-off-writes n old l e);
   whole-order = x .whole-order;
   refused-by-11 = x .refused-by-11;
+  call-exactly = λ code e. (
+    λ s. (let w = x .call-exactly code e .0 s in (w .0, h (w .0) .0 (w .1))),
+    λ w. x .call-exactly code e .1 (w .0, h (w .0) .1 (w .1)),
+  );
+  call-writes = λ code taps taps′ l r.
+      (x .call-writes code taps taps′ l r .0, λ s. h taps′ .0 (x .call-writes code taps taps′ l r .1 s));
+  call-refused-by-11 = x .call-refused-by-11;
 }
 
 -- ---- the demand

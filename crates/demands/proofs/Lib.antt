@@ -1,3 +1,4 @@
+pub mod Called
 pub mod Demand1
 pub mod Demand2
 pub mod Demand3
@@ -12,3 +13,4 @@ pub mod Request7
 pub mod Request8
 pub mod Request9
 pub mod Stored
+pub mod TurnedBack

@@ -32,6 +32,7 @@ use Rattle.calls.proofs.Answers.{unpack-short-room, unpack-short-without, no-sh
 use Rattle.calls.proofs.Answers.{unpack-short-answer, unpack-short-left}
 use Rattle.calls.proofs.Theorems as bits
 use Rattle.demands.specs.Request7.{IsShortDay, Request7}
+use Rattle.demands.proofs.Called.{had-room}
 
 -- ---- there and back
 writes-exactly : (taps claim : List ℕ) (size : ℕ) → length claim ≡ 4
@@ -197,22 +198,13 @@ module _ (file taps taps′ claim claim′ : List ℕ) (code : ℕ) (called : Un
     pub reader-accepts : code ≡ 0
         → (length claim ≡ 4) × (unpackShortAnswer file (length taps) ≡ Accepted (digest (shortClaimIn file)))
     unfolding unpackShortCall
-    reader-accepts zero = go (ℕ-discrete (length claim) 4)
-      where
-        passes : asked ≡ answer.Accepted
-        passes =
-            zero-returns asked (digest (shortClaimIn file)) (bits.unpack-short-bits file (length taps) (length claim))
-            (sym (called .four .coded) ∙ zero)
-
-        go : Dec (length claim ≡ 4)
-            → (length claim ≡ 4) × (unpackShortAnswer file (length taps) ≡ Accepted (digest (shortClaimIn file)))
-        go (yes four) =
-            let tested = unpack-short-room file (length taps) (length claim) four ∙ passes in
-            (four, unpack-returns file (length taps) tested)
-        go (no without) =
-            let r = no-short-list-refuses file in
-            absurd (not-accepted (r .0)
-            (sym (unpack-short-without file (length taps) (length claim) without ∙ r .1) ∙ passes))
+    reader-accepts zero =
+        let size = length claim in
+        let passes = zero-returns asked (digest (shortClaimIn file)) (bits.unpack-short-bits file (length taps) size)
+        (sym (called .four .coded) ∙ zero) in
+        let four = had-room size asked (unpackShortTest file 0) (unpack-short-without file (length taps) size)
+        (no-short-list-refuses file) passes in
+        (four, unpack-returns file (length taps) (unpack-short-room file (length taps) size four ∙ passes))
 
     call-refuses : (r : Refusal) → length claim ≡ 4 → FirstFault file (length taps) r
         → (code ≡ refusalCode r) × (taps′ ≡ taps) × (claim′ ≡ claim)

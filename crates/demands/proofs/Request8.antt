@@ -55,6 +55,7 @@ use Rattle.calls.proofs.Answers.{unpack-room, unpack-without, no-list-refuses, 
 use Rattle.calls.proofs.Endings as ends
 use Rattle.calls.proofs.Theorems as bits
 use Rattle.demands.specs.Request8.{FitsShort, FitsFull, Request8}
+use Rattle.demands.proofs.Called.{unpacked}
 use Rattle.demands.proofs.Demand2.{demand-2}
 use Rattle.demands.proofs.Request7.{taps-left, reader-accepts, reader-hands, request-7}
 
@@ -329,36 +330,6 @@ back-and-there file old new bytes e l =
     )
 
 -- ---- the calls
-
--- Unpack's, where its word is 0
-module _ (file taps taps′ claim claim′ : List ℕ) (called : UnpackCall file 0 taps taps′ claim claim′) where
-  abbrev asked : Answer
-  asked = unpackCallTest file (length taps) (length claim)
-
-  unpacked : (d : Digest)
-      × (unpackAnswer file (length taps) ≡ Accepted d) × (taps′ ≡ unpackLeaves file taps) × (claim′ ≡ digestWords d)
-  unfolding unpackCall
-  unpacked = go (ℕ-discrete (length claim) 4)
-    where
-      passes : asked ≡ answer.Accepted
-      passes =
-          zero-returns asked (digest (claimIn file)) (bits.unpack-bits file (length taps) (length claim))
-          (sym (called .four .coded))
-
-      go : Dec (length claim ≡ 4)
-          → (d : Digest)
-          × (unpackAnswer file (length taps) ≡ Accepted d) × (taps′ ≡ unpackLeaves file taps) × (claim′ ≡ digestWords d)
-      go (yes four) =
-          let tested = unpack-room file (length taps) (length claim) four ∙ passes in (
-            digest (claimIn file),
-            board-answers.unpack-returns file (length taps) tested,
-            called .list ∙ sym (unpack-left (length claim) four file taps),
-            called .four .output ∙ ap (λ a. written (digestAfter a (digest (claimIn file))) claim) passes,
-          )
-      go (no without) =
-          let r = no-list-refuses file in
-          absurd (not-accepted (r .0)
-          (sym (unpack-without file (length taps) (length claim) without ∙ r .1) ∙ passes))
 
 call-to-short : (file taps taps′ claim claim′ old new new′ : List ℕ) (code code′ : ℕ)
     → UnpackCall file 0 taps taps′ claim claim′ → ToShortCall file old code new

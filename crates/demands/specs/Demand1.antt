@@ -9,7 +9,10 @@ use lib.ListN.{length}
 use Rattle.numbers.specs.Numbers.{tapWords, traceWords, IsPermitted}
 use Rattle.refusals.specs.Refusals.{told, indexed}
 use Rattle.refusals.specs.declared.Refusal.{Refusal}
-use Rattle.refusals.specs.declared.Refusal.the-variants.{NoInverse, WrongInverse}
+use Rattle.refusals.specs.declared.Refusal.the-variants.{TableLength, TableWord, NoInverse, WrongInverse, TapLength}
+use Rattle.refusals.specs.declared.Refusal.the-variants.{TapWord, TraceLength, DestinationLength, ClaimWord, TraceWord}
+use Rattle.refusals.specs.declared.Refusal.the-variants.{Constraint, FileLength, WrongKind, WrongValue, NoSuchTap}
+use Rattle.refusals.specs.declared.Refusal.the-variants.{NoPair, ClaimBatches, LongElement, SameEdition}
 use Rattle.refusals.specs.declared.Answer.{Answer}
 use Rattle.refusals.specs.declared.Answer.the-variants as answer
 use Rattle.refusals.specs.declared.DigestAnswer.the-variants as digest
@@ -23,8 +26,8 @@ use Rattle.chain.specs.Answers.{chainAnswer}
 use Rattle.trace.specs.Trace.{trace}
 use Rattle.trace.specs.Answers.{buildAnswer, buildLeaves}
 use Rattle.constraints.specs.ReadOff.{readTaps}
-use Rattle.checker.specs.Answers.{checkAnswer}
-use Rattle.readoff.specs.Answers.{readOffAnswer, readOffLeaves}
+use Rattle.checker.specs.Answers.{checkTest, checkAnswer}
+use Rattle.readoff.specs.Answers.{readOffTest, readOffAnswer, readOffLeaves}
 use Rattle.edit.specs.Answers.{alteredTaps, editAnswer, editLeaves}
 use Rattle.unhash.specs.Unhash.{tapsBefore}
 use Rattle.unhash.specs.Answers.{unhashAnswer}
@@ -35,9 +38,11 @@ use Rattle.toshort.specs.ToShort.{toShortTest, toShortLeaves}
 use Rattle.tofull.specs.ToFull.{toFullTest, toFullLeaves}
 use Rattle.handover.specs.Code.{Says, testsCode}
 use Rattle.handover.specs.HandsOver.{HandsOver, HandsOverState}
-use Rattle.calls.specs.Calls.{PrepareCall, hashCall, chainCall, BuildCall, ReadOffCall}
-use Rattle.calls.specs.Calls.{EditCall, UnhashCall, PackCall, UnpackCall, PackShortCall, UnpackShortCall}
+use Rattle.calls.specs.Calls.{PrepareCall, hashCallTest, hashCall, chainCallTest, chainCall, buildCallTest, BuildCall}
+use Rattle.calls.specs.Calls.{ReadOffCall, editCallTest, EditCall, unhashCallTest, UnhashCall, PackCall}
+use Rattle.calls.specs.Calls.{unpackCallTest, UnpackCall, PackShortCall, unpackShortCallTest, UnpackShortCall}
 use Rattle.calls.specs.Calls.{ToShortCall, ToFullCall}
+use Rattle.exact.specs.Exact.{IsListFor}
 
 -- ---- the operations, and the numbers that each can return, in the order of their tests (document 01, "What is
 -- turned back"; document 02 for Edit, Unhash, 17, the short edition and the converters)
@@ -96,6 +101,38 @@ callNumbers to-full = numbers to-full
 abbrev pub OneOf : List ℕ → Refusal → Type 0
 OneOf ns r = List·Memᴰ (told r .number) ns
 
+-- document 01's table of what is turned back, with document 02's additions: the number of each cause, how many values
+-- come with it, and which: none, an index, or row, constraint and the tests up to the failing one
+pub record Told : Type 0 where
+  pub table-length : told TableLength ≡ record { number = 1; values = 0; row = 0; constraint = 0; value = 0 }
+  pub table-word : (i : ℕ)
+      → told (TableWord i) ≡ record { number = 2; values = 1; row = 0; constraint = 0; value = i }
+  pub no-inverse : told NoInverse ≡ record { number = 3; values = 0; row = 0; constraint = 0; value = 0 }
+  pub wrong-inverse : (i : ℕ)
+      → told (WrongInverse i) ≡ record { number = 4; values = 1; row = 0; constraint = 0; value = i }
+  pub tap-length : told TapLength ≡ record { number = 5; values = 0; row = 0; constraint = 0; value = 0 }
+  pub tap-word : (i : ℕ) → told (TapWord i) ≡ record { number = 6; values = 1; row = 0; constraint = 0; value = i }
+  pub trace-length : told TraceLength ≡ record { number = 7; values = 0; row = 0; constraint = 0; value = 0 }
+  pub destination-length : told DestinationLength
+      ≡ record { number = 8; values = 0; row = 0; constraint = 0; value = 0 }
+  pub claim-word : (i : ℕ)
+      → told (ClaimWord i) ≡ record { number = 9; values = 1; row = 0; constraint = 0; value = i }
+  pub trace-word : (i : ℕ)
+      → told (TraceWord i) ≡ record { number = 10; values = 1; row = 0; constraint = 0; value = i }
+  pub constraint : (i q n : ℕ) → told (Constraint (record { 0 = i }) q n)
+      ≡ record { number = 11; values = 3; row = i; constraint = q; value = n }
+  pub file-length : told FileLength ≡ record { number = 12; values = 0; row = 0; constraint = 0; value = 0 }
+  pub wrong-kind : (i : ℕ)
+      → told (WrongKind i) ≡ record { number = 13; values = 1; row = 0; constraint = 0; value = i }
+  pub wrong-value : (i : ℕ)
+      → told (WrongValue i) ≡ record { number = 14; values = 1; row = 0; constraint = 0; value = i }
+  pub no-such-tap : told NoSuchTap ≡ record { number = 15; values = 0; row = 0; constraint = 0; value = 0 }
+  pub no-pair : told NoPair ≡ record { number = 16; values = 0; row = 0; constraint = 0; value = 0 }
+  pub claim-batches : told ClaimBatches ≡ record { number = 17; values = 0; row = 0; constraint = 0; value = 0 }
+  pub long-element : (i : ℕ)
+      → told (LongElement i) ≡ record { number = 18; values = 1; row = 0; constraint = 0; value = i }
+  pub same-edition : told SameEdition ≡ record { number = 19; values = 0; row = 0; constraint = 0; value = 0 }
+
 -- the operation, lent something, answers this refusal
 pub data Refuses : Operation → Refusal → Type 0 where
   prepare-refuses : (raw old new : List ℕ) (r : Refusal) → Prepares raw old (answer.Refused r) new → Refuses prepare r
@@ -123,11 +160,13 @@ pub data Refuses : Operation → Refusal → Type 0 where
 
 -- ---- a call from another language: what the word says that it returns
 
--- a full result, with the tests walked where the operation counts them; or one of these refusals, and what was lent
--- is as it was
-pub data Answered (code : ℕ) (ns : List ℕ) (full : ℕ → Type 0) (kept : Type 0) : Type 0 where
-  accepted : (tests : ℕ) → Says code (indexed 0 tests) → full tests → Answered code ns full kept
-  refused : (r : Refusal) → Says code (told r) → OneOf ns r → kept → Answered code ns full kept
+-- `Is a`: the tests behind the call answer a. Then its word says acceptance, with the tests walked where the operation
+-- counts them, and there is a full result; or it says that refusal, one of these, and what was lent is as it was
+pub data Answered (code : ℕ) (ns : List ℕ) (Is : Answer → Type 0) (full : ℕ → Type 0) (kept : Type 0) : Type 0 where
+  accepted : (tests : ℕ) → Is answer.Accepted → Says code (indexed 0 tests) → full tests
+      → Answered code ns Is full kept
+  refused : (r : Refusal) → Is (answer.Refused r) → Says code (told r) → OneOf ns r → kept
+      → Answered code ns Is full kept
 
 -- the full results: each destination holds all of what it is for. Operations without tests report 0 of them
 pub record PrepareResult (raw old table : List ℕ) (tests : ℕ) : Type 0 where
@@ -153,20 +192,22 @@ pub record BuildResult (T w rows output : List ℕ) (tests : ℕ) : Type 0 where
   pub output-is : output ≡ rescue.chain T w k
   pub rows-are : rows ≡ trace T w k
 
-pub record CheckResult (t : List ℕ) (c tests : ℕ) : Type 0 where
+pub record CheckResult (T t claim : List ℕ) (c tests : ℕ) : Type 0 where
   pub k : ℕ
   pub permitted : IsPermitted k
   pub rows : length t ≡ traceWords k
   pub claimed : (1 ≤ c) × (c ≤ k)
   pub all : tests ≡ 372 * k
+  pub stands-for : (w : List ℕ) × IsListFor T t claim c k w
 
-pub record ReadOffResult (T t : List ℕ) (c : ℕ) (taps : List ℕ) (tests : ℕ) : Type 0 where
+pub record ReadOffResult (T t claim : List ℕ) (c : ℕ) (taps : List ℕ) (tests : ℕ) : Type 0 where
   pub k : ℕ
   pub permitted : IsPermitted k
   pub rows : length t ≡ traceWords k
   pub claimed : (1 ≤ c) × (c ≤ k)
   pub all : tests ≡ 372 * k
   pub taps-are : taps ≡ readTaps T t k
+  pub stands-for : IsListFor T t claim c k taps
 
 pub record EditResult (T t : List ℕ) (c n : ℕ) (new t′ output : List ℕ) (tests : ℕ) : Type 0 where
   pub none : tests ≡ 0
@@ -210,6 +251,12 @@ pub record ToFullResult (short file : List ℕ) (tests : ℕ) : Type 0 where
 -- ---- the demand
 
 pub record Demand1 : Type 0 where
+  -- ---- the numbers
+  pub table : Told
+  -- a word tells one refusal at most, and none where it tells acceptance
+  pub tells-one : (code : ℕ) (r s : Refusal) → Says code (told r) → Says code (told s) → r ≡ s
+  pub tells-apart : (code tests : ℕ) (r : Refusal) → Says code (indexed 0 tests) → Says code (told r) → ⊥
+  -- ---- the operations
   -- each operation refuses with its own numbers only
   pub numbered : (o : Operation) (r : Refusal) → Refuses o r → OneOf (numbers o) r
   -- Prepare never returns 4, and only it returns 3
@@ -239,43 +286,43 @@ pub record Demand1 : Type 0 where
       → toShortLeaves file old ≡ old
   pub to-full-keeps : (short old : List ℕ) (r : Refusal) → toFullTest short (length old) ≡ answer.Refused r
       → toFullLeaves short old ≡ old
-  -- the calls: whatever words and lengths are lent, with `′` on what a buffer holds afterwards
+  -- ---- the calls: whatever words and lengths are lent, with `′` on what a buffer holds afterwards
   pub prepare-call : (raw table table′ : List ℕ) (code : ℕ) → PrepareCall raw table code table′
-      → Answered code (callNumbers prepare) (PrepareResult raw table table′) (table′ ≡ table)
+      → Answered code (callNumbers prepare) (λ a. Prepares raw table a table′) (PrepareResult raw table table′) (table′ ≡ table)
   pub hash-call : (T output output′ : List ℕ) (w0 w1 w2 w3 w4 w5 w6 w7 code : ℕ)
       → HandsOverState (hashCall T (w0 ∷ w1 ∷ w2 ∷ w3 ∷ w4 ∷ w5 ∷ w6 ∷ w7 ∷ []) (length output)) code output output′
-      → Answered code (callNumbers hash)
+      → Answered code (callNumbers hash) (λ a. hashCallTest T (w0 ∷ w1 ∷ w2 ∷ w3 ∷ w4 ∷ w5 ∷ w6 ∷ w7 ∷ []) (length output) ≡ a)
       (HashResult T (w0 ∷ w1 ∷ w2 ∷ w3 ∷ []) (w4 ∷ w5 ∷ w6 ∷ w7 ∷ []) output′) (output′ ≡ output)
   pub chain-call : (T w output output′ : List ℕ) (code : ℕ)
       → HandsOver (chainCall T w (length output)) code output output′
-      → Answered code (callNumbers chain) (ChainResult T w output′) (output′ ≡ output)
+      → Answered code (callNumbers chain) (λ a. chainCallTest T w (length output) ≡ a) (ChainResult T w output′) (output′ ≡ output)
   pub build-call : (T w rows rows′ output output′ : List ℕ) (code : ℕ) → BuildCall T w code rows rows′ output output′
-      → Answered code (callNumbers build) (BuildResult T w rows′ output′) ((rows′ ≡ rows) × (output′ ≡ output))
+      → Answered code (callNumbers build) (λ a. buildCallTest T w (length rows) (length output) ≡ a) (BuildResult T w rows′ output′) ((rows′ ≡ rows) × (output′ ≡ output))
   pub check-call : (T t : List ℕ) (c0 c1 c2 c3 c code : ℕ)
       → code ≡ testsCode (checkAnswer T t (c0 ∷ c1 ∷ c2 ∷ c3 ∷ []) c)
-      → Answered code (callNumbers check) (CheckResult t c) Unit
+      → Answered code (callNumbers check) (λ a. checkTest T t (c0 ∷ c1 ∷ c2 ∷ c3 ∷ []) c ≡ a) (CheckResult T t (c0 ∷ c1 ∷ c2 ∷ c3 ∷ []) c) Unit
   pub read-off-call : (T t taps taps′ : List ℕ) (c0 c1 c2 c3 c code : ℕ)
       → ReadOffCall T t (c0 ∷ c1 ∷ c2 ∷ c3 ∷ []) c code taps taps′
-      → Answered code (callNumbers read-off) (ReadOffResult T t c taps′) (taps′ ≡ taps)
+      → Answered code (callNumbers read-off) (λ a. readOffTest T t (c0 ∷ c1 ∷ c2 ∷ c3 ∷ []) c (length taps) ≡ a) (ReadOffResult T t (c0 ∷ c1 ∷ c2 ∷ c3 ∷ []) c taps′) (taps′ ≡ taps)
   pub edit-call : (T t t′ output output′ : List ℕ) (c0 c1 c2 c3 c n w0 w1 w2 w3 code : ℕ)
       → EditCall T t (c0 ∷ c1 ∷ c2 ∷ c3 ∷ []) c n (w0 ∷ w1 ∷ w2 ∷ w3 ∷ []) code t′ output output′
-      → Answered code (callNumbers edit) (EditResult T t c n (w0 ∷ w1 ∷ w2 ∷ w3 ∷ []) t′ output′)
+      → Answered code (callNumbers edit) (λ a. editCallTest T t (c0 ∷ c1 ∷ c2 ∷ c3 ∷ []) c n (w0 ∷ w1 ∷ w2 ∷ w3 ∷ []) (length output) ≡ a) (EditResult T t c n (w0 ∷ w1 ∷ w2 ∷ w3 ∷ []) t′ output′)
       ((t′ ≡ t) × (output′ ≡ output))
   pub unhash-call : (T taps taps′ : List ℕ) (s0 s1 s2 s3 s4 s5 s6 s7 s8 s9 s10 s11 code : ℕ)
       → let s = s0 ∷ s1 ∷ s2 ∷ s3 ∷ s4 ∷ s5 ∷ s6 ∷ s7 ∷ s8 ∷ s9 ∷ s10 ∷ s11 ∷ [] in
-      UnhashCall T s code taps taps′ → Answered code (callNumbers unhash) (UnhashResult T s taps′) (taps′ ≡ taps)
+      UnhashCall T s code taps taps′ → Answered code (callNumbers unhash) (λ a. unhashCallTest T s (length taps) ≡ a) (UnhashResult T s taps′) (taps′ ≡ taps)
   pub pack-call : (w file file′ : List ℕ) (c0 c1 c2 c3 code : ℕ) → PackCall w (c0 ∷ c1 ∷ c2 ∷ c3 ∷ []) file code file′
-      → Answered code (callNumbers pack) (PackResult w (c0 ∷ c1 ∷ c2 ∷ c3 ∷ []) file′) (file′ ≡ file)
+      → Answered code (callNumbers pack) (λ a. packTest w (c0 ∷ c1 ∷ c2 ∷ c3 ∷ []) (length file) ≡ a) (PackResult w (c0 ∷ c1 ∷ c2 ∷ c3 ∷ []) file′) (file′ ≡ file)
   pub unpack-call : (file taps taps′ claim claim′ : List ℕ) (code : ℕ) → UnpackCall file code taps taps′ claim claim′
-      → Answered code (callNumbers unpack) (UnpackResult file taps′ claim′) ((taps′ ≡ taps) × (claim′ ≡ claim))
+      → Answered code (callNumbers unpack) (λ a. unpackCallTest file (length taps) (length claim) ≡ a) (UnpackResult file taps′ claim′) ((taps′ ≡ taps) × (claim′ ≡ claim))
   pub pack-short-call : (w file file′ : List ℕ) (c0 c1 c2 c3 code : ℕ)
       → PackShortCall w (c0 ∷ c1 ∷ c2 ∷ c3 ∷ []) file code file′
-      → Answered code (callNumbers pack-short) (PackShortResult w (c0 ∷ c1 ∷ c2 ∷ c3 ∷ []) file′) (file′ ≡ file)
+      → Answered code (callNumbers pack-short) (λ a. packShortTest w (c0 ∷ c1 ∷ c2 ∷ c3 ∷ []) (length file) ≡ a) (PackShortResult w (c0 ∷ c1 ∷ c2 ∷ c3 ∷ []) file′) (file′ ≡ file)
   pub unpack-short-call : (file taps taps′ claim claim′ : List ℕ) (code : ℕ)
       → UnpackShortCall file code taps taps′ claim claim′
-      → Answered code (callNumbers unpack-short) (UnpackShortResult file taps′ claim′)
+      → Answered code (callNumbers unpack-short) (λ a. unpackShortCallTest file (length taps) (length claim) ≡ a) (UnpackShortResult file taps′ claim′)
       ((taps′ ≡ taps) × (claim′ ≡ claim))
   pub to-short-call : (file short short′ : List ℕ) (code : ℕ) → ToShortCall file short code short′
-      → Answered code (callNumbers to-short) (ToShortResult file short′) (short′ ≡ short)
+      → Answered code (callNumbers to-short) (λ a. toShortTest file (length short) ≡ a) (ToShortResult file short′) (short′ ≡ short)
   pub to-full-call : (short file file′ : List ℕ) (code : ℕ) → ToFullCall short file code file′
-      → Answered code (callNumbers to-full) (ToFullResult short file′) (file′ ≡ file)
+      → Answered code (callNumbers to-full) (λ a. toFullTest short (length file) ≡ a) (ToFullResult short file′) (file′ ≡ file)

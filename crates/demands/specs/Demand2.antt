@@ -1,15 +1,16 @@
 -- Demand 2 (document 00; document 02, U3, for the twelve cells of Hash, and U6 for c): hash, chain and trace are those
 -- of the Rescue STARK documentation 1.0 for every accepted table; reading off a built trace, under the output its
 -- building returned, yields the taps that it was built from; a packed board file unpacks to its taps and claim, and an
--- accepted file packs to the same bytes.
+-- accepted file packs to the same bytes. The same of the calls.
 -- Assumes nothing.
 use mathlib.Core.Path.{_≡_}
 use mathlib.Core.List.{List, _++_}
+use mathlib.Core.Logic.{_↔_}
 use Prim.Native.Nat.{ℕ, _+_, _*_, _-_, _≤_}
 use lib.ListN.{length, take}
 use Rattle.words.specs.Words.{AllCanonical}
-use Rattle.numbers.specs.Numbers.{batchRows, tapWords, traceWords, IsPermitted, tapWordBatches}
-use Rattle.refusals.specs.Refusals.{digest, digestWords, stateWords}
+use Rattle.numbers.specs.Numbers.{batchRows, tapWords, traceWords, IsPermitted, IsPermittedTo, tapWordBatches}
+use Rattle.refusals.specs.Refusals.{indexed, digest, digestWords, stateWords}
 use Rattle.refusals.specs.declared.Answer.the-variants as answer
 use Rattle.refusals.specs.declared.Digest.{Digest}
 use Rattle.refusals.specs.declared.DigestAnswer.the-variants.{Accepted}
@@ -24,7 +25,9 @@ use Rattle.trace.specs.Trace.{trace, row}
 use Rattle.trace.specs.Answers.{buildAnswer, buildLeaves}
 use Rattle.readoff.specs.Answers.{readOffAnswer, readOffLeaves}
 use Rattle.elements.specs.Words.{AllBytes}
-use Rattle.board.specs.Board.{packTest, packLeaves, unpackAnswer, unpackLeaves}
+use Rattle.board.specs.Board.{mostFileBatches, fileSize, packTest, packed, packLeaves, unpackAnswer, unpackLeaves}
+use Rattle.handover.specs.Code.{Says}
+use Rattle.calls.specs.Calls.{BuildCall, ReadOffCall, PackCall, UnpackCall}
 
 pub record Demand2 : Type 0 where
   -- for every accepted table and permitted k, hash, chain and trace of canonical words are those of the definitions. Of
@@ -52,6 +55,11 @@ pub record Demand2 : Type 0 where
       (readOffAnswer T (buildLeaves T w old) claim c (length room) ≡ tests.Accepted (372 * tapWordBatches (length w)))
       × (readOffLeaves T (buildLeaves T w old) claim c room ≡ w)
       × (take 4 (row (buildLeaves T w old) (batchRows * (c - 1) + 31)) ≡ claim)
+  -- Pack accepts exactly taps of k batches, k permitted in a file, and a claim, of words below p, into 144k + 100 bytes
+  pub pack-accepts : (w claim : List ℕ) (size : ℕ) → length claim ≡ 4
+      → (packTest w claim size ≡ answer.Accepted)
+      ↔ ((k : ℕ) × IsPermittedTo mostFileBatches k × (length w ≡ tapWords k) × AllCanonical w × AllCanonical claim
+      × (size ≡ fileSize k))
   -- a file that Pack wrote into old, unpacked
   pub unpacks : (w claim old room : List ℕ) → length claim ≡ 4 → packTest w claim (length old) ≡ answer.Accepted
       → length room ≡ length w
@@ -62,3 +70,23 @@ pub record Demand2 : Type 0 where
       → length room ≡ length file
       → (packTest (unpackLeaves file old) (digestWords d) (length room) ≡ answer.Accepted)
       × (packLeaves (unpackLeaves file old) (digestWords d) room ≡ file)
+  -- Unpack accepts exactly the files that Pack writes, into a destination as long as the taps
+  pub unpack-accepts : (file : List ℕ) (size : ℕ) (d : Digest) → AllBytes file
+      → (unpackAnswer file size ≡ Accepted d)
+      ↔ ((taps : List ℕ) × (packTest taps (digestWords d) (length file) ≡ answer.Accepted)
+      × (file ≡ packed taps (digestWords d)) × (size ≡ length taps))
+  -- ---- from another language, with `′` on what a buffer holds afterwards
+  -- what Build's call wrote and returned Read-off's gives back as the taps
+  pub call-reads-back : (T w rows rows′ output output′ room room′ : List ℕ) (code : ℕ)
+      → BuildCall T w 0 rows rows′ output output′ → length room ≡ length w
+      → let k = tapWordBatches (length w) in
+      ReadOffCall T rows′ output′ k code room room′ → Says code (indexed 0 (372 * k)) × (room′ ≡ w)
+  -- what Pack's call wrote Unpack's reads
+  pub call-unpacks : (w claim file file′ room room′ four four′ : List ℕ) (code : ℕ) → length claim ≡ 4
+      → PackCall w claim file 0 file′ → length room ≡ length w → length four ≡ 4
+      → UnpackCall file′ code room room′ four four′
+      → (code ≡ 0) × (room′ ≡ w) × (four′ ≡ claim)
+  -- what Unpack's call read Pack's writes to the same bytes
+  pub call-packs : (file taps taps′ claim claim′ room room′ : List ℕ) (code : ℕ) → AllBytes file
+      → UnpackCall file 0 taps taps′ claim claim′ → length room ≡ length file → PackCall taps′ claim′ room code room′
+      → (code ≡ 0) × (room′ ≡ file)

@@ -1,5 +1,5 @@
 -- Demand 3 (document 00; document 02, U6, for c): the checker is exact, the list of taps is unique, reading off finds
--- it, all 372 × k tests are walked, and a refusal names the first test that fails.
+-- it, all 372 × k tests are walked, and a refusal names the first test that fails. The same of the calls.
 -- Assumes nothing.
 use mathlib.Core.Path.{_≡_}
 use mathlib.Core.List.{List}
@@ -8,6 +8,7 @@ use Prim.Native.Nat.{ℕ, _*_, _≤_}
 use lib.ListN.{length}
 use Rattle.words.specs.Words.{AllCanonical}
 use Rattle.numbers.specs.Numbers.{tapWords, traceWords, IsPermitted}
+use Rattle.refusals.specs.Refusals.{told, indexed}
 use Rattle.refusals.specs.declared.Refusal.the-variants.{Constraint}
 use Rattle.refusals.specs.declared.Answer.the-variants as answer
 use Rattle.refusals.specs.declared.TestsAnswer.the-variants.{Accepted, Refused}
@@ -18,6 +19,8 @@ use Rattle.constraints.specs.FirstFailing.{IsFirstFailing}
 use Rattle.checker.specs.Answers.{checkAnswer}
 use Rattle.readoff.specs.Answers.{readOffAnswer, readOffLeaves}
 use Rattle.exact.specs.Exact.{IsListFor, IsWholeListFor}
+use Rattle.handover.specs.Code.{testsCode, Says}
+use Rattle.calls.specs.Calls.{ReadOffCall}
 
 -- what is demanded of one table T, trace t of k batches, claim and c; `Stands` is what it means that the trace stands
 -- for a list
@@ -36,6 +39,19 @@ pub record Exact (T t claim : List ℕ) (c k : ℕ) (Stands : List ℕ → Type 
   -- every other trace is refused with 11, with row, constraint and place of the first test that fails in that order
   pub refused-by-11 : (checkAnswer T t claim c ≡ Accepted (372 * k))
       ⊎ ((i : ℕ) × (q : ℕ) × (n : ℕ) × (checkAnswer T t claim c ≡ Refused (Constraint (record { 0 = i }) q n))
+      × IsFirstFailing T t claim (tests k c) i q n)
+  -- ---- from another language
+  -- the word of the checker's call says acceptance with 372 × k tests exactly when the trace stands for some list
+  pub call-exactly : (code : ℕ) → code ≡ testsCode (checkAnswer T t claim c)
+      → Says code (indexed 0 (372 * k)) ↔ ((w : List ℕ) × Stands w)
+  -- that of the reader's call, lent 12k + 4 words, is the same, and then these words are that list
+  pub call-writes : (code : ℕ) (taps taps′ : List ℕ) → length taps ≡ tapWords k
+      → ReadOffCall T t claim c code taps taps′
+      → (code ≡ testsCode (checkAnswer T t claim c)) × (Says code (indexed 0 (372 * k)) → Stands taps′)
+  -- the word for every other trace says 11, with row, constraint and place of the first test that fails
+  pub call-refused-by-11 : (code : ℕ) → code ≡ testsCode (checkAnswer T t claim c)
+      → Says code (indexed 0 (372 * k))
+      ⊎ ((i : ℕ) × (q : ℕ) × (n : ℕ) × Says code (told (Constraint (record { 0 = i }) q n))
       × IsFirstFailing T t claim (tests k c) i q n)
 
 -- any accepted table, any permitted k, any trace of k batches and any claim, all of words below p

@@ -12,7 +12,7 @@ use Rattle.refusals.specs.declared.Refusal.{Refusal}
 use Rattle.refusals.specs.declared.Refusal.the-variants.{WrongValue}
 use Rattle.refusals.specs.declared.Answer.{Answer}
 use Rattle.refusals.specs.declared.Answer.the-variants.{Accepted, Refused}
-use Rattle.refusals.proofs.Laws.{passed, both-accepted}
+use Rattle.refusals.proofs.Laws.{not-accepted, passed, both-accepted}
 use Rattle.elements.specs.Words.{kindOf, wordAt}
 use Rattle.elements.specs.Elements.{elementAt, elementTest, elementsTest, IsElement}
 
@@ -105,3 +105,34 @@ first-refused file j (suc n) (suc i) r h b e =
     let s : j + 3 * 0 ≡ j = omega arith in
     rw (accepts file j (rw s at (b 0 (omega arith))))
     (first-refused file (j + 3) n i r (omega arith) (λ k l. rw (next j k) (b (suc k) (omega arith))) (rw (next j i) e))
+
+-- and there is such a one where they are not all accepted
+pub found-refused : (file : List ℕ) (j n : ℕ) (r : Refusal) → elementsTest file j n ≡ Refused r
+    → (i : ℕ) × (i < n) × ((k : ℕ) → k < i → IsElement file (j + 3 * k)) × (elementTest file (j + 3 * i) ≡ Refused r)
+unfolding elementsTest
+found-refused file j zero r e = absurd (not-accepted r (sym e))
+found-refused file j (suc n) r e = go (elementTest file j) refl e (found-refused file (j + 3) n r)
+  where
+    Found : ℕ → ℕ → Type 0
+    Found from m =
+        (i : ℕ) × (i < m)
+        × ((k : ℕ) → k < i → IsElement file (from + 3 * k)) × (elementTest file (from + 3 * i) ≡ Refused r)
+
+    first : j ≡ j + 3 * 0
+    first = omega arith
+
+    before : IsElement file j → (i : ℕ) → ((k : ℕ) → k < i → IsElement file (j + 3 + 3 * k)) → (k : ℕ) → k < suc i
+        → IsElement file (j + 3 * k)
+    before h i b zero l = rw first at h
+    before h i b (suc k) l = rw (next j k) at (b k (omega arith))
+
+    go : (a : Answer) → elementTest file j ≡ a → after a (elementsTest file (j + 3) n) ≡ Refused r
+        → (elementsTest file (j + 3) n ≡ Refused r → Found (j + 3) n) → Found j (suc n)
+    go (Refused q) h f later = (0, omega arith, λ k l. absurd (omega arith), rw first at (h ∙ f))
+    go Accepted h f later =
+        let g = later f in (
+          suc (g .0),
+          omega (arith, g .1),
+          before (accepted file j h) (g .0) (g .2),
+          rw (next j (g .0)) at (g .3),
+        )

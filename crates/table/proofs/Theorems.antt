@@ -6,13 +6,13 @@ use mathlib.Core.Bool.{false}
 use mathlib.Core.List.{List}
 use native.Mathlib.Decide.{ℕ-discrete}
 use native.Mathlib.Omega.{arith}
-use borrow.Author.Tests.{eq-eqb, eqb-true, eqb-false, not-true, not-false}
+use borrow.Author.Tests.{eq-eqb, ne-eqb, eqb-true, eqb-false, not-true, not-false}
 use lib.ListN.{length}
 use Rattle.lists.specs.Lists.{cell, first}
-use Rattle.lists.proofs.First.{IsFirst, is-first, none-first}
-use Rattle.field.specs.Field.{P, Canonical}
-use Rattle.words.specs.Words.{AllCanonical, firstBad}
-use Rattle.words.proofs.Laws.{within, bad-at, good-before, all-good, good-all}
+use Rattle.lists.proofs.First.{IsFirst, is-first, none-first, found-at}
+use Rattle.field.specs.Field.{Canonical}
+use Rattle.words.specs.Words.{AllCanonical, firstBad, IsFirstBad}
+use Rattle.words.proofs.Laws.{within, first-bad, all-good, good-all}
 use Rattle.matrix.specs.Matrix.{product, identity, Inverse, entry, times}
 use Rattle.matrix.proofs.Dichotomy.{other-side}
 use Rattle.matrix.proofs.States.{times-undo, times-redo}
@@ -23,6 +23,7 @@ use Rattle.refusals.specs.declared.Answer.{Answer}
 use Rattle.refusals.specs.declared.Answer.the-variants.{Accepted, Refused}
 use Rattle.table.specs.Table.{tableWords, matrixOf, inverseOf, initialConstant}
 use Rattle.table.specs.Table.{firstStepConstant, secondStepConstant, unlike, firstUnlike, tableTest, IsTable}
+use Rattle.table.specs.Table.{IsFirstUnlike}
 use Rattle.table.specs.ReadyHelpers.{matrixReady, readyLeft}
 use Rattle.table.proofs.Parts as parts
 use Rattle.table.proofs.Ready.{ready-is}
@@ -67,45 +68,18 @@ left-size t old {r} h e = ready-is t r (ready-left t old h e) .size
 
 -- ---- the places of its refusals
 
--- 2: the lowest index of a word that is not canonical
-pub record FirstWord (t : List ℕ) (i : ℕ) : Type 0 where
-  pub size : length t ≡ tableWords
-  pub within : i < tableWords
-  pub bad : P ≤ cell t i
-  pub before : (j : ℕ) → j < i → Canonical (cell t j)
-
--- 4: the first cell, row by row, in which M times the stored inverse is unlike the identity
-pub record FirstCell (t : List ℕ) (c : ℕ) : Type 0 where
-  pub size : length t ≡ tableWords
-  pub canonical : AllCanonical t
-  pub within : c < 144
-  pub other : product 12 (entry (matrixOf t)) (entry (inverseOf t)) (c / 12) (c % 12) ≡ identity (c / 12) (c % 12) → ⊥
-  pub before : (d : ℕ) → d < c
-      → product 12 (entry (matrixOf t)) (entry (inverseOf t)) (d / 12) (d % 12) ≡ identity (d / 12) (d % 12)
-
 -- the answer of the test, by cases
 pub data Answers (t : List ℕ) : Answer → Type 0 where
   accepted : IsTable t → Answers t Accepted
   length-refused : (length t ≡ tableWords → ⊥) → Answers t (Refused TableLength)
-  word-refused : (i : ℕ) → FirstWord t i → Answers t (Refused (TableWord i))
-  cell-refused : (c : ℕ) → FirstCell t c → Answers t (Refused (WrongInverse c))
+  word-refused : (i : ℕ) → length t ≡ tableWords → IsFirstBad t i → Answers t (Refused (TableWord i))
+  cell-refused : (c : ℕ) → length t ≡ tableWords → AllCanonical t → IsFirstUnlike t c
+      → Answers t (Refused (WrongInverse c))
 
-first-word : (t : List ℕ) → length t ≡ tableWords → (firstBad t ≡ tableWords → ⊥) → FirstWord t (firstBad t)
-first-word t size b =
-    record {
-      size = size;
-      within = omega (arith, within t);
-      bad = bad-at t (omega (arith, within t));
-      before = good-before t;
-    }
-
-first-cell : (t : List ℕ) → length t ≡ tableWords → firstBad t ≡ tableWords → (firstUnlike t ≡ 144 → ⊥)
-    → FirstCell t (firstUnlike t)
+pub first-cell : (t : List ℕ) → (firstUnlike t ≡ 144 → ⊥) → IsFirstUnlike t (firstUnlike t)
 unfolding firstUnlike unlike
-first-cell t size good u =
+first-cell t u =
     record {
-      size = size;
-      canonical = good-all t (good ∙ sym size);
       within = below;
       other = eqb-false _ _ (not-true _ (first-is .found below));
       before = λ d l. eqb-true _ _ (not-false _ (first-is .before d l));
@@ -117,6 +91,12 @@ first-cell t size good u =
     below : first 144 (unlike t) < 144
     below = omega (arith, first-is .within)
 
+-- it is the one that is found
+pub only-first-cell : (t : List ℕ) (c : ℕ) → IsFirstUnlike t c → c ≡ firstUnlike t
+unfolding firstUnlike unlike
+only-first-cell t c h =
+    found-at 144 (unlike t) c (h .within) (λ d l. rw (eq-eqb _ _ (h .before d l))) (rw (ne-eqb _ _ (h .other)))
+
 pub test-answers : (t : List ℕ) → Answers t (tableTest t)
 test-answers t = with-size (ℕ-discrete (length t) tableWords)
   where
@@ -126,12 +106,12 @@ test-answers t = with-size (ℕ-discrete (length t) tableWords)
         subst (Answers t) (tested.accepted t size good u)
         (accepted (record { size = size; canonical = good-all t (good ∙ sym size); inverse = like-identity t u }))
     with-cells size good (no u) =
-        subst (Answers t) (tested.wrong-cell t size good _ refl u) (cell-refused _ (first-cell t size good u))
+        subst (Answers t) (tested.wrong-cell t size good _ refl u) (cell-refused _ size (good-all t (good ∙ sym size)) (first-cell t u))
 
     with-words : (size : length t ≡ tableWords) → Dec (firstBad t ≡ tableWords) → Answers t (tableTest t)
     with-words size (yes b) = with-cells size b (ℕ-discrete (firstUnlike t) 144)
     with-words size (no b) =
-        subst (Answers t) (tested.wrong-word t size _ refl b) (word-refused _ (first-word t size b))
+        subst (Answers t) (tested.wrong-word t size _ refl b) (word-refused _ size (first-bad t (omega (arith, within t))))
 
     with-size : Dec (length t ≡ tableWords) → Answers t (tableTest t)
     with-size (yes s) = with-words s (ℕ-discrete (firstBad t) tableWords)
@@ -143,8 +123,8 @@ test-sound t = go (tableTest t) (test-answers t)
     go : (a : Answer) → Answers t a → a ≡ Accepted → IsTable t
     go a (accepted h) e = h
     go a (length-refused h) e = absurd (not-refused _ e)
-    go a (word-refused i h) e = absurd (not-refused _ e)
-    go a (cell-refused c h) e = absurd (not-refused _ e)
+    go a (word-refused i s h) e = absurd (not-refused _ e)
+    go a (cell-refused c s w h) e = absurd (not-refused _ e)
 
 -- only Prepare returns 3
 pub test-never-3 : (t : List ℕ) → tableTest t ≡ Refused NoInverse → ⊥
@@ -153,8 +133,8 @@ test-never-3 t = go (tableTest t) (test-answers t)
     go : (a : Answer) → Answers t a → a ≡ Refused NoInverse → ⊥
     go a (accepted h) e = let q : _≡_ {A = ℕ} 0 1 = cc in omega arith
     go a (length-refused h) e = let q : _≡_ {A = ℕ} 0 1 = cc in omega arith
-    go a (word-refused i h) e = let q : _≡_ {A = ℕ} 0 1 = cc in omega arith
-    go a (cell-refused c h) e = let q : _≡_ {A = ℕ} 0 1 = cc in omega arith
+    go a (word-refused i s h) e = let q : _≡_ {A = ℕ} 0 1 = cc in omega arith
+    go a (cell-refused c s w h) e = let q : _≡_ {A = ℕ} 0 1 = cc in omega arith
 
 -- ---- what an accepted table holds
 module _ (t : List ℕ) (h : IsTable t) where

@@ -3,7 +3,7 @@
 use mathlib.Core.Path.{_≡_}
 use mathlib.Core.Bool.{Bool, not}
 use mathlib.Core.List.{List, _++_}
-use Prim.Native.Nat.{ℕ, _+_, _*_, _/_, _%_}
+use Prim.Native.Nat.{ℕ, _+_, _*_, _/_, _%_, _<_}
 use lib.Dec.{eqb}
 use lib.ListN.{length, take, drop}
 use Rattle.lists.specs.Lists.{first}
@@ -64,6 +64,17 @@ tableTest T =
     (unless (eqb (firstBad T) tableWords) (TableWord (firstBad T))
     (unless (eqb (firstUnlike T) matrixWords) (WrongInverse (firstUnlike T))
     Accepted))
+
+-- cell n of M times the stored inverse is like the identity
+abbrev pub IsLike : List ℕ → ℕ → Type 0
+IsLike T n =
+    product width (entry (matrixOf T)) (entry (inverseOf T)) (n / width) (n % width) ≡ identity (n / width) (n % width)
+
+-- n is the first cell, row by row, that is not
+pub record IsFirstUnlike (T : List ℕ) (n : ℕ) : Type 0 where
+  pub within : n < matrixWords
+  pub other : IsLike T n → ⊥
+  pub before : (m : ℕ) → m < n → IsLike T m
 
 -- an accepted table: all words canonical, and M times the stored inverse the identity
 pub record IsTable (T : List ℕ) : Type 0 where

@@ -12,7 +12,7 @@ use lib.ListN.{length, replicate, getD-replicate}
 use Rattle.lists.specs.Lists.{cell}
 use Rattle.lists.proofs.First.{is-first, first-none, found-at}
 use Rattle.field.specs.Field.{P, Canonical}
-use Rattle.words.specs.Words.{CanonicalTo, AllCanonical, firstBad, canonicalWords}
+use Rattle.words.specs.Words.{CanonicalTo, AllCanonical, firstBad, IsFirstBad, canonicalWords}
 
 pub within : (s : List ℕ) → firstBad s ≤ length s
 unfolding firstBad
@@ -41,6 +41,13 @@ all-good s h = sym (first-none (length s) (λ j. leb P (cell s j)) (λ j l. lt-l
 
 pub good-all : (s : List ℕ) → firstBad s ≡ length s → AllCanonical s
 good-all s e i h = good-before s i (omega arith)
+
+-- the first word that is not canonical is the one that is found
+pub first-bad : (s : List ℕ) → firstBad s < length s → IsFirstBad s (firstBad s)
+first-bad s h = record { within = h; bad = λ c. omega (arith, c, bad-at s h); before = good-before s }
+
+pub only-first-bad : (s : List ℕ) (i : ℕ) → IsFirstBad s i → i ≡ firstBad s
+only-first-bad s i h = stops s i (h .within) (h .before) (omega (arith, h .bad))
 
 -- one canonical word n times
 pub same-canonical : (n v : ℕ) → Canonical v → CanonicalTo n (replicate n v)

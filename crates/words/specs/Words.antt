@@ -20,6 +20,12 @@ AllCanonical s = CanonicalTo (length s) s
 unfoldable pub firstBad : List ℕ → ℕ
 firstBad s = first (length s) (λ i. leb P (cell s i))
 
+-- i is the lowest index of a word that is not canonical
+pub record IsFirstBad (s : List ℕ) (i : ℕ) : Type 0 where
+  pub within : i < length s
+  pub bad : Canonical (cell s i) → ⊥
+  pub before : CanonicalTo i s
+
 -- whether all are
 abbrev pub canonicalWords : List ℕ → Bool
 canonicalWords s = eqb (firstBad s) (length s)
