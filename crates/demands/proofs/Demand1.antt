@@ -235,7 +235,7 @@ only-3 to-full h = absurd (never to-full NoInverse refl h)
 -- ---- the calls
 
 -- the word of an answer that counts no tests is that of one with 0 tests
-answer-none : (t : Answer) → answerCode t ≡ testsCode (testsAfter t 0)
+pub answer-none : (t : Answer) → answerCode t ≡ testsCode (testsAfter t 0)
 unfolding answerCode testsCode code-of
 answer-none answer.Accepted = refl
 answer-none (answer.Refused r) = refl
@@ -245,7 +245,7 @@ unfolding digestCode testsCode code-of
 digest-none answer.Accepted d = refl
 digest-none (answer.Refused r) d = refl
 
-state-none : (t : Answer) (s : State) → stateCode (stateAfter t s) ≡ testsCode (testsAfter t 0)
+pub state-none : (t : Answer) (s : State) → stateCode (stateAfter t s) ≡ testsCode (testsAfter t 0)
 unfolding stateCode testsCode code-of
 state-none answer.Accepted s = refl
 state-none (answer.Refused r) s = refl

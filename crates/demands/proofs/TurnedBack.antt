@@ -5,10 +5,10 @@ use mathlib.Core.Path.{_≡_, refl, sym, ap, subst, _∙_}
 use mathlib.Core.Bool.{Bool, true, false, true≢false, _&&_}
 use mathlib.Core.List.{List}
 use mathlib.Core.Logic.{⊎-elim}
-use Prim.Native.Nat.{ℕ, _+_, _*_, _≤_, _<_}
+use Prim.Native.Nat.{ℕ, _+_, _*_, _^_, _≤_, _<_}
 use native.Mathlib.Omega.{arith}
 use borrow.Author.Tests.{eq-eqb, eqb-true, eqb-false, leb-true, leb-false, ltb-true, ltb-false}
-use lib.Dec.{eqb, leb, ltb}
+use lib.Dec.{eqb, leb, ltb, lit<}
 use lib.ListN.{length}
 use Rattle.lists.proofs.Bools.{and-both, and-intro}
 use Rattle.field.specs.Field.{P}
@@ -18,7 +18,8 @@ use Rattle.numbers.specs.Numbers.{mostBatches, IsPermittedTo, permitted, isTapL
 use Rattle.numbers.specs.Numbers.{traceWordBatches}
 use Rattle.numbers.proofs.Laws.{permitted-sound, permitted-complete, tap-length-sound, tap-length-complete}
 use Rattle.numbers.proofs.Laws.{trace-length-sound, trace-length-complete}
-use Rattle.refusals.specs.Answers.{unless, after}
+use Rattle.refusals.specs.Refusals.{pair}
+use Rattle.refusals.specs.Answers.{unless, after, digestAfter, stateAfter, testsAfter}
 use Rattle.refusals.specs.Causes.{by, byIndex, inOrder, DecidedBy}
 use Rattle.refusals.specs.declared.Refusal.{Refusal}
 use Rattle.refusals.specs.declared.Refusal.the-variants.{TableLength, TableWord, NoInverse, WrongInverse, TapLength}
@@ -27,37 +28,51 @@ use Rattle.refusals.specs.declared.Refusal.the-variants.{FileLength, WrongKind,
 use Rattle.refusals.specs.declared.Refusal.the-variants.{ClaimBatches}
 use Rattle.refusals.specs.declared.Answer.{Answer}
 use Rattle.refusals.specs.declared.Answer.the-variants.{Accepted, Refused}
-use Rattle.refusals.proofs.Laws.{not-accepted, refused-same, pair-refused}
+use Rattle.refusals.specs.declared.Digest.{Digest}
+use Rattle.refusals.specs.declared.State.{State}
+use Rattle.refusals.specs.declared.PairAnswer.the-variants as pairs
+use Rattle.refusals.proofs.Laws.{not-accepted, refused-same, pair-accepted, pair-refused, AnswerEnds}
 use Rattle.refusals.proofs.Causes.{decided, one, one-index, tests-after, test-before}
 use Rattle.matrix.specs.Matrix.{Inverse, Kernel, entry}
 use Rattle.matrix.proofs.Dichotomy.{Invertible, dichotomy, not-both}
 use Rattle.table.specs.Table.{firstUnlike, IsFirstUnlike, rawMatrix, rawTest, tableTest, Prepares, accepts, no-inverse}
 use Rattle.table.specs.Table.{refuses}
-use Rattle.table.proofs.Theorems.{first-cell, only-first-cell}
+use Rattle.table.proofs.Theorems.{test-sound, first-cell, only-first-cell}
 use Rattle.hash.specs.Answers.{hashTest}
 use Rattle.chain.specs.Answers.{chainTest}
 use Rattle.trace.specs.Answers.{buildTest}
 use Rattle.constraints.specs.Constraints.{between, constraintTest}
 use Rattle.constraints.proofs.Families.{range, in-range}
 use Rattle.constraints.proofs.WalkLaws.{first-failing-refused, refused-first-failing, else-first-failing}
-use Rattle.checker.specs.Answers.{openingTest, traceTest, checkTest}
-use Rattle.readoff.specs.Answers.{readOffTest}
+use Rattle.checker.specs.Answers.{openingTest, traceTest, checkTest, checkAnswer}
+use Rattle.checker.proofs.Answers.{check-inputs}
+use Rattle.readoff.specs.Answers.{readOffTest, readOffAnswer}
+use Rattle.readoff.proofs.Answers.{read-off-inputs}
 use Rattle.edit.specs.Answers.{editTest}
 use Rattle.unhash.specs.Unhash.{inputBefore, endsInZeros}
 use Rattle.unhash.specs.Answers.{unhashTest, unhashAnswer}
+use Rattle.unhash.proofs.Theorems.{hash-answered, answered-or-16}
 use Rattle.elements.specs.Words.{kindOf, wordAt}
 use Rattle.elements.specs.Elements.{elementAt, elementTest, elementsTest}
 use Rattle.elements.proofs.Tests.{first-refused, found-refused}
 use Rattle.board.specs.Board.{mostFileBatches, countWord, fileSize, elementCount, packTest, countIn, spareIn, batchesIn}
 use Rattle.board.specs.Board.{countTest, unpackTest}
 use Rattle.shortboard.specs.ShortBoard.{shortFileSize, packShortTest}
-use Rattle.calls.specs.Calls.{hashCallTest, chainCallTest, buildCallTest, editCallTest, unhashCallTest, unpackCallTest}
+use Rattle.handover.specs.Code.{answerCode, digestCode, stateCode, testsCode}
+use Rattle.handover.specs.HandsOver.{HandsOver, HandsOverState}
+use Rattle.handover.proofs.Bits.{RefusalInBits, told-exactly, accepted-exactly}
+use Rattle.calls.specs.Calls.{PrepareCall, hashCallTest, hashCall, chainCallTest, chainCall, buildCallTest, buildCall}
+use Rattle.calls.specs.Calls.{BuildCall, ReadOffCall, editCallTest, editCall, EditCall, unhashCallTest, UnhashCall}
+use Rattle.calls.specs.Calls.{PackCall, unpackCallTest, unpackCall, UnpackCall, PackShortCall}
+use Rattle.calls.proofs.Theorems as bits
 use Rattle.demands.specs.TurnedBack.{tableCauses, rawCauses, prepareCauses, hashCauses, hashCallCauses, NoTapLength}
 use Rattle.demands.specs.TurnedBack.{chainCauses, writtenCauses, NoTraceLength, openingCauses, constraintCauses}
 use Rattle.demands.specs.TurnedBack.{checkCauses, readOffCauses, editCauses, editCallCauses, NoTwoTaps}
-use Rattle.demands.specs.TurnedBack.{unhashCauses, unhashCallCauses, packCauses, countCauses, elementCauses}
-use Rattle.demands.specs.TurnedBack.{elementsCauses, unpackCauses, TurnedBack}
-use Rattle.demands.proofs.Request5.{request-5}
+use Rattle.demands.specs.TurnedBack.{unhashCauses, unhashCallCauses, fileCauses, packCauses, packShortCauses}
+use Rattle.demands.specs.TurnedBack.{RowsFit, countCauses, elementCauses, elementsCauses, TapsFit, unpackCauses}
+use Rattle.demands.specs.TurnedBack.{SaidFor, TurnedBack}
+use Rattle.demands.proofs.Demand1.{answer-none, digest-none, state-none}
+use Rattle.demands.specs.Request5.{EndsIn}
 
 -- ---- single tests
 
@@ -83,7 +98,7 @@ words-to q s n size =
     (λ e. first-bad s (omega (arith, within s, eqb-false (firstBad s) n e)))
     (λ e j h. omega (arith, only-first-bad s j h, h .within, eqb-true (firstBad s) n e)) (only-first-bad s)
 
-words : (q : ℕ → Refusal) (s : List ℕ)
+pub words : (q : ℕ → Refusal) (s : List ℕ)
     → DecidedBy (byIndex q (IsFirstBad s)) (unless (canonicalWords s) (q (firstBad s)) Accepted)
 words q s = words-to q s (length s) refl
 
@@ -204,7 +219,7 @@ build-call T w rows size =
     written T w ((size ≡ 4) × (rows ≡ n)) (eqb size 4 && eqb rows n) (both-equal DestinationLength size 4 rows n)
 
 -- ---- Check, Read-off and Edit
-opening : (T t : List ℕ) (c : ℕ) → DecidedBy (openingCauses T t c) (openingTest T t c)
+pub opening : (T t : List ℕ) (c : ℕ) → DecidedBy (openingCauses T t c) (openingTest T t c)
 unfolding openingTest
 opening T t c =
     let k = traceWordBatches (length t) in
@@ -286,10 +301,15 @@ module _ (T s : List ℕ) (twelve : length s ≡ 12) where
   unfolding unhashAnswer unhashTest
   no-pair table good =
       one (endsInZeros (inputBefore T s)) NoPair (NoTwoTaps T s)
-      (λ z. request-5 .sixteen-exactly T s twelve .0 (rw (table, good, z)) .2)
+      (λ z w eight h.
+      let refused : unhashTest T s ≡ Refused NoPair = rw (table, good, z) in
+      not-accepted NoPair (sym refused ∙ pair-accepted (unhashTest T s) _ (pair w) (hash-answered T s twelve w eight h) .0))
       (λ z none.
-      let e = request-5 .sixteen-exactly T s twelve .1 (table, good-test s good, none) in
-      not-accepted NoPair (sym (pair-refused (unhashTest T s) _ NoPair e) ∙ rw (table, good, z)))
+      let accepted : unhashTest T s ≡ Accepted = rw (table, good, z) in
+      ⊎-elim (λ (w : (w : List ℕ) × (length w ≡ 8) × EndsIn T w s). none (w .0) (w .1) (w .2))
+      (λ (e : unhashAnswer T s ≡ pairs.Refused NoPair).
+      not-accepted NoPair (sym (pair-refused (unhashTest T s) _ NoPair e) ∙ accepted))
+      (answered-or-16 T s twelve (test-sound T table) (good-test s good)))
 
   cells : tableTest T ≡ Accepted
       → DecidedBy (inOrder (byIndex TapWord (IsFirstBad s)) (by NoPair (NoTwoTaps T s)))
@@ -307,26 +327,24 @@ module _ (T s : List ℕ) (twelve : length s ≡ 12) where
       test-before _ _ (eqb size 8) DestinationLength _ (equal DestinationLength size 8) λ f. cells e
 
 -- ---- the files
-packing : (most : ℕ) (w claim : List ℕ) (n size : ℕ)
-    → DecidedBy (packCauses most w claim n size) (unless (isTapLength most (length w)) TapLength
+packing : (most n : ℕ) (w claim : List ℕ) (size : ℕ)
+    → DecidedBy (fileCauses most n w claim size) (unless (isTapLength most (length w)) TapLength
     (unless (eqb size n) DestinationLength
     (unless (canonicalWords claim) (ClaimWord (firstBad claim))
     (unless (canonicalWords w) (TapWord (firstBad w))
     Accepted))))
-packing most w claim n size =
+packing most n w claim size =
     test-before _ _ (isTapLength most (length w)) TapLength _ (tap-length most w) λ e.
     test-before _ _ (eqb size n) DestinationLength _ (equal DestinationLength size n) λ f.
     test-before _ _ (canonicalWords claim) (ClaimWord (firstBad claim)) _ (words ClaimWord claim) λ g. words TapWord w
 
-pack : (w claim : List ℕ) (size : ℕ)
-    → DecidedBy (packCauses mostFileBatches w claim (fileSize (tapWordBatches (length w))) size) (packTest w claim size)
+pack : (w claim : List ℕ) (size : ℕ) → DecidedBy (packCauses w claim size) (packTest w claim size)
 unfolding packTest
-pack w claim size = packing mostFileBatches w claim (fileSize (tapWordBatches (length w))) size
+pack w claim size = packing mostFileBatches (fileSize (tapWordBatches (length w))) w claim size
 
-pack-short : (w claim : List ℕ) (size : ℕ)
-    → DecidedBy (packCauses mostBatches w claim (shortFileSize w claim) size) (packShortTest w claim size)
+pack-short : (w claim : List ℕ) (size : ℕ) → DecidedBy (packShortCauses w claim size) (packShortTest w claim size)
 unfolding packShortTest
-pack-short w claim size = packing mostBatches w claim (shortFileSize w claim) size
+pack-short w claim size = packing mostBatches (shortFileSize w claim) w claim size
 
 -- spare bits and k of word 0 are refused alike
 count : (w : ℕ) → DecidedBy (countCauses w) (countTest w)
@@ -404,25 +422,144 @@ module _ (file : List ℕ) where
       let n = 12 * batchesIn file + 4 in
       unpacking ((size ≡ 4) × (taps ≡ n)) (eqb size 4 && eqb taps n) (both-equal DestinationLength size 4 taps n)
 
+-- ---- the words of the calls
+
+-- what decides the tests t decides the word that tells of them
+said : (causes : Refusal → Type 0) (t : Answer) (n code : ℕ) → DecidedBy causes t → code ≡ testsCode (testsAfter t n)
+    → AnswerEnds RefusalInBits t → (t ≡ Accepted → n < 2 ^ 28) → SaidFor causes code
+said causes t n code d e b l =
+    let zero = accepted-exactly t n code e b l in record {
+      refuses-exactly = λ r.
+          let told = told-exactly t n code r e b l in
+          (λ s. d .refuses-exactly r .0 (told .0 s), λ c. told .1 (d .refuses-exactly r .1 c));
+      accepts-exactly =
+          (λ z. d .accepts-exactly .0 (zero .0 z), λ none. zero .1 (d .accepts-exactly .1 none));
+    }
+
+-- without tests that are counted
+module _ (causes : Refusal → Type 0) (t : Answer) (code : ℕ) (d : DecidedBy causes t)
+    (b : AnswerEnds RefusalInBits t) where
+  answer-said : code ≡ answerCode t → SaidFor causes code
+  answer-said e = said causes t 0 code d (e ∙ answer-none t) b (λ a. lit< tt)
+
+  digest-said : (words : Digest) → code ≡ digestCode (digestAfter t words) → SaidFor causes code
+  digest-said words e = said causes t 0 code d (e ∙ digest-none t words) b (λ a. lit< tt)
+
+  state-said : (cells : State) → code ≡ stateCode (stateAfter t cells) → SaidFor causes code
+  state-said cells e = said causes t 0 code d (e ∙ state-none t cells) b (λ a. lit< tt)
+
+prepare-call : (raw old new : List ℕ) (code : ℕ) → PrepareCall raw old code new
+    → SaidFor (prepareCauses raw (length old)) code
+prepare-call raw old new code h =
+    answer-said (prepareCauses raw (length old)) (h .answer) code (prepare raw old new (h .answer) (h .prepares))
+    (bits.prepare-bits raw old new (h .answer) (h .prepares)) (h .coded)
+
+hash-word : (T s output output′ : List ℕ) (code : ℕ) → length s ≡ 8
+    → HandsOverState (hashCall T s (length output)) code output output′
+    → SaidFor (hashCallCauses T s (length output)) code
+unfolding hashCall
+hash-word T s output output′ code eight h =
+    let size = length output in
+    state-said (hashCallCauses T s size) (hashCallTest T s size) code (hash-call T s size)
+    (bits.hash-bits T s size eight) _ (h .coded)
+
+chain-word : (T w output output′ : List ℕ) (code : ℕ) → HandsOver (chainCall T w (length output)) code output output′
+    → SaidFor (writtenCauses T w (length output ≡ 4)) code
+unfolding chainCall
+chain-word T w output output′ code h =
+    let size = length output in
+    digest-said (writtenCauses T w (size ≡ 4)) (chainCallTest T w size) code (chain-call T w size)
+    (bits.chain-bits T w size) _ (h .coded)
+
+build-word : (T w rows rows′ output output′ : List ℕ) (code : ℕ) → BuildCall T w code rows rows′ output output′
+    → SaidFor (writtenCauses T w ((length output ≡ 4) × RowsFit w (length rows))) code
+unfolding buildCall
+build-word T w rows rows′ output output′ code h =
+    let size = length output in
+    digest-said (writtenCauses T w ((size ≡ 4) × RowsFit w (length rows))) (buildCallTest T w (length rows) size) code
+    (build-call T w (length rows) size) (bits.build-bits T w (length rows) size) _ (h .four .coded)
+
+check-word : (T t claim : List ℕ) (c code : ℕ) → length claim ≡ 4 → code ≡ testsCode (checkAnswer T t claim c)
+    → SaidFor (checkCauses T t claim c) code
+unfolding checkAnswer
+check-word T t claim c code four e =
+    said (checkCauses T t claim c) (checkTest T t claim c) _ code (check T t claim c) e
+    (bits.check-bits T t claim c four) λ a.
+    let o = check-inputs T t claim c a .0 .opening in
+    bits.tests-bits (traceWordBatches (length t)) c (o .permitted) (o .low) (o .high)
+
+read-off-word : (T t claim taps taps′ : List ℕ) (c code : ℕ) → length claim ≡ 4
+    → ReadOffCall T t claim c code taps taps′ → SaidFor (readOffCauses T t claim c (length taps)) code
+unfolding readOffAnswer
+read-off-word T t claim taps taps′ c code four h =
+    let size = length taps in
+    said (readOffCauses T t claim c size) (readOffTest T t claim c size) _ code (read-off T t claim c size) (h .coded)
+    (bits.read-off-bits T t claim c four size) λ a.
+    let o = read-off-inputs T t claim c size a .1 .opening in
+    bits.tests-bits (traceWordBatches (length t)) c (o .permitted) (o .low) (o .high)
+
+edit-word : (T t claim : List ℕ) (c n : ℕ) (new t′ output output′ : List ℕ) (code : ℕ) → length claim ≡ 4
+    → length new ≡ 4 → EditCall T t claim c n new code t′ output output′
+    → SaidFor (editCallCauses T t claim c n new (length output)) code
+unfolding editCall
+edit-word T t claim c n new t′ output output′ code four four′ h =
+    let size = length output in
+    digest-said (editCallCauses T t claim c n new size) (editCallTest T t claim c n new size) code
+    (edit-call T t claim c n new size) (bits.edit-bits T t claim c four n new size four′) _ (h .four .coded)
+
+unhash-word : (T s taps taps′ : List ℕ) (code : ℕ) → length s ≡ 12 → UnhashCall T s code taps taps′
+    → SaidFor (unhashCallCauses T s (length taps)) code
+unhash-word T s taps taps′ code twelve h =
+    let size = length taps in
+    answer-said (unhashCallCauses T s size) (unhashCallTest T s size) code (unhash-call T s twelve size)
+    (bits.unhash-bits T s size twelve) (h .coded)
+
+pack-word : (w claim file file′ : List ℕ) (code : ℕ) → length claim ≡ 4 → PackCall w claim file code file′
+    → SaidFor (packCauses w claim (length file)) code
+pack-word w claim file file′ code four h =
+    let size = length file in
+    answer-said (packCauses w claim size) (packTest w claim size) code (pack w claim size)
+    (bits.pack-bits w claim size four) (h .coded)
+
+pack-short-word : (w claim file file′ : List ℕ) (code : ℕ) → length claim ≡ 4
+    → PackShortCall w claim file code file′ → SaidFor (packShortCauses w claim (length file)) code
+pack-short-word w claim file file′ code four h =
+    let size = length file in
+    answer-said (packShortCauses w claim size) (packShortTest w claim size) code (pack-short w claim size)
+    (bits.pack-short-bits w claim size four) (h .coded)
+
+unpack-word : (file taps taps′ claim claim′ : List ℕ) (code : ℕ) → UnpackCall file code taps taps′ claim claim′
+    → SaidFor (unpackCauses file ((length claim ≡ 4) × TapsFit file (length taps))) code
+unfolding unpackCall
+unpack-word file taps taps′ claim claim′ code h =
+    let size = length claim in
+    digest-said (unpackCauses file ((size ≡ 4) × TapsFit file (length taps))) (unpackCallTest file (length taps) size) code
+    (unpack-call file (length taps) size) (bits.unpack-bits file (length taps) size) _ (h .four .coded)
+
 -- ---- all
 pub turned-back : TurnedBack
 turned-back = record {
   table = table;
   prepare = prepare;
+  prepare-call = prepare-call;
   hash = hash;
-  hash-call = hash-call;
+  hash-call = hash-word;
   chain = chain;
-  chain-call = chain-call;
+  chain-call = chain-word;
   build = build;
-  build-call = build-call;
+  build-call = build-word;
   check = check;
+  check-call = check-word;
   read-off = read-off;
+  read-off-call = read-off-word;
   edit = edit;
-  edit-call = edit-call;
+  edit-call = edit-word;
   unhash = unhash;
-  unhash-call = λ T s size twelve. unhash-call T s twelve size;
+  unhash-call = unhash-word;
   pack = pack;
+  pack-call = pack-word;
   pack-short = pack-short;
+  pack-short-call = pack-short-word;
   unpack = unpack;
-  unpack-call = unpack-call;
+  unpack-call = unpack-word;
 }

@@ -1,16 +1,17 @@
--- What is turned back, and why (document 01, "What is turned back"; document 02): the causes for which each operation,
--- and each call that has an order of its own, refuses, in their order. A refusal is given for the first cause that
--- holds, and acceptance where none does. The short edition's reader and the converters have their faults in requests 7
--- and 8.
+-- What is turned back, and why (document 01, "What is turned back"; document 02): the causes for which each operation
+-- and its call refuse, in their order. The first that holds gives the refusal, and where none does they accept. The
+-- short edition's reader and the converters have theirs in requests 7 and 8.
 -- Assumes nothing.
 use mathlib.Core.Path.{_≡_}
 use mathlib.Core.List.{List}
+use mathlib.Core.Logic.{_↔_}
 use Prim.Native.Nat.{ℕ, _+_, _*_, _≤_, _<_}
 use lib.ListN.{length}
 use Rattle.field.specs.Field.{P}
 use Rattle.words.specs.Words.{IsFirstBad}
 use Rattle.numbers.specs.Numbers.{width, tapWords, traceWords, mostBatches, IsPermittedTo, IsPermitted}
 use Rattle.numbers.specs.Numbers.{tapWordBatches, traceWordBatches}
+use Rattle.refusals.specs.Refusals.{told}
 use Rattle.refusals.specs.Causes.{by, byIndex, inOrder, DecidedBy}
 use Rattle.refusals.specs.declared.Refusal.{Refusal}
 use Rattle.refusals.specs.declared.Refusal.the-variants.{TableLength, TableWord, NoInverse, WrongInverse, TapLength}
@@ -25,7 +26,7 @@ use Rattle.chain.specs.Answers.{chainTest}
 use Rattle.trace.specs.Answers.{buildTest}
 use Rattle.constraints.specs.Constraints.{tests}
 use Rattle.constraints.specs.FirstFailing.{IsFirstFailing}
-use Rattle.checker.specs.Answers.{checkTest}
+use Rattle.checker.specs.Answers.{checkTest, checkAnswer}
 use Rattle.readoff.specs.Answers.{readOffTest}
 use Rattle.edit.specs.Answers.{editTest}
 use Rattle.unhash.specs.Answers.{unhashTest}
@@ -33,7 +34,10 @@ use Rattle.elements.specs.Words.{kindOf, wordAt}
 use Rattle.elements.specs.Elements.{elementAt, IsElement}
 use Rattle.board.specs.Board.{mostFileBatches, countWord, fileSize, elementCount, packTest, batchesIn, unpackTest}
 use Rattle.shortboard.specs.ShortBoard.{shortFileSize, packShortTest}
-use Rattle.calls.specs.Calls.{hashCallTest, chainCallTest, buildCallTest, editCallTest, unhashCallTest, unpackCallTest}
+use Rattle.handover.specs.Code.{testsCode, numberIn, Says}
+use Rattle.handover.specs.HandsOver.{HandsOver, HandsOverState}
+use Rattle.calls.specs.Calls.{PrepareCall, hashCall, chainCall, BuildCall, ReadOffCall, EditCall, UnhashCall, PackCall}
+use Rattle.calls.specs.Calls.{UnpackCall, PackShortCall}
 use Rattle.demands.specs.Request5.{EndsIn}
 
 -- ---- the table: 1, 2, 4
@@ -74,6 +78,10 @@ chainCauses T w =
     inOrder (tableCauses T)
     (inOrder (by TapLength (NoTapLength mostBatches w))
     (byIndex TapWord (IsFirstBad w)))
+
+-- the trace of the list fits
+abbrev pub RowsFit : List ℕ → ℕ → Type 0
+RowsFit w size = size ≡ traceWords (tapWordBatches (length w))
 
 -- Room is that the destinations have their lengths
 abbrev pub writtenCauses : List ℕ → List ℕ → Type 0 → Refusal → Type 0
@@ -153,13 +161,21 @@ unhashCallCauses T s size =
     (inOrder (byIndex TapWord (IsFirstBad s))
     (by NoPair (NoTwoTaps T s))))
 
--- ---- Pack and the short edition's writer: 5, 8, 9, 6; most is the edition's most batches, n the length of its file
-abbrev pub packCauses : ℕ → List ℕ → List ℕ → ℕ → ℕ → Refusal → Type 0
-packCauses most w claim n size =
+-- ---- Pack and the short edition's writer: 5, 8, 9, 6
+
+-- most is the edition's most batches, n the length of its file
+abbrev pub fileCauses : ℕ → ℕ → List ℕ → List ℕ → ℕ → Refusal → Type 0
+fileCauses most n w claim size =
     inOrder (by TapLength (NoTapLength most w))
     (inOrder (by DestinationLength (size ≡ n → ⊥))
     (inOrder (byIndex ClaimWord (IsFirstBad claim))
     (byIndex TapWord (IsFirstBad w))))
+
+abbrev pub packCauses : List ℕ → List ℕ → ℕ → Refusal → Type 0
+packCauses w claim size = fileCauses mostFileBatches (fileSize (tapWordBatches (length w))) w claim size
+
+abbrev pub packShortCauses : List ℕ → List ℕ → ℕ → Refusal → Type 0
+packShortCauses w claim size = fileCauses mostBatches (shortFileSize w claim) w claim size
 
 -- ---- Unpack: 12 (below 4), word 0's 13 then 14, 12, 8, then each element's three kinds and its value
 
@@ -182,6 +198,10 @@ abbrev pub elementsCauses : List ℕ → ℕ → Refusal → Type 0
 elementsCauses file n r =
     (i : ℕ) × (i < n) × ((m : ℕ) → m < i → IsElement file (1 + 3 * m)) × elementCauses file (1 + 3 * i) r
 
+-- the taps of the file fit
+abbrev pub TapsFit : List ℕ → ℕ → Type 0
+TapsFit file size = size ≡ tapWords (batchesIn file)
+
 abbrev pub unpackCauses : List ℕ → Type 0 → Refusal → Type 0
 unpackCauses file Room =
     inOrder (by FileLength (length file < 4))
@@ -190,37 +210,51 @@ unpackCauses file Room =
     (inOrder (by DestinationLength (Room → ⊥))
     (elementsCauses file (elementCount (batchesIn file))))))
 
--- ---- each, for whatever is lent. An operation answers what its tests do
+-- ---- the word of a call says what these causes give, and acceptance where they give nothing
+pub record SaidFor (causes : Refusal → Type 0) (code : ℕ) : Type 0 where
+  pub refuses-exactly : (r : Refusal) → Says code (told r) ↔ causes r
+  pub accepts-exactly : (numberIn code ≡ 0) ↔ ((r : Refusal) → causes r → ⊥)
+
+-- ---- each, for whatever is lent: what an operation's tests answer, which it answers, and what the word of its call says
 pub record TurnedBack : Type 0 where
   pub table : (T : List ℕ) → DecidedBy (tableCauses T) (tableTest T)
   pub prepare : (raw old new : List ℕ) (a : Answer) → Prepares raw old a new
       → DecidedBy (prepareCauses raw (length old)) a
+  pub prepare-call : (raw old new : List ℕ) (code : ℕ) → PrepareCall raw old code new
+      → SaidFor (prepareCauses raw (length old)) code
   pub hash : (T words : List ℕ) → DecidedBy (hashCauses T words) (hashTest T words)
-  pub hash-call : (T words : List ℕ) (size : ℕ)
-      → DecidedBy (hashCallCauses T words size) (hashCallTest T words size)
+  pub hash-call : (T words output output′ : List ℕ) (code : ℕ) → length words ≡ 8
+      → HandsOverState (hashCall T words (length output)) code output output′
+      → SaidFor (hashCallCauses T words (length output)) code
   pub chain : (T w : List ℕ) → DecidedBy (chainCauses T w) (chainTest T w)
-  pub chain-call : (T w : List ℕ) (size : ℕ) → DecidedBy (writtenCauses T w (size ≡ 4)) (chainCallTest T w size)
-  pub build : (T w : List ℕ) (rows : ℕ)
-      → DecidedBy (writtenCauses T w (rows ≡ traceWords (tapWordBatches (length w)))) (buildTest T w rows)
-  pub build-call : (T w : List ℕ) (rows size : ℕ)
-      → DecidedBy (writtenCauses T w ((size ≡ 4) × (rows ≡ traceWords (tapWordBatches (length w)))))
-      (buildCallTest T w rows size)
+  pub chain-call : (T w output output′ : List ℕ) (code : ℕ)
+      → HandsOver (chainCall T w (length output)) code output output′
+      → SaidFor (writtenCauses T w (length output ≡ 4)) code
+  pub build : (T w : List ℕ) (size : ℕ) → DecidedBy (writtenCauses T w (RowsFit w size)) (buildTest T w size)
+  pub build-call : (T w rows rows′ output output′ : List ℕ) (code : ℕ) → BuildCall T w code rows rows′ output output′
+      → SaidFor (writtenCauses T w ((length output ≡ 4) × RowsFit w (length rows))) code
   pub check : (T t claim : List ℕ) (c : ℕ) → DecidedBy (checkCauses T t claim c) (checkTest T t claim c)
+  pub check-call : (T t claim : List ℕ) (c code : ℕ) → length claim ≡ 4 → code ≡ testsCode (checkAnswer T t claim c)
+      → SaidFor (checkCauses T t claim c) code
   pub read-off : (T t claim : List ℕ) (c size : ℕ)
       → DecidedBy (readOffCauses T t claim c size) (readOffTest T t claim c size)
+  pub read-off-call : (T t claim taps taps′ : List ℕ) (c code : ℕ) → length claim ≡ 4
+      → ReadOffCall T t claim c code taps taps′ → SaidFor (readOffCauses T t claim c (length taps)) code
   pub edit : (T t claim : List ℕ) (c n : ℕ) (new : List ℕ)
       → DecidedBy (editCauses T t claim c n new) (editTest T t claim c n new)
-  pub edit-call : (T t claim : List ℕ) (c n : ℕ) (new : List ℕ) (size : ℕ)
-      → DecidedBy (editCallCauses T t claim c n new size) (editCallTest T t claim c n new size)
+  pub edit-call : (T t claim : List ℕ) (c n : ℕ) (new t′ output output′ : List ℕ) (code : ℕ) → length claim ≡ 4
+      → length new ≡ 4 → EditCall T t claim c n new code t′ output output′
+      → SaidFor (editCallCauses T t claim c n new (length output)) code
   pub unhash : (T s : List ℕ) → length s ≡ width → DecidedBy (unhashCauses T s) (unhashTest T s)
-  pub unhash-call : (T s : List ℕ) (size : ℕ) → length s ≡ width
-      → DecidedBy (unhashCallCauses T s size) (unhashCallTest T s size)
-  pub pack : (w claim : List ℕ) (size : ℕ)
-      → DecidedBy (packCauses mostFileBatches w claim (fileSize (tapWordBatches (length w))) size)
-      (packTest w claim size)
+  pub unhash-call : (T s taps taps′ : List ℕ) (code : ℕ) → length s ≡ width → UnhashCall T s code taps taps′
+      → SaidFor (unhashCallCauses T s (length taps)) code
+  pub pack : (w claim : List ℕ) (size : ℕ) → DecidedBy (packCauses w claim size) (packTest w claim size)
+  pub pack-call : (w claim file file′ : List ℕ) (code : ℕ) → length claim ≡ 4 → PackCall w claim file code file′
+      → SaidFor (packCauses w claim (length file)) code
   pub pack-short : (w claim : List ℕ) (size : ℕ)
-      → DecidedBy (packCauses mostBatches w claim (shortFileSize w claim) size) (packShortTest w claim size)
-  pub unpack : (file : List ℕ) (size : ℕ)
-      → DecidedBy (unpackCauses file (size ≡ tapWords (batchesIn file))) (unpackTest file size)
-  pub unpack-call : (file : List ℕ) (taps size : ℕ)
-      → DecidedBy (unpackCauses file ((size ≡ 4) × (taps ≡ tapWords (batchesIn file)))) (unpackCallTest file taps size)
+      → DecidedBy (packShortCauses w claim size) (packShortTest w claim size)
+  pub pack-short-call : (w claim file file′ : List ℕ) (code : ℕ) → length claim ≡ 4
+      → PackShortCall w claim file code file′ → SaidFor (packShortCauses w claim (length file)) code
+  pub unpack : (file : List ℕ) (size : ℕ) → DecidedBy (unpackCauses file (TapsFit file size)) (unpackTest file size)
+  pub unpack-call : (file taps taps′ claim claim′ : List ℕ) (code : ℕ) → UnpackCall file code taps taps′ claim claim′
+      → SaidFor (unpackCauses file ((length claim ≡ 4) × TapsFit file (length taps))) code

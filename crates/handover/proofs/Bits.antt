@@ -50,29 +50,32 @@ unfolding particularsCode
 says-accepted n h = says (indexed 0 n) (record { number = lit< tt; constraint = lit< tt; row = lit< tt; value = h })
 
 -- no refusal has number 0, so that a call which returns 0 has accepted
-some-number : (r : Refusal) → eqb (told r .number) 0 ≡ false
-some-number TableLength = refl
-some-number (TableWord i) = refl
-some-number NoInverse = refl
-some-number (WrongInverse i) = refl
-some-number TapLength = refl
-some-number (TapWord i) = refl
-some-number TraceLength = refl
-some-number DestinationLength = refl
-some-number (ClaimWord i) = refl
-some-number (TraceWord i) = refl
-some-number (Constraint row constraint tests) = refl
-some-number FileLength = refl
-some-number (WrongKind i) = refl
-some-number (WrongValue i) = refl
-some-number NoSuchTap = refl
-some-number NoPair = refl
-some-number ClaimBatches = refl
-some-number (LongElement i) = refl
-some-number SameEdition = refl
+numbered : (r : Refusal) → eqb (told r .number) 0 ≡ false
+numbered TableLength = refl
+numbered (TableWord i) = refl
+numbered NoInverse = refl
+numbered (WrongInverse i) = refl
+numbered TapLength = refl
+numbered (TapWord i) = refl
+numbered TraceLength = refl
+numbered DestinationLength = refl
+numbered (ClaimWord i) = refl
+numbered (TraceWord i) = refl
+numbered (Constraint row constraint tests) = refl
+numbered FileLength = refl
+numbered (WrongKind i) = refl
+numbered (WrongValue i) = refl
+numbered NoSuchTap = refl
+numbered NoPair = refl
+numbered ClaimBatches = refl
+numbered (LongElement i) = refl
+numbered SameEdition = refl
+
+pub some-number : (r : Refusal) → told r .number ≡ 0 → ⊥
+some-number r = eqb-false (told r .number) 0 (numbered r)
 
 refusal-some : (r : Refusal) → RefusalInBits r → refusalCode r ≡ 0 → ⊥
-refusal-some r b e = eqb-false _ _ (some-number r) (sym (says (told r) b .number) ∙ ap numberIn e)
+refusal-some r b e = some-number r (sym (says (told r) b .number) ∙ ap numberIn e)
 
 pub zero-accepts : (t : Answer) → AnswerEnds RefusalInBits t → answerCode t ≡ 0 → t ≡ answer.Accepted
 unfolding answerCode
@@ -139,9 +142,10 @@ module _ (c : ℕ) where
 
   -- and none where it tells acceptance
   pub tells-apart : (n : ℕ) (r : Refusal) → Says c (indexed 0 n) → Says c (told r) → ⊥
-  tells-apart n r h g = eqb-false _ _ (some-number r) (sym (g .number) ∙ h .number)
+  tells-apart n r h g = some-number r (sym (g .number) ∙ h .number)
 
--- so the code of an answer within the bits tells a refusal exactly where it is that one
+-- so the code of an answer within the bits tells a refusal exactly where it is that one, and number 0 exactly where it
+-- is acceptance
 pub told-exactly : (t : Answer) (n c : ℕ) (r : Refusal) → c ≡ testsCode (testsAfter t n)
     → AnswerEnds RefusalInBits t → (t ≡ answer.Accepted → n < 2 ^ 28) → Says c (told r) ↔ (t ≡ answer.Refused r)
 unfolding testsCode
@@ -152,3 +156,13 @@ told-exactly answer.Accepted n c r e b l = (
 told-exactly (answer.Refused q) n c r e b l =
     let said : Says c (told q) = rw e (says (told q) b) in
     (λ s. ap answer.Refused (tells-one c q r said s), λ a. subst (λ x. Says c (told x)) (refused-same a) said)
+
+pub accepted-exactly : (t : Answer) (n c : ℕ) → c ≡ testsCode (testsAfter t n)
+    → AnswerEnds RefusalInBits t → (t ≡ answer.Accepted → n < 2 ^ 28) → (numberIn c ≡ 0) ↔ (t ≡ answer.Accepted)
+unfolding testsCode
+accepted-exactly answer.Accepted n c e b l =
+    let said : Says c (indexed 0 n) = rw e (says-accepted n (l refl)) in
+    (λ z. refl, λ a. said .number)
+accepted-exactly (answer.Refused q) n c e b l =
+    let said : Says c (told q) = rw e (says (told q) b) in
+    (λ z. absurd (some-number q (sym (said .number) ∙ z)), λ a. absurd (not-accepted q a))

@@ -1,10 +1,13 @@
 -- Tests one after the other are decided by their causes in that order, whatever these are: the law of one test, and of
--- tests after which more come. A refusal that some causes never give is one of the next ones.
+-- tests after which more come. A refusal that some causes never give is one of the next ones'.
 -- Assumes nothing.
 use mathlib.Core.Path.{_≡_, refl, sym, ap, subst, _∙_}
-use mathlib.Core.Bool.{Bool, true, false, true≢false}
+use mathlib.Core.Bool.{Bool, true, false}
 use mathlib.Core.Logic.{_⊎_, inl, inr, ⊎-elim, _↔_}
 use Prim.Native.Nat.{ℕ}
+use borrow.Author.Tests.{eqb-false}
+use lib.Dec.{eqb}
+use Rattle.refusals.specs.Refusals.{told}
 use Rattle.refusals.specs.declared.Refusal.{Refusal}
 use Rattle.refusals.specs.declared.Answer.{Answer}
 use Rattle.refusals.specs.declared.Answer.the-variants.{Accepted, Refused}
@@ -69,3 +72,25 @@ test-before first next b q rest h n =
     passes : (x : Bool) → unless x q Accepted ≡ Accepted → x ≡ true
     passes true e = refl
     passes false e = absurd (not-accepted q e)
+
+-- ---- a number that some causes never give
+
+abbrev pub Never : ℕ → (Refusal → Type 0) → Type 0
+Never n causes = (r : Refusal) → causes r → told r .number ≡ n → ⊥
+
+module _ (n : ℕ) where
+  pub never-by : (q : Refusal) (cause : Type 0) → eqb (told q .number) n ≡ false → Never n (by q cause)
+  never-by q cause e r c h = eqb-false (told q .number) n e (ap (λ x. told x .number) (sym (c .1)) ∙ h)
+
+  pub never-index : (q : ℕ → Refusal) (cause : ℕ → Type 0) → ((i : ℕ) → eqb (told (q i) .number) n ≡ false)
+      → Never n (byIndex q cause)
+  never-index q cause e r c h =
+      eqb-false (told (q (c .0)) .number) n (e (c .0)) (ap (λ x. told x .number) (sym (c .2)) ∙ h)
+
+  pub never-either : (first next : Refusal → Type 0) → Never n first → Never n next → Never n (inOrder first next)
+  never-either first next f g r = ⊎-elim (λ c. f r c) (λ c. g r (c .1))
+
+  -- a refusal with it is one of the next causes, and none of the first holds
+  pub reached : (first next : Refusal → Type 0) → Never n first → (r : Refusal) → told r .number ≡ n
+      → inOrder first next r → ((q : Refusal) → first q → ⊥) × next r
+  reached first next f r e = ⊎-elim (λ c. absurd (f r c e)) (λ c. c)
