@@ -25,7 +25,8 @@ use Rattle.refusals.specs.declared.State.{State}
 use Rattle.refusals.proofs.Laws.{passed, both-accepted, digest-refused, state-refused, pair-refused}
 use Rattle.refusals.proofs.Laws.{tests-refused, AnswerEnds}
 use Rattle.table.specs.Table.{Prepares, tableTest}
-use Rattle.prepare.proofs.Theorems.{prepares-some, prepares-unique, refused-kept}
+use Rattle.prepare.proofs.Theorems.{prepares-some, prepares-unique, refused-kept, no-inverse-exact, none-exactly}
+use Rattle.prepare.proofs.Theorems.{prepared-accepted}
 use Rattle.hash.specs.Hash as rescue
 use Rattle.hash.specs.Answers.{hashTest, hashAnswer}
 use Rattle.hash.proofs.States.{finalState-state}
@@ -628,6 +629,12 @@ demand-1 = record {
   only-prepare-3 = only-3;
   prepare-answers = prepares-some;
   prepare-answers-once = prepares-unique;
+  prepare-3-exactly = λ raw old new a h. (
+    λ e. (let k = no-inverse-exact raw old new a h .0 e in (k .0, none-exactly raw .1 (k .1))),
+    λ n. no-inverse-exact raw old new a h .1 (n .0, none-exactly raw .0 (n .1)),
+  );
+  no-inverse-exactly = none-exactly;
+  prepared-accepted = prepared-accepted;
   prepare-keeps = refused-kept;
   build-keeps = λ T w old r e. kept-old _ r (digest-refused (buildTest T w (length old)) _ r e) _ old;
   read-off-keeps = λ T t claim old c r e.

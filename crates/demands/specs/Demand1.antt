@@ -4,9 +4,10 @@
 -- Assumes nothing.
 use mathlib.Core.Path.{_≡_}
 use mathlib.Core.List.{List, [], _∷_, List·Memᴰ}
+use mathlib.Core.Logic.{_↔_}
 use Prim.Native.Nat.{ℕ, _*_, _≤_}
 use lib.ListN.{length}
-use Rattle.numbers.specs.Numbers.{tapWords, traceWords, IsPermitted}
+use Rattle.numbers.specs.Numbers.{width, tapWords, traceWords, IsPermitted}
 use Rattle.refusals.specs.Refusals.{told, indexed}
 use Rattle.refusals.specs.declared.Refusal.{Refusal}
 use Rattle.refusals.specs.declared.Refusal.the-variants.{TableLength, TableWord, NoInverse, WrongInverse, TapLength}
@@ -19,7 +20,8 @@ use Rattle.refusals.specs.declared.DigestAnswer.the-variants as digest
 use Rattle.refusals.specs.declared.StateAnswer.the-variants as state
 use Rattle.refusals.specs.declared.PairAnswer.the-variants as pair
 use Rattle.refusals.specs.declared.TestsAnswer.the-variants as tests
-use Rattle.table.specs.Table.{Prepares}
+use Rattle.matrix.specs.Matrix.{Kernel, entry}
+use Rattle.table.specs.Table.{tableTest, rawMatrix, RawInverse, rawTest, Prepares}
 use Rattle.hash.specs.Hash as rescue
 use Rattle.hash.specs.Answers.{hashAnswer}
 use Rattle.chain.specs.Answers.{chainAnswer}
@@ -266,6 +268,15 @@ pub record Demand1 : Type 0 where
   pub prepare-answers : (raw old : List ℕ) → (a : Answer) × ((new : List ℕ) × Prepares raw old a new)
   pub prepare-answers-once : (raw old : List ℕ) (a b : Answer) (s t : List ℕ) → Prepares raw old a s
       → Prepares raw old b t → (a ≡ b) × (s ≡ t)
+  -- it refuses with 3 exactly where its tests pass and M has no inverse; that is where M takes some non-zero column to
+  -- zeros; and a table that it wrote is accepted
+  pub prepare-3-exactly : (raw old new : List ℕ) (a : Answer) → Prepares raw old a new
+      → (a ≡ answer.Refused NoInverse)
+      ↔ ((rawTest raw (length old) ≡ answer.Accepted) × ((n : List ℕ) → RawInverse raw n → ⊥))
+  pub no-inverse-exactly : (raw : List ℕ)
+      → ((n : List ℕ) → RawInverse raw n → ⊥) ↔ Kernel width (entry (rawMatrix raw))
+  pub prepared-accepted : (raw old new : List ℕ) → Prepares raw old answer.Accepted new
+      → tableTest new ≡ answer.Accepted
   -- what each operation that writes leaves after a refusal
   pub prepare-keeps : (raw old new : List ℕ) (r : Refusal) → Prepares raw old (answer.Refused r) new → new ≡ old
   pub build-keeps : (T w old : List ℕ) (r : Refusal) → buildAnswer T w (length old) ≡ digest.Refused r

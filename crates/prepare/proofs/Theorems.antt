@@ -153,6 +153,16 @@ no-inverse-exact raw old new a h =
     to b s (no-inverse t k) e = (t, k)
     to b s (refuses r t) e = absurd (raw-not-3 raw (length old) (t ∙ e))
 
+-- which is where it has no inverse
+pub none-exactly : (raw : List ℕ) → ((n : List ℕ) → RawInverse raw n → ⊥) ↔ Kernel 12 (entry (rawMatrix raw))
+none-exactly raw =
+    let m = rawMatrix raw in (
+      λ none.
+          ⊎-elim (λ (i : Invertible 12 (entry m)). absurd (none (listed (i .matrix)) (listed-inverse m i)))
+          (λ (k : Kernel 12 (entry m)). k) (dichotomy 12 (entry m)),
+      λ k n i. not-both 12 (entry m) (entry n) (i .inverse) k,
+    )
+
 -- Prepare never returns 4
 pub never-4 : (raw old new : List ℕ) (c : ℕ) → Prepares raw old (Refused (WrongInverse c)) new → ⊥
 never-4 raw old new c h = go (Refused (WrongInverse c)) new h refl
