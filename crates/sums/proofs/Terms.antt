@@ -101,8 +101,8 @@ pub loose-low : (y l : ℕ) → y ≤ 1729382343346488011 → Loose (y + P - l *
 loose-low y l h = omega arith
 
 -- v by its parts above and below 2^32
-parts : (v y l : ℕ) → l < half → v ≡ half * y + l → y + P - l * 536870932 ≡ loweredLoose v
-parts v y l h e = below ∙ sym (ap (λ d. (v + P * (half - d)) / half) rest ∙ ap (λ n. n / half) whole ∙ quotient _)
+loose-parts : (v y l : ℕ) → l < half → v ≡ half * y + l → y + P - l * 536870932 ≡ loweredLoose v
+loose-parts v y l h e = below ∙ sym (ap (λ d. (v + P * (half - d)) / half) rest ∙ ap (λ n. n / half) whole ∙ quotient _)
   where
     rest : v % half ≡ l
     rest = omega arith
@@ -125,12 +125,12 @@ loose-is word low high x b =
     go (belowOf word low high x) (aboveOf low high x) (added word low x) (b .whole)
   where
     go : (t more v : ℕ) → v ≡ t + half * more → t / half + more + P - t % half * 536870932 ≡ loweredLoose v
-    go t more v e = parts v (t / half + more) (t % half) (omega arith) (omega arith)
+    go t more v e = loose-parts v (t / half + more) (t % half) (omega arith) (omega arith)
 
 -- it is that after the first term but for a multiple of p
 loose-lowered : (v : ℕ) → loweredLoose v % P ≡ lowered v
 loose-lowered v =
-    ap (λ z. z % P) (sym (parts v (v / half + 0) (v % half) (omega arith) (omega arith)))
+    ap (λ z. z % P) (sym (loose-parts v (v / half + 0) (v % half) (omega arith) (omega arith)))
     ∙ ap (λ z. z % P) (turned (v / half + 0) (v % half) (omega arith))
     ∙ step-law v 0
     ∙ ap lowered (add-zero v)

@@ -17,7 +17,7 @@ added word low x = word + low * (x % 2 ^ 31) + 2 ^ 31 * low % P * (x / 2 ^ 31)
 abbrev pub loweredLoose : ℕ → ℕ
 loweredLoose v = (v + P * (half - v % half)) / half
 
--- the word between the two terms of a step
+-- the word after a term that is not yet brought below p, as between the two terms of a step
 unfoldable pub looseWord : ℕ → ℕ → ℕ → ℕ
 looseWord word low x = loweredLoose (added word low x)
 

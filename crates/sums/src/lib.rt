@@ -67,7 +67,7 @@ pub fn loose_term(word: u64, low: u64, high: u64, x: u64, q: u32) -> u64
     t / montgomery::HALF + more + Fp::P - t % montgomery::HALF * (q as u64)
 }
 
-// (word + low x) / 2^32: the last term of a step.
+// (word + low x) / 2^32: the second term of a step.
 pub fn term(word: u64, low: u64, high: u64, x: u64, q: u32) -> u64
     requires { ⌜ Term word low high x × (q ≡ quotient) ⌝ }
     ensures { λ r. ⌜ (r ≡ gathered word low x) × Canonical r ⌝ }
