@@ -1,7 +1,7 @@
 #!/bin/sh
 # Holds docs/REVIEW.md to the repository: that its table of public functions is complete, that each of them has a
-# contract which speaks of its result and of what it writes, and asks nothing at an entry point; that what it and the
-# other documents name exists; that its counts are right. Prints what is wrong, and fails if anything is.
+# contract which equates its result and what it writes with a definition, and asks nothing at an entry point; that what
+# it and the other documents name exists; that its counts are right. Prints what is wrong, and fails if anything is.
 set -eu
 cd "$(dirname "$0")/.."
 
@@ -27,14 +27,123 @@ find crates/*/src -name '*.rt' | sort | while read -r file; do
 done >"$work/functions"
 [ -s "$work/functions" ] || wrong "no public function was found"
 
+# ---- what a contract may name in the place of an equation. RELATION THEOREM: the theorem says that the relation allows
+# one answer; with `=` the relation is a record of equations, or of such relations. `divided` stands for an equation of
+# the element that a word below p stands for
+relations='
+Prepares prepares-unique
+PrepareCall prepare-call-unique
+Inverts inverts-unique
+Clears clears-unique
+divided divided-unique
+HandsOver =
+HandsOverState =
+BuildCall =
+ReadOffCall =
+EditCall =
+UnhashCall =
+PackCall =
+UnpackCall =
+PackShortCall =
+UnpackShortCall =
+ToShortCall =
+ToFullCall =
+'
+named=" $(echo "$relations" | awk '{ print $1 }' | tr '\n' ' ') "
+echo "$relations" | grep . | while read -r relation theorem; do
+    cut -f 2 "$work/functions" | grep -q "ensures.*[( ]$relation " || wrong "no contract names the relation $relation"
+    if [ "$theorem" = = ]; then
+        awk -v relation="$relation" -v named="$named" '
+            index($0, "pub record " relation " (") == 1 { on = 1; head = "" }
+            /^$/ { on = 0 }
+            on && /^  pub / {
+                split($0, word, " ")
+                if (!(word[5] == "≡" && head ~ "[( ]" word[4] " ") && !index(named, " " word[4] " "))
+                    print "tests/review.sh: the field " word[2] " of " relation " is no equation"
+                fields++
+                next
+            }
+            on && !fields { head = head $0 }
+            END { if (!fields) print "tests/review.sh: there is no record " relation }' crates/*/specs/*.antt
+    else
+        stated=$(cat crates/*/proofs/*.antt | awk -v begins="pub $theorem : " '
+            on && !/^ / { exit } index($0, begins) == 1 { on = 1 } on' | tr '\n' ' ')
+        case $stated in
+        *"$relation "*"$relation "*"→"*" ≡ "*) ;;
+        *) echo "tests/review.sh: $theorem does not say that $relation allows one answer" ;;
+        esac
+    fi
+done >>"$work/wrong"
+
+# ---- the structs, by their fields
+find crates/*/src -name '*.rt' | sort | xargs awk '
+    /^pub struct [A-Za-z]+\(/ {
+        line = $3; sub(/\(.*/, "", line); n = split($0, part, ",")
+        for (i = 0; i < n; i++) line = line " " i
+        print line
+    }
+    /^pub struct .*\{$/ { line = $3; sub(/<.*/, "", line); open = 1; next }
+    open && /^}/ { print line; open = 0 }
+    open { field = $0; sub(/^ *(pub )?/, "", field); if (sub(/:.*/, "", field)) line = line " " field }' >"$work/structs"
+
 # ---- the table of section 6 beside them. Entry points are the operations of documents 01 and 02, the table test, and
 # whatever other languages link
 operations="table::test prepare::prepare hash::hash chain::chain trace::build checker::check readoff::read_off"
 operations="$operations edit::edit unhash::unhash board::pack board::unpack shortboard::pack_short"
 operations="$operations shortboard::unpack_short toshort::to_short tofull::to_full clearing::clear"
-awk -F '\t' -v operations=" $operations " '
+awk -F '\t' -v operations=" $operations " -v named="$named" -v structs="$work/structs" '
     function bad(text) { print "tests/review.sh: " name ": " text }
     function apart(text) { text = " " text " "; gsub(/[() ]+/, " ", text); return text }
+    function speaks(text, word) { return index(apart(text), " " word " ") }
+    function deeper(text) { return gsub(/\(/, "", text) - gsub(/\)/, "", text) }
+    # a part of an ensures, without brackets around the whole
+    function bare(text, i, depth) {
+        while (text ~ /^\(.*\)$/) {
+            depth = 1
+            for (i = 2; depth && i < length(text); i++) depth += deeper(substr(text, i, 1))
+            if (!depth) break
+            text = substr(text, 2, length(text) - 2)
+        }
+        return text
+    }
+    # what a part of an ensures equates with a definition: the result, a field of it, or what is left in a buffer
+    function part_says(text, result, flat, left, right, word, buffer) {
+        split(text, word, " ")
+        flat = text
+        while (gsub(/\([^()]*\)/, "_", flat)) continue
+        if (flat ~ / (→|⊎|×) /) return
+        if (index(named, " " word[1] " ")) {
+            if (word[1] == "divided" && !speaks(promise, "Canonical " result)) return
+            if (speaks(text, result)) said["result"] = 1
+            for (buffer in written) if (index(text, "(" buffer " .exit)")) said["&" buffer] = 1
+            return
+        }
+        if (gsub(/ ≡ /, "", flat) != 1) return
+        left = substr(text, 1, index(text, " ≡ ") - 1)
+        right = substr(text, length(left " ≡ ") + 1)
+        if (index(right, " .exit)")) return
+        for (buffer in written) if (left == "now (" buffer " .exit)") said["&" buffer] = 1
+        if (right ~ "^[A-Z][A-Za-z]*\\.[A-Z][A-Za-z]* " result "$" && !speaks(left, result)) said["result"] = 1
+        if (speaks(right, result)) return
+        if (left == result || left == "now " result) said["result"] = 1
+        if (left ~ "^" result " \\.[a-z0-9_]+$") said[substr(left, length(result " ") + 1)] = 1
+    }
+    function ensures_say(clauses, i, j, n, m, text, part, piece, result) {
+        n = split(clauses, part, / ensures \{ λ /)
+        for (i = 2; i <= n; i++) {
+            result = part[i]; sub(/\..*/, "", result)
+            text = substr(part[i], index(part[i], "⌜ ") + length("⌜ "))
+            m = split(substr(text, 1, index(text, " ⌝") - 1), piece, / × /)
+            text = ""
+            for (j = 1; j <= m; j++) {
+                text = text (text == "" ? "" : " × ") piece[j]
+                if (deeper(text)) continue
+                part_says(bare(text), result)
+                text = ""
+            }
+        }
+    }
+    BEGIN { while ((getline line < structs) > 0) { type = line; sub(/ .*/, "", type); fields[type] = line } }
     FNR == NR { head[$1] = $2; next }
     /^\| `[a-z]+::/ {
         split($0, part, / \| /)
@@ -59,14 +168,20 @@ awk -F '\t' -v operations=" $operations " '
             promise = substr(head[name], RSTART)
             asked = substr(head[name], 1, RSTART)
             sub(/ requires \{.*/, "", asked)
-            if (asked ~ / -> / && (!match(promise, /λ r\./) || substr(promise, RSTART + RLENGTH) !~ /[ (]r[ )]/))
-                bad("its ensures does not speak of the result")
+            split("", written); split("", said)
+            type = asked; if (!sub(/.* -> /, "", type)) said["result"] = 1
+            sub(/[ <].*/, "", type)
             while (match(asked, /[a-z_0-9]+: &(.[a-z]+ )?mut /)) {
                 buffer = substr(asked, RSTART); sub(/:.*/, "", buffer)
-                if (!index(promise, "(" buffer " .exit)"))
-                    bad("its ensures does not speak of what it leaves in " buffer)
+                written[buffer] = 1
                 asked = substr(asked, RSTART + RLENGTH)
             }
+            ensures_say(promise)
+            n = split(fields[type], field, " ")
+            for (i = 2; i <= n && said["." field[i]]; i++) continue
+            if (!said["result"] && !(n && i > n)) bad("its ensures does not equate the result with a definition")
+            for (buffer in written)
+                if (!said["&" buffer]) bad("its ensures does not equate what it leaves in " buffer " with a definition")
         }
     }' "$work/functions" "$page" >>"$work/wrong"
 

@@ -1,18 +1,56 @@
--- The span of a row: no constraint below its low or from its end on applies there. Shown by
--- the families that apply at the row's number within its batch.
+-- The span of a row: the definition's, by the tests of the code; and that no constraint below its low or from its end on
+-- applies there, however many batches there are and wherever the claim stands, which is shown by the families that apply
+-- at the row's number within its batch.
 -- Assumes nothing.
-use mathlib.Core.Path.{_≡_, refl, sym, _∙_}
+use mathlib.Core.Path.{_≡_, refl, sym, subst, _∙_}
 use mathlib.Core.Bool.{Bool, true, false}
 use mathlib.Core.Logic.{inl, inr, ⊎-elim}
 use Prim.Native.Nat.{ℕ, _≤_, _<_}
+use native.Mathlib.Decide.{ℕ-discrete, decLe}
 use native.Mathlib.Nat.{mod-lt}
 use native.Mathlib.Omega.{arith}
+use borrow.Author.Tests.{eq-eqb, ne-eqb, le-leb, lt-leb}
+use lib.Dec.{eqb}
 use Rattle.numbers.specs.Numbers.{within}
 use Rattle.constraints.specs.Constraints.{entering, applies}
 use Rattle.constraints.proofs.Families.{Applies, applies-cases, zero-columns, new-zeros, starts, output-kept, goes-on}
 use Rattle.constraints.proofs.Families.{ends, joins, claims}
 use Rattle.constraints.proofs.ForwardBack.{enters-at, enters-not-at}
-use Rattle.applying.specs.SpanHelpers.{Spans}
+use Rattle.applying.specs.declared.Span.{Span}
+use Rattle.applying.specs.SpanHelpers.{span, spanOf}
+
+-- ---- one kind of row after the other, as the code goes through them. w is the row's number within its batch
+module _ (i : ℕ) {w : ℕ} (e : w ≡ within i) where
+  pub first-row : w ≡ 0 → span 1 21 ≡ spanOf i
+  first-row z = rw (eq-eqb (within i) 0 (sym e ∙ z))
+
+  module _ {n : Bool} (f : n ≡ entering i) (not-first : w ≡ 0 → ⊥) where
+    not-0 : eqb (within i) 0 ≡ false
+    not-0 = ne-eqb (within i) 0 (λ z. not-first (e ∙ z))
+
+    pub entering-row : n ≡ true → span 5 25 ≡ spanOf i
+    entering-row z = rw (not-0, sym f ∙ z)
+
+    module _ (other : n ≡ false) where
+      pub middle-row : w ≤ 29 → span 21 33 ≡ spanOf i
+      middle-row l = rw (not-0, sym f ∙ other, le-leb (within i) 29 (omega arith))
+
+      module _ (past : 29 < w) where
+        pub row-30 : w ≡ 30 → span 33 45 ≡ spanOf i
+        row-30 z =
+            rw (not-0, sym f ∙ other, lt-leb (within i) 29 (omega arith), eq-eqb (within i) 30 (sym e ∙ z))
+
+        pub row-31 : (w ≡ 30 → ⊥) → span 45 53 ≡ spanOf i
+        row-31 z =
+            rw (not-0, sym f ∙ other, lt-leb (within i) 29 (omega arith), ne-eqb (within i) 30 (λ q. z (e ∙ q)))
+
+-- ---- the constraints that can apply at row i stand from low on and before end
+pub record Spans (i low end : ℕ) : Type 0 where
+  pub from-one : 1 ≤ low
+  pub some : low < end
+  pub to-last : end ≤ 53
+  pub below : (k c q : ℕ) → q < low → applies k c i q ≡ false
+  pub above : (k c q : ℕ) → end ≤ q → applies k c i q ≡ false
 
 -- from low to end there is room for the constraints of row w of a batch
 record Room (w low end : ℕ) : Type 0 where
@@ -41,8 +79,8 @@ within-span k c i q low end room (joins j l e r n) = omega (arith, room .at-31 r
 within-span k c i q low end room (claims j l e r) = omega (arith, room .at-31 (omega arith))
 
 -- what does not apply
-no : (k c i q : ℕ) → (Applies k c i q → ⊥) → applies k c i q ≡ false
-no k c i q h = go (applies k c i q) refl
+not-there : (k c i q : ℕ) → (Applies k c i q → ⊥) → applies k c i q ≡ false
+not-there k c i q h = go (applies k c i q) refl
   where
     go : (b : Bool) → applies k c i q ≡ b → b ≡ false
     go true e = absurd (h (applies-cases k c i q e))
@@ -53,32 +91,38 @@ spans i low end a b d room = record {
   from-one = a;
   some = b;
   to-last = d;
-  below = λ k c q h. no k c i q (λ p. omega (arith, within-span k c i q low end room p));
-  above = λ k c q h. no k c i q (λ p. omega (arith, within-span k c i q low end room p));
+  below = λ k c q h. not-there k c i q (λ p. omega (arith, within-span k c i q low end room p));
+  above = λ k c q h. not-there k c i q (λ p. omega (arith, within-span k c i q low end room p));
 }
 
--- ---- one kind of row after the other, as the code goes through them. w is the row's number within its batch
-module _ (i : ℕ) {w : ℕ} (e : w ≡ within i) where
-  pub first-row : w ≡ 0 → Spans i 1 21
-  first-row z = spans i 1 21 (omega arith) (omega arith) (omega arith) (omega arith)
+-- those of the definition do
+module _ (i : ℕ) where
+  -- a span that has room, and is the definition's
+  fitting : (low end : ℕ) → span low end ≡ spanOf i → 1 ≤ low → low < end → end ≤ 53 → Room (within i) low end
+      → Spans i (spanOf i .0) (spanOf i .1)
+  fitting low end e a b d room = subst (λ s. Spans i (s .0) (s .1)) e (spans i low end a b d room)
 
-  module _ {n : Bool} (f : n ≡ entering i) (not-first : w ≡ 0 → ⊥) where
-    pub entering-row : n ≡ true → Spans i 5 25
-    entering-row z =
-        ⊎-elim (λ h. spans i 5 25 (omega arith) (omega arith) (omega arith) (omega arith))
-        (λ h. spans i 5 25 (omega arith) (omega arith) (omega arith) (omega arith))
-        (enters-at i (sym f ∙ z))
+  all-span : Spans i (spanOf i .0) (spanOf i .1)
+  all-span = go (ℕ-discrete (within i) 0) (entering i) refl (decLe (within i) 29) (ℕ-discrete (within i) 30)
+    where
+      go : Dec (within i ≡ 0) → (n : Bool) → n ≡ entering i → Dec (within i ≤ 29) → Dec (within i ≡ 30)
+          → Spans i (spanOf i .0) (spanOf i .1)
+      go (yes z) n f m l =
+          fitting 1 21 (first-row i refl z) (omega arith) (omega arith) (omega arith) (omega arith)
+      go (no z) true f m l =
+          let e = entering-row i refl f z refl in
+          ⊎-elim (λ h. fitting 5 25 e (omega arith) (omega arith) (omega arith) (omega arith))
+          (λ h. fitting 5 25 e (omega arith) (omega arith) (omega arith) (omega arith))
+          (enters-at i (sym f))
+      go (no z) false f (yes m) l =
+          let h = not-entering i (sym f) in
+          fitting 21 33 (middle-row i refl f z refl m) (omega arith) (omega arith) (omega arith)
+          (omega (arith, h .0, h .1))
+      go (no z) false f (no m) (yes l) =
+          fitting 33 45 (row-30 i refl f z refl (omega arith) l) (omega arith) (omega arith) (omega arith) (omega arith)
+      go (no z) false f (no m) (no l) =
+          fitting 45 53 (row-31 i refl f z refl (omega arith) l) (omega arith) (omega arith) (omega arith)
+          (omega (arith, mod-lt i {m = 32} (omega arith)))
 
-    module _ (other : n ≡ false) where
-      pub middle-row : w ≤ 29 → Spans i 21 33
-      middle-row l =
-          let h = not-entering i (sym f ∙ other) in
-          spans i 21 33 (omega arith) (omega arith) (omega arith) (omega (arith, h .0, h .1))
-
-      module _ (past : 29 < w) where
-        pub row-30 : w ≡ 30 → Spans i 33 45
-        row-30 z = spans i 33 45 (omega arith) (omega arith) (omega arith) (omega arith)
-
-        pub row-31 : (w ≡ 30 → ⊥) → Spans i 45 53
-        row-31 z =
-            spans i 45 53 (omega arith) (omega arith) (omega arith) (omega (arith, mod-lt i {m = 32} (omega arith)))
+  pub spanned : {s : Span} → s ≡ spanOf i → Spans i (s .0) (s .1)
+  spanned e = subst (λ s. Spans i (s .0) (s .1)) (sym e) all-span

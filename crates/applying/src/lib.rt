@@ -5,7 +5,7 @@ ghost use Prim.Native.Nat.{_≤_, _<_, _^_};
 ghost use lib.Dec.{ltb};
 ghost use Rattle.numbers.specs.Numbers.{within};
 ghost use Rattle.constraints.specs.Constraints.{between, entering, lastRow, claimRow, applies};
-ghost use Rattle.applying.specs.SpanHelpers.{Spans};
+ghost use Rattle.applying.specs.SpanHelpers.{spanOf};
 use numbers::BATCH_ROWS;
 use numbers::RowNumber;
 
@@ -104,7 +104,7 @@ pub fn applies(k: usize, c: usize, row: RowNumber, constraint: usize) -> bool
 pub struct Span(pub usize, pub usize);
 
 pub fn span_of(row: RowNumber) -> Span
-    ensures { λ r. ⌜ Spans (row .0) (r .0) (r .1) ⌝ }
+    ensures { λ r. ⌜ r ≡ spanOf (row .0) ⌝ }
 {
     let within = row.within();
     if within == 0 {

@@ -1,4 +1,5 @@
--- What a call returns says all of its answer: number and values are read back from the code, for every input.
+-- What a call returns says all of its answer: number and values are read back from the code, for every input. And
+-- Prepare's call, whose contract is a relation, has one answer.
 -- Assumes nothing.
 use mathlib.Core.Path.{_≡_, sym, ap, subst, _∙_}
 use mathlib.Core.List.{List, _∷_, List·Memᴰ}
@@ -19,6 +20,7 @@ use Rattle.refusals.specs.declared.Answer.{Answer}
 use Rattle.refusals.specs.declared.Answer.the-variants.{Accepted}
 use Rattle.refusals.proofs.Laws.{AnswerEnds}
 use Rattle.table.specs.Table.{tableTest, Prepares}
+use Rattle.prepare.proofs.Theorems.{prepares-unique}
 use Rattle.checker.specs.Answers.{checkTest}
 use Rattle.checker.proofs.Answers.{CheckInputs}
 use Rattle.readoff.specs.Answers.{readOffTest}
@@ -26,7 +28,8 @@ use Rattle.board.specs.Board.{packTest, batchesIn}
 use Rattle.shortboard.specs.ShortBoard.{packShortTest, shortBatchesIn}
 use Rattle.toshort.specs.ToShort.{toShortTest}
 use Rattle.tofull.specs.ToFull.{toFullTest}
-use Rattle.calls.specs.Calls.{hashCallTest, chainCallTest, buildCallTest, editCallTest, unhashCallTest}
+use Rattle.handover.specs.Code.{answerCode}
+use Rattle.calls.specs.Calls.{PrepareCall, hashCallTest, chainCallTest, buildCallTest, editCallTest, unhashCallTest}
 use Rattle.calls.specs.Calls.{unpackCallTest, unpackShortCallTest}
 use Rattle.handover.proofs.Bits.{InBits, RefusalInBits}
 use Rattle.calls.proofs.Endings as ends
@@ -188,3 +191,10 @@ pub to-full-bits : (file : List ℕ) (size : ℕ) → AnswerEnds RefusalInBits (
 to-full-bits file size =
     ends.to-full-ends RefusalInBits file twelve (λ j h. short-bits file 13 j (lit< tt) h)
     (λ j h. short-bits file 14 j (lit< tt) h) (λ j h. short-bits file 18 j (lit< tt) h) size nineteen eight
+
+-- ---- Prepare's answer is determined, and so is its call's
+pub prepare-call-unique : (raw old : List ℕ) (c d : ℕ) (s t : List ℕ) → PrepareCall raw old c s → PrepareCall raw old d t
+    → (c ≡ d) × (s ≡ t)
+prepare-call-unique raw old c d s t a b =
+    let one = prepares-unique raw old (a .answer) (b .answer) s t (a .prepares) (b .prepares) in
+    (a .coded ∙ ap answerCode (one .0) ∙ sym (b .coded), one .1)

@@ -79,6 +79,15 @@ restore-half v = restored P halfInverse half 4294967295 refl v
 restore-unit : (v : ℕ) → (2 ^ 64 * divided v) % P ≡ v % P
 restore-unit v = restored P unitInverse (2 ^ 64) 2305843095113039871 refl v
 
+-- no two words below p stand for one element
+pub divided-unique : (u v : ℕ) → Canonical u → Canonical v → divided u ≡ divided v → u ≡ v
+divided-unique u v hu hv e =
+    sym (mod-eq-of-lt hu)
+    ∙ sym (restore-unit u)
+    ∙ ap (λ z. (2 ^ 64 * z) % P) e
+    ∙ restore-unit v
+    ∙ mod-eq-of-lt hv
+
 -- two divisions by 2^32 are one by 2^64
 pub lowered-twice : (x y : ℕ) → lowered (lowered x + y) ≡ divided (x + half * y)
 lowered-twice x y =

@@ -1,4 +1,6 @@
-// The elements of the field and their operations (document 01, "The field").
+// The elements of the field and their operations (document 01, "The field"). The product of two is gathered from three
+// digits of the second, the top one first, with one word below p after each (document 02, U2); powers are computed in
+// Montgomery's form.
 ghost use mathlib.Core.Path.{_≡_};
 ghost use Prim.Native.Nat.{_^_, _<_};
 ghost use lib.Dec.{ltb};
@@ -113,7 +115,7 @@ const TOP: u64 = 1099511627776;
 // 20 * 2^32 + 1, which is p - 2^61: 2^61 is its negative in the field.
 const FOLD: u64 = 85899345921;
 
-// The word moved up by a digit, plus a times the next digit.
+// A step of the product: the word moved up by a digit, plus a times the next digit.
 fn append(word: u64, a: u64, digit: u64) -> u64
     requires { ⌜ Canonical word × Canonical a × (digit < 2 ^ 21) ⌝ }
     ensures { λ r. ⌜ (r ≡ appended word a digit) × Canonical r ⌝ }
@@ -125,7 +127,7 @@ fn append(word: u64, a: u64, digit: u64) -> u64
     Fp(kept).sub(Fp(folded)).0
 }
 
-// a * b, by the digits of b from the top. After each there is one word below p: a times the digits so far.
+// a * b, by the digits of b from the top. After each step there is one word below p: a times the digits so far.
 fn product(a: u64, b: u64) -> u64
     requires { ⌜ Canonical a × Canonical b ⌝ }
     ensures { λ r. ⌜ (r ≡ mul a b) × Canonical r ⌝ }

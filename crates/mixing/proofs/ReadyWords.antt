@@ -3,6 +3,7 @@
 use mathlib.Core.Path.{_≡_, refl, sym, ap, ap₂, _∙_, subst}
 use mathlib.Core.List.{List, _++_}
 use Prim.Native.Nat.{ℕ, suc, _+_, _*_, _-_, _/_, _%_, _^_, _<_}
+use native.Mathlib.Nat.{mod-eq-of-lt}
 use native.Mathlib.Omega.{arith}
 use borrow.Author.Tests.{lt-ltb, le-ltb}
 use lib.ListN.{length}
@@ -14,7 +15,7 @@ use Rattle.field.specs.Field.{P}
 use Rattle.field.specs.Gathering.{halfInverse, gathered}
 use Rattle.field.specs.MontgomeryHelpers.{timesWord}
 use Rattle.field.proofs.Forms.{times-lt}
-use Rattle.sums.specs.Sums.{weight}
+use Rattle.sums.specs.Sums.{weightedFactor}
 use Rattle.matrix.specs.Matrix.{entry}
 use Rattle.mixing.proofs.RowWords.{rowWords, next-gathered}
 use Rattle.mixing.specs.MixingHelpers.{weightedEntry, columnWord, ready, IsReady, readyEntry}
@@ -117,34 +118,19 @@ module _ (m : List ℕ) (scale : ℕ) where
   ready-entry i j hi hj =
       ap (λ v. v * halfInverse ^ (12 - j) % P) (cell-low i j hi hj) ∙ scale-unweighted j (entry m i j) scale
 
--- ---- two terms a step: the words after both
-module _ (r s : List ℕ) where
-  term-with : (j i : ℕ) → (cell r (24 * j + i) * cell s j) % P ≡ (weight j * (readyEntry r i j * cell s j)) % P
+-- ---- a step of every row: columns n and n + 1 of a matrix made ready, which are 2j and 2j + 1
+module _ (r s : List ℕ) (ok : IsReady r) where
+  factor : (l i : ℕ) → l < 12 → i < 12 → cell r (24 * l + i) ≡ weightedFactor (readyEntry r i) l
   unfolding readyEntry
-  term-with j i = sym (weighted-again j (cell r (24 * j + i)) (cell s j))
+  factor l i hl hi = sym (weighted-again l (cell r (24 * l + i)) ∙ mod-eq-of-lt (ok .canonical i l hi hl))
 
-  pub two-gathered : (j : ℕ) (words : List ℕ) → words ≡ rowWords (readyEntry r) (cell s) j
-      → tab 12 (λ i. gathered (gathered (cell words i) (cell r (24 * j + i)) (cell s j)) (cell r (24 * (j + 1) + i))
-      (cell s (j + 1)))
-      ≡ rowWords (readyEntry r) (cell s) (j + 2)
-  two-gathered j words e =
-      tab-ext 12 _ (λ i. gathered (cell between i) (cell r (24 * (j + 1) + i)) (cell s (j + 1)))
-      (λ i h. ap (λ word. gathered word (cell r (24 * (j + 1) + i)) (cell s (j + 1)))
-      (sym (cell-tab 12 (λ l. gathered (cell words l) (cell r (24 * j + l)) (cell s j)) i h)))
-      ∙ next-gathered (readyEntry r) (cell s) (j + 1) between (first ∙ ap (rowWords (readyEntry r) (cell s)) one)
-      (λ i. cell r (24 * (j + 1) + i)) (λ i. cell s (j + 1)) (λ i h. term-with (j + 1) i)
-      ∙ ap (rowWords (readyEntry r) (cell s)) two
-    where
-      between : List ℕ
-      between = tab 12 (λ i. gathered (cell words i) (cell r (24 * j + i)) (cell s j))
-
-      first : between ≡ rowWords (readyEntry r) (cell s) (suc j)
-      first =
-          next-gathered (readyEntry r) (cell s) j words e (λ i. cell r (24 * j + i)) (λ i. cell s j)
-          (λ i h. term-with j i)
-
-      one : suc j ≡ j + 1
-      one = omega arith
-
-      two : suc (j + 1) ≡ j + 2
-      two = omega arith
+  pub two-gathered : (n j : ℕ) → n ≡ 2 * j → j < 6 → (words : List ℕ) → words ≡ rowWords (readyEntry r) (cell s) j
+      → tab 12 (λ i. gathered (gathered (cell words i) (cell r (24 * n + i)) (cell s n)) (cell r (24 * (n + 1) + i))
+      (cell s (n + 1)))
+      ≡ rowWords (readyEntry r) (cell s) (suc j)
+  two-gathered n j p h words e =
+      ap (λ l. tab 12 (λ i. gathered (gathered (cell words i) (cell r (24 * l + i)) (cell s l))
+      (cell r (24 * (l + 1) + i)) (cell s (l + 1)))) p
+      ∙ next-gathered (readyEntry r) (cell s) j words e (λ i. cell r (24 * (2 * j) + i))
+      (λ i. cell r (24 * (2 * j + 1) + i)) (λ i l. factor (2 * j) i (omega arith) l)
+      (λ i l. factor (2 * j + 1) i (omega arith) l)

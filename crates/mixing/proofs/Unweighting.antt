@@ -8,7 +8,7 @@ use lib.Pow.{pow-add}
 use Rattle.field.specs.Field.{P}
 use Rattle.field.specs.Gathering.{halfInverse}
 use Rattle.field.specs.MontgomeryHelpers.{half, unitInverse, timesWord}
-use Rattle.field.proofs.Modular.{mul-mod-l}
+use Rattle.field.proofs.Modular.{mul-mod-l, mul-mod-r}
 use Rattle.sums.specs.Sums.{weight}
 
 -- what undoes the weight of the term j
@@ -44,20 +44,12 @@ without j n =
     ∙ ap (λ z. z % P) (one-mul n)
 
 -- the weight, given to a word that was rid of it
-pub weighted-again : (j b n : ℕ) → (weight j * (b * undoing j % P * n)) % P ≡ (b * n) % P
-weighted-again j b n =
-    ap (λ z. z % P) (turned (weight j) (b * undoing j % P) n)
-    ∙ sym (mul-mod-l P (b * undoing j % P * weight j) n)
-    ∙ ap (λ z. (z * n) % P) (mul-mod-l P (b * undoing j) (weight j))
-    ∙ mul-mod-l P (b * undoing j * weight j) n
-    ∙ ap (λ z. z % P) (joined (weight j) b (undoing j) n)
-    ∙ without j (b * n)
+pub weighted-again : (j b : ℕ) → weight j * (b * undoing j % P) % P ≡ b % P
+weighted-again j b =
+    mul-mod-r P (weight j) (b * undoing j) ∙ ap (λ z. z % P) (turned (weight j) (undoing j)) ∙ without j b
   where
-    turned : (w x y : ℕ) → w * (x * y) ≡ x * w * y
-    turned w x y = omega arith
-
-    joined : (w x v y : ℕ) → x * v * w * y ≡ w * v * (x * y)
-    joined w x v y = omega arith
+    turned : (w v : ℕ) → w * (b * v) ≡ w * v * b
+    turned w v = omega arith
 
 -- a product in the form with a weighted scale, rid of the weight
 pub scale-unweighted : (j a s : ℕ) → timesWord a (weight j * s % P) * undoing j % P ≡ timesWord a s

@@ -1,6 +1,7 @@
-// Montgomery's form, in which powers and sums of products are computed: a word v stands for the element v / 2^64. A
-// product is gathered by digits of 32 bits from below, and after each there is one word below p. Dividing by 2^32 is
-// cheap, since p - 1 is a multiple of it.
+// Montgomery's form, by which powers and cubes are computed, matrices made ready and rows eliminated: a word v stands
+// for the element v / 2^64. A product is gathered from the two digits of 32 bits of the second factor, the lower one
+// first, with one word below p after each (document 02, U2). A step divides by 2^32, which is cheap, since p - 1 is a
+// multiple of it; so do the steps of sums of products, which are not in this form (`sums`).
 ghost use mathlib.Core.Path.{_≡_};
 ghost use Prim.Native.Nat.{_+_, _*_, _/_, _%_, _^_, _<_};
 ghost use Rattle.field.specs.Field.{P, Canonical, mul, power};
@@ -33,8 +34,8 @@ pub fn quotient(x: u64) -> u32
     QUOTIENT >> (x / SIGN)
 }
 
-// A difference of two canonical words that was taken modulo 2^64, in the field: x, plus p where x wrapped below 0. Its
-// upper two bits are then set, and no canonical word has one of them. In this form loops become vector code.
+// A difference, at least -p and below p, that was taken modulo 2^64, in the field: x, plus p where x wrapped below 0.
+// Its upper two bits are then set, and no canonical word has one of them. In this form loops become vector code.
 pub fn settle(x: u64) -> u64
     requires { ⌜ (x + P) % 2 ^ 64 < 2 * P ⌝ }
     ensures { λ r. ⌜ (r ≡ (x + P) % 2 ^ 64 % P) × Canonical r ⌝ }
@@ -50,7 +51,7 @@ fn step(t: u64, more: u64, q: u32) -> u64
     settle(std::num::wrapping_sub_u64(t / HALF + more, t % HALF * (q as u64)))
 }
 
-// (word + a digit) / 2^32: one digit more, from below.
+// A step of the product, (word + a digit) / 2^32: one digit more, from below.
 fn gather(word: u64, a: u64, digit: u64, q: u32) -> u64
     requires { ⌜ Canonical word × Canonical a × (half * digit + word < 2 ^ 64) × (q ≡ quotient) ⌝ }
     ensures { λ r. ⌜ (r ≡ gathered word a digit) × Canonical r ⌝ }
@@ -58,7 +59,7 @@ fn gather(word: u64, a: u64, digit: u64, q: u32) -> u64
     step(a % HALF * digit + word, a / HALF * digit, q)
 }
 
-// The product of the elements that a and b stand for: a b / 2^64.
+// The product of the elements that a and b stand for: a b / 2^64. After each step there is one word below p.
 pub fn times(a: u64, b: u64, q: u32) -> u64
     requires { ⌜ Canonical a × Canonical b × (q ≡ quotient) ⌝ }
     ensures { λ r. ⌜ (r ≡ timesWord a b) × (divided r ≡ mul (divided a) (divided b)) × Canonical r ⌝ }

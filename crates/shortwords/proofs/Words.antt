@@ -22,6 +22,7 @@ use Rattle.elements.specs.Words.{joined, bytesOf}
 use Rattle.elements.specs.Elements.{elementWords}
 use Rattle.elements.specs.ElementHelpers.{upperWords}
 use Rattle.elements.proofs.Laws.{write-on}
+use Rattle.shortwords.specs.MeasureHelpers.{badCount}
 use Rattle.shortwords.specs.Short.{isSmall, shortWords, shortWordsOf, bytesNeeded, allBytesNeeded}
 
 -- 1 for an element that one word does not hold, and for one that is not canonical; else 0
@@ -177,6 +178,10 @@ one-bad x r e = go (leb P x) e
     go true q = omega (arith, q)
     go false q = omega (arith, q)
 
+pub bad-all : (xs : List ℕ) (i bad : ℕ) → i ≡ length xs → bad ≡ sum i (λ n. isBad (cell xs n)) → bad ≡ badCount xs
+unfolding badCount
+bad-all xs i bad e p = p ∙ ap (λ n. sum n (λ m. isBad (cell xs m))) e
+
 -- none is counted exactly where all words are canonical
 bad-canonical : (x : ℕ) → isBad x ≡ 0 → x < P
 bad-canonical x e = go (decLe P x)
@@ -199,28 +204,25 @@ each-0 f (suc n) e i h = go (λ z l. each-0 f n z i l) (ℕ-discrete i n)
     go before (yes q) = ap f q ∙ omega (arith, parts)
     go before (no q) = before (omega (arith, parts)) (omega arith)
 
-pub bad-all : (xs : List ℕ) (i bad : ℕ) → i ≡ length xs → bad ≡ sum i (λ n. isBad (cell xs n))
-    → eqb bad 0 ≡ canonicalWords xs
-bad-all xs i bad e p = go (ℕ-discrete bad 0)
+pub none-bad : (xs : List ℕ) → eqb (badCount xs) 0 ≡ canonicalWords xs
+unfolding badCount
+none-bad xs = go (ℕ-discrete (badCount xs) 0)
   where
     f : ℕ → ℕ
     f n = isBad (cell xs n)
 
-    whole : bad ≡ sum (length xs) f
-    whole = p ∙ ap (λ n. sum n f) e
+    none : canonicalWords xs ≡ true → badCount xs ≡ 0
+    none c = all-0 (length xs) f (λ n h. canonical-bad (cell xs n) (good-test xs c n h))
 
-    none : canonicalWords xs ≡ true → bad ≡ 0
-    none c = whole ∙ all-0 (length xs) f (λ n h. canonical-bad (cell xs n) (good-test xs c n h))
-
-    some : (bad ≡ 0 → ⊥) → (b : Bool) → canonicalWords xs ≡ b → canonicalWords xs ≡ false
+    some : (badCount xs ≡ 0 → ⊥) → (b : Bool) → canonicalWords xs ≡ b → canonicalWords xs ≡ false
     some n true c = absurd (n (none c))
     some n false c = c
 
-    go : Dec (bad ≡ 0) → eqb bad 0 ≡ canonicalWords xs
+    go : Dec (badCount xs ≡ 0) → eqb (badCount xs) 0 ≡ canonicalWords xs
     go (yes z) =
-        let good = test-good xs (λ n h. bad-canonical (cell xs n) (each-0 f (length xs) (sym whole ∙ z) n h)) in
-        eq-eqb bad 0 z ∙ sym good
-    go (no n) = ne-eqb bad 0 n ∙ sym (some n (canonicalWords xs) refl)
+        let good = test-good xs (λ n h. bad-canonical (cell xs n) (each-0 f (length xs) z n h)) in
+        eq-eqb (badCount xs) 0 z ∙ sym good
+    go (no n) = ne-eqb (badCount xs) 0 n ∙ sym (some n (canonicalWords xs) refl)
 
 -- and their words are as long
 needed-to : (xs : List ℕ) (i : ℕ) → i ≤ length xs

@@ -1,1 +1,2 @@
+pub mod MeasureHelpers
 pub mod Short

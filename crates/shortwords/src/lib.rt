@@ -3,14 +3,14 @@
 ghost use mathlib.Core.Path.{_≡_};
 ghost use mathlib.Core.List.{[]};
 ghost use Prim.Native.Nat.{_+_, _*_, _^_, _≤_, _<_};
-ghost use lib.Dec.{eqb, leb};
+ghost use lib.Dec.{leb};
 ghost use lib.ListN.{length};
 ghost use lib.Seq.{sets};
 ghost use Rattle.lists.specs.Lists.{choose};
 ghost use Rattle.field.specs.Field.{P};
-ghost use Rattle.words.specs.Words.{canonicalWords};
 ghost use Rattle.elements.specs.Words.{bytesOf};
 ghost use Rattle.elements.specs.ElementHelpers.{upperWords};
+ghost use Rattle.shortwords.specs.MeasureHelpers.{badCount};
 ghost use Rattle.shortwords.specs.Short.{isSmall, shortWords, shortWordsOf, allBytesNeeded};
 use elements::Word;
 
@@ -58,7 +58,7 @@ pub struct Measured {
 pub fn measure(elements: &[u64]) -> Measured
     requires { ⌜ 12 * length (now elements) < 2 ^ 64 ⌝ }
     ensures { λ r. ⌜ (r .bytes ≡ allBytesNeeded (now (elements .entry)))
-        × (eqb (r .bad) 0 ≡ canonicalWords (now (elements .entry))) ⌝ }
+        × (r .bad ≡ badCount (now (elements .entry))) ⌝ }
 {
     let mut threes: u64 = 0;
     let mut bad: u64 = 0;

@@ -9,7 +9,7 @@ ghost use Rattle.field.specs.MontgomeryHelpers.{quotient};
 ghost use Rattle.words.specs.Words.{CanonicalTo};
 ghost use Rattle.numbers.specs.Numbers.{width};
 ghost use Rattle.sums.specs.Sums.{weight};
-ghost use Rattle.sums.specs.TermHelpers.{Term, Loose};
+ghost use Rattle.sums.specs.TermHelpers.{Term, Loose, looseWord};
 use fp::Fp;
 use numbers::WIDTH;
 
@@ -55,10 +55,10 @@ pub fn raised(s: [u64; WIDTH], q: u32) -> [u64; WIDTH]
     out
 }
 
-// (word + low x) / 2^32 but for a multiple of p, where high is 2^31 low: a term of a step that takes a further one.
+// (word + low x) / 2^32 but for a multiple of p, where high is 2^31 low: the first of the two terms of a step.
 pub fn loose_term(word: u64, low: u64, high: u64, x: u64, q: u32) -> u64
     requires { ⌜ Term word low high x × (q ≡ quotient) ⌝ }
-    ensures { λ r. ⌜ (r % P ≡ gathered word low x) × Loose r ⌝ }
+    ensures { λ r. ⌜ (r ≡ looseWord word low x) × Loose r ⌝ }
 {
     let x0 = x % SPLIT;
     let x1 = x / SPLIT % montgomery::HALF;
@@ -67,7 +67,7 @@ pub fn loose_term(word: u64, low: u64, high: u64, x: u64, q: u32) -> u64
     t / montgomery::HALF + more + Fp::P - t % montgomery::HALF * (q as u64)
 }
 
-// (word + low x) / 2^32: the last term of a step.
+// (word + low x) / 2^32: the second term of a step.
 pub fn term(word: u64, low: u64, high: u64, x: u64, q: u32) -> u64
     requires { ⌜ Term word low high x × (q ≡ quotient) ⌝ }
     ensures { λ r. ⌜ (r ≡ gathered word low x) × Canonical r ⌝ }

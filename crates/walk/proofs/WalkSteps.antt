@@ -12,7 +12,7 @@ use Rattle.refusals.specs.declared.TestsAnswer.{TestsAnswer}
 use Rattle.refusals.specs.declared.TestsAnswer.the-variants.{Accepted, Refused}
 use Rattle.refusals.specs.Answers.{testsAfter}
 use Rattle.constraints.specs.Constraints.{Test, applies, holds, rowTests, testsFrom, tests, walk, constraintTest}
-use Rattle.applying.specs.SpanHelpers.{Spans}
+use Rattle.applying.proofs.SpanLaws.{Spans}
 
 module _ (T t claim : List ℕ) (c k : ℕ) where
   -- what is answered in the end, where n tests are walked and xs are left

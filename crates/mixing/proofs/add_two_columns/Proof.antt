@@ -8,7 +8,7 @@ use Rattle.lists.specs.Lists.{cell}
 use Rattle.lists.proofs.Tab.{Fills, fills-none, fills-more, fills-next, fills-all}
 use Rattle.field.specs.Field.{P, Canonical}
 use Rattle.field.specs.Gathering.{gathered}
-use Rattle.sums.proofs.Terms.{canonical-loose, gathered-loose}
+use Rattle.sums.proofs.Terms.{canonical-loose, loose-same, gathered-loose}
 use Rattle.mixing.proofs.add_two_columns.Statement.{statement}
 use Rattle.mixing.proofs.add_two_columns.Tie as tie
 
@@ -151,7 +151,7 @@ loop-again c =
     let low = cell r (24 * a .j + turn .i) in
     fills-more (turn .inv) (omega arith)
     (c .term .ensures .0
-    ∙ gathered-loose _ _ _ (a .y) (between .loose-term .ensures .0)
+    ∙ gathered-loose _ _ _ (a .y) (ap (λ v. v % P) (between .loose-term .ensures .0) ∙ loose-same _ _ _)
     ∙ ap (λ word. gathered (gathered word low (a .x)) (cell r (24 * a .j + 24 + turn .i)) (a .y))
     (fills-next (turn .inv))
     ∙ ap (λ k. gathered (gathered (cell (a .words .now) (turn .i)) low (a .x)) (cell r k) (a .y))

@@ -2,7 +2,7 @@
 -- the product's cells.
 -- Assumes nothing.
 use mathlib.Core.Path.{_≡_, refl, ap, _∙_}
-use Prim.Native.Nat.{_+_, _-_, _%_, _<_, _≤_}
+use Prim.Native.Nat.{suc, _+_, _*_, _-_, _/_, _%_, _<_, _≤_}
 use native.Mathlib.Omega.{arith}
 use borrow.Author.Needs.{needs}
 use Rattle.lists.specs.Lists.{cell}
@@ -14,7 +14,7 @@ use Rattle.mixing.proofs.mix.Tie as tie
 
 abbrev Inv-loop : tie.InvT-loop
 Inv-loop ready s q words₀ j₀ words j =
-    (j ≤ 12) × (j % 2 ≡ 0) × (words ≡ rowWords (readyEntry ready) (cell s) j)
+    (j ≤ 12) × (j % 2 ≡ 0) × (words ≡ rowWords (readyEntry ready) (cell s) (j / 2))
 
 abbrev μ-loop : tie.MeasureT-loop
 μ-loop ready s q words₀ j₀ words j = 12 - j
@@ -49,8 +49,8 @@ add-two-columns-requires c κs =
     let turn = head .loop in
     let start = head .before .before .before in
     let inner : turn .j + 1 < 12 = omega (arith, turn .inv .1) in (
-      words-size _ _ (turn .j) _ (turn .inv .2),
-      words-canonical _ _ (turn .j) _ (turn .inv .2),
+      words-size _ _ (turn .j / 2) _ (turn .inv .2),
+      words-canonical _ _ (turn .j / 2) _ (turn .inv .2),
       start .pre .0,
       inner,
       start .pre .1 (turn .j) (omega arith),
@@ -68,10 +68,16 @@ loop-again : tie.Need-loop-again Inv-loop μ-loop
 loop-again c =
     let head = c .before .before .before in
     let turn = head .loop in
-    let start = head .before .before .before .args in (
+    let start = head .before .before .before in
+    let r = start .args .ready .now in
+    let s = start .args .t2 in
+    let even : turn .j ≡ 2 * (turn .j / 2) = omega (arith, turn .inv .1) in
+    let one : suc (turn .j / 2) ≡ (turn .j + 2) / 2 = omega arith in (
       omega (arith, turn .inv .1),
       omega (arith, turn .inv .1),
-      c .add-two-columns .ensures ∙ two-gathered (start .ready .now) (start .t2) (turn .j) (turn .words) (turn .inv .2),
+      c .add-two-columns .ensures
+          ∙ two-gathered r s (start .pre .0) (turn .j) (turn .j / 2) even (omega arith) (turn .words) (turn .inv .2)
+          ∙ ap (rowWords (readyEntry r) (cell s)) one,
     )
 
 returns : tie.Need-returns Inv-loop μ-loop
@@ -80,9 +86,9 @@ returns c =
     let start = c .before .before .before .before .args in
     let a = readyEntry (start .ready .now) in
     let s = start .t2 in
-    let e : turn .j ≡ 12 = omega arith in
-    let made : turn .words ≡ rowWords a (cell s) 12 = turn .inv .2 ∙ ap (rowWords a (cell s)) e in
-    (made ∙ all-gathered a (cell s), words-canonical a (cell s) 12 (turn .words) made)
+    let e : turn .j / 2 ≡ 6 = omega arith in
+    let made : turn .words ≡ rowWords a (cell s) 6 = turn .inv .2 ∙ ap (rowWords a (cell s)) e in
+    (made ∙ all-gathered a (cell s), words-canonical a (cell s) 6 (turn .words) made)
 
 pub mix-spec : {M : Type 1} → statement M
 mix-spec =

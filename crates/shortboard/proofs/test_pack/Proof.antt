@@ -17,7 +17,7 @@ use Rattle.refusals.specs.declared.Refusal.the-variants.{TapWord, DestinationLe
 use Rattle.refusals.specs.declared.Answer.{Answer}
 use Rattle.refusals.specs.declared.Answer.the-variants.{Accepted, Refused}
 use Rattle.refusals.proofs.Laws.{unless-refused, unless-passed}
-use Rattle.shortwords.proofs.Words.{needed-most}
+use Rattle.shortwords.proofs.Words.{needed-most, none-bad}
 use Rattle.shortboard.specs.ShortBoard.{shortFileSize, packShortTest}
 use Rattle.shortboard.proofs.Files.{size-parts}
 use Rattle.shortboard.proofs.test_pack.Statement.{statement}
@@ -57,6 +57,10 @@ counted s e =
 parts : (s : tie.After-measure2) →
     4 + s .before .measure .result .bytes + s .measure2 .result .bytes ≡ shortFileSize (taps s) (claim s)
 parts s = size-parts (taps s) (claim s) _ _ (s .before .measure .ensures .0) (s .measure2 .ensures .0)
+
+-- none of the taps' words is counted where all are canonical
+tested : (s : tie.After-measure2) → eqb (s .measure2 .result .bad) 0 ≡ canonicalWords (taps s)
+tested s = ap (λ n. eqb n 0) (s .measure2 .ensures .1) ∙ none-bad (taps s)
 
 -- then to the claim's words and the taps'
 roomy : (f : tie.Else1) {o : Answer} → let s = f .before .before .before in
@@ -145,14 +149,14 @@ returns-4 c =
     let counts = c .before in
     let f = counts .before .before in
     let s = f .before .before .before .before .before .before in
-    let refused = sym (s .measure2 .ensures .1) ∙ ne-eqb _ _ (counts .if3 .taken) in
+    let refused = sym (tested s) ∙ ne-eqb _ _ (counts .if3 .taken) in
     claimed f (unless-refused _ refused (ap (λ i. Refused (TapWord i)) (c .first-bad2 .ensures)))
 
 returns-5 : tie.Need-returns-5
 returns-5 c =
     let f = c .before .before in
     let s = f .before .before .before .before .before .before in
-    claimed f (unless-passed _ (sym (s .measure2 .ensures .1) ∙ eq-eqb _ _ (c .if3 .left)) refl)
+    claimed f (unless-passed _ (sym (tested s) ∙ eq-eqb _ _ (c .if3 .left)) refl)
 
 pub test-pack-spec : {M : Type 1} → statement M
 test-pack-spec =

@@ -8,7 +8,7 @@ use Rattle.field.specs.MontgomeryHelpers.{half}
 use Rattle.field.proofs.Steps.{low-product}
 use Rattle.sums.specs.TermHelpers.{Loose}
 use Rattle.sums.proofs.Terms as terms
-use Rattle.sums.proofs.Terms.{Bounds, belowOf, aboveOf, loose-low, loose-law}
+use Rattle.sums.proofs.Terms.{Bounds, belowOf, aboveOf, loose-low, loose-is}
 use Rattle.sums.proofs.loose_term.Statement.{statement}
 use Rattle.sums.proofs.loose_term.Tie as tie
 
@@ -65,7 +65,7 @@ sub-result c =
 
 returns : tie.Need-returns
 returns c = (
-  ap (λ w. (t c / half + more c + P - w) % P) (off c) ∙ loose-law (t c) (more c) ∙ bounds c .whole,
+  ap (λ w. t c / half + more c + P - w) (off c) ∙ loose-is _ _ _ _ (bounds c),
   subst Loose (sym (ap (λ w. t c / half + more c + P - w) (off c)))
       (loose-low (t c / half + more c) (t c % half) (bounds c .close)),
 )

@@ -5,6 +5,7 @@ use Prim.Native.Nat.{_+_, _%_, _^_}
 use native.Mathlib.Omega.{arith}
 use borrow.Author.Needs.{needs}
 use Rattle.field.specs.Field.{P}
+use Rattle.sums.proofs.Terms.{loose-same}
 use Rattle.sums.proofs.term.Statement.{statement}
 use Rattle.sums.proofs.term.Tie as tie
 
@@ -23,10 +24,13 @@ settle-requires : tie.Need-settle-requires
 settle-requires c κs = omega (arith, difference c, c .before .loose-term .ensures .1)
 
 returns : tie.Need-returns
-returns c = (
-  c .settle .ensures .0 ∙ ap (λ z. z % P) (difference (c .before)) ∙ c .before .before .loose-term .ensures .0,
-  c .settle .ensures .1,
-)
+returns c =
+    let loose = c .before .before .loose-term in (
+      c .settle .ensures .0
+          ∙ ap (λ z. z % P) (difference (c .before) ∙ loose .ensures .0)
+          ∙ loose-same _ _ _,
+      c .settle .ensures .1,
+    )
 
 pub term-spec : {M : Type 1} → statement M
 term-spec = tie.close (tie.spec loose-term-requires wrapping-sub-u64-requires settle-requires returns)

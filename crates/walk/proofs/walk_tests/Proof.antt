@@ -12,6 +12,7 @@ use borrow.Author.Needs.{needs}
 use borrow.Author.Tests.{not-true, not-false}
 use lib.ListN.{length}
 use Rattle.words.specs.Words.{AllCanonical}
+use Rattle.applying.proofs.SpanLaws.{spanned}
 use Rattle.rowtests.specs.TestHelpers.{InTrace}
 use Rattle.walk.proofs.WalkSteps.{answer, rows as from-row, constraints, start, skip, pass, fail, enter}
 use Rattle.walk.proofs.WalkSteps.{leave}
@@ -76,7 +77,7 @@ loop-holds c =
     let turn = row .before in
     let w = turn .walk in
     let a = entry turn .args in
-    let s = c .span-of .ensures in (
+    let s = spanned (w .i) (c .span-of .ensures) in (
       s .from-one,
       omega (arith, s .some),
       s .to-last,
@@ -167,8 +168,8 @@ walk-again c =
       omega arith,
       omega arith,
       sym
-          (leave (a .table .now) (a .trace .now) (a .claim .now) (a .c) (a .k) i _ _ (row .span-of .ensures)
-          (l .constraint)
+          (leave (a .table .now) (a .trace .now) (a .claim .now) (a .c) (a .k) i _ _
+          (spanned i (row .span-of .ensures)) (l .constraint)
           (32 * a .k - (i + 1)) (l .tests) (c .loop-test .left) (omega arith))
           ∙ l .inv .4,
     )
