@@ -1,7 +1,7 @@
 #!/bin/sh
 # Runs the built program on inputs made here, and compares each line that it prints with the one that document 01 gives
-# ("The board file", "What is turned back", "Known days"; docs/DECISIONS.md, 9); then has its reads and writes fail,
-# where it prints no line. Stops at the first difference, which it names.
+# ("The board file", "What is turned back", "Known days"; docs/DECISIONS.md, 9), standard error staying empty; then has
+# its reads and writes fail, where it prints no line. Stops at the first difference, which it names.
 set -eu
 cd "$(dirname "$0")/.."
 
@@ -14,11 +14,20 @@ count=0
 
 # ---- the comparison
 
-# $1 says which input it was, $2 is the line
+# the program on standard input
+run() {
+    "$program" >"$work/output" 2>"$work/error"
+}
+
+# $1 says which input it was, $2 is the line, and standard error gets none
 compare() {
     count=$((count + 1))
     printf '%s\n' "$2" | cmp -s - "$work/output" || {
         echo "tests/clear.sh: $1: the line is '$2', and the program wrote '$(cat "$work/output")'" >&2
+        exit 1
+    }
+    [ ! -s "$work/error" ] || {
+        echo "tests/clear.sh: $1: there is an answer, and standard error got '$(cat "$work/error")'" >&2
         exit 1
     }
 }
@@ -26,7 +35,7 @@ compare() {
 # the input is what the commands $3 write
 expect() {
     eval "$3" >"$work/input"
-    "$program" <"$work/input" >"$work/output"
+    run <"$work/input"
     compare "$1" "$2"
 }
 
@@ -136,9 +145,9 @@ expect 'k = 16, 5572 bytes' 'accepted 16 5952' 'Z; zero_file 16'
 
 # ---- input that comes in pieces
 { Z; zero_file 1; } >"$work/input"
-dd bs=1 if="$work/input" 2>"$work/dd" | "$program" >"$work/output"
+dd bs=1 if="$work/input" 2>"$work/dd" | run
 compare 'byte by byte' 'accepted 1 372'
-{ Z; sleep 1; zero_file 1; } | "$program" >"$work/output"
+{ Z; sleep 1; zero_file 1; } | run
 compare 'with a pause' 'accepted 1 372'
 
 # ---- input that cannot be read, or not to its end
@@ -155,7 +164,7 @@ if dd iflag=nonblock count=0 <&3 2>"$work/dd"; then
     { Z; zero_file 1; } >&3
     no_answer 'a pipe that fails after a table and a file' "$unread" '<&3 >"$work/output"'
     { Z; zero_file 32; } >&3
-    "$program" <&3 >"$work/output"
+    run <&3
     compare 'a pipe that fails after 7876 bytes, of which 5573 are read' 'too long'
 fi
 exec 3>&-

@@ -15,19 +15,22 @@
 //! 11. `short_files`: Pack and Unpack of the short edition (document 02, U7)
 //! 12. `converters`: from the full edition to the short one and back (document 02, U8)
 //! 13. `limits`: lengths of lists and traces around the limits of k (document 02, U9)
+//! 14. `caller`: returned words, lists and files, for what a caller works out by itself
 //!
 //! For each operation there is a kind of case and a function that makes its
 //! corner cases and `n` random ones from a seed; the same seed makes the same
 //! cases, so whoever uses them prints it. Each case knows from how it was made
 //! what must be answered: the refusal, or none. Nothing here asks an
 //! implementation for that; of `second` only the field and the names of the
-//! refusals are used.
+//! refusals are used. What is in `caller` is no case of an operation, and says no
+//! answer.
 //!
 //! The corner cases come first, all of them every time: each special table,
 //! rank, length and place. Where one thing is wrong in them, what comes later in
 //! the order of refusals is wrong too, so that a call that tests in another order
 //! gives itself away.
 
+pub mod caller;
 pub mod cases;
 pub mod checks;
 pub mod converters;

@@ -27,9 +27,15 @@ const TABLE: [(u64, bool); 19] = [
     (19, false),
 ];
 
-/// The word that a call returns, with something in each of its parts.
+/// The largest constraint, row and index or count that a returned word has bits for: 6,
+/// 24 and 28.
+const CONSTRAINT: u64 = 63;
+const ROW: u64 = 16777215;
+const VALUE: u64 = 268435455;
+
+/// The word that a call returns, every other part of it full.
 fn code(number: u64) -> u64 {
-    number | 49 << 6 | 31 << 12 | 369 << 36
+    number | CONSTRAINT << 6 | ROW << 12 | VALUE << 36
 }
 
 #[test]
@@ -37,24 +43,33 @@ fn numbers_and_indices() {
     for (number, has_index) in TABLE {
         let refusal = decode(code(number)).expect_err("a refusal");
         assert_eq!(refusal.number(), number);
-        assert_eq!(refusal.index(), has_index.then_some(369), "{number}");
+        assert_eq!(refusal.index(), has_index.then_some(VALUE), "{number}");
         let line = match (number, has_index) {
-            (11, _) => "refused 11 31 49".to_string(),
-            (_, true) => format!("refused {number} 369"),
+            (11, _) => "refused 11 16777215 63".to_string(),
+            (_, true) => format!("refused {number} 268435455"),
             (_, false) => format!("refused {number}"),
         };
         assert_eq!(refusal.to_string(), line);
     }
 }
 
+/// All full, and each full alone: no part has a bit of another's.
 #[test]
 fn a_constraint_has_row_number_and_tests() {
-    let refusal = Refusal::Constraint {
-        row: 31,
-        constraint: 49,
-        tests: 369,
-    };
-    assert_eq!(decode(code(11)), Err(refusal));
+    for (constraint, row, tests) in [
+        (CONSTRAINT, ROW, VALUE),
+        (CONSTRAINT, 0, 0),
+        (0, ROW, 0),
+        (0, 0, VALUE),
+    ] {
+        let code = 11 + 64 * constraint + 4096 * row + 68719476736 * tests;
+        let refusal = Refusal::Constraint {
+            row,
+            constraint,
+            tests,
+        };
+        assert_eq!(decode(code), Err(refusal), "{code:x}");
+    }
 }
 
 #[test]
@@ -66,5 +81,7 @@ fn no_refusal_has_a_higher_number() {
 
 #[test]
 fn acceptance() {
-    assert_eq!(decode(372 << 36), Ok(372));
+    for tests in [0, 372, 372 * 262144, VALUE] {
+        assert_eq!(decode(tests << 36), Ok(tests));
+    }
 }

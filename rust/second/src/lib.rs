@@ -5,9 +5,10 @@
 //! and each operation of document 02, the field on `u128`, and a checker that
 //! evaluates one test at a time. Each operation reads its inputs, answers a full
 //! result or a refusal, and writes into what is lent only when nothing can be
-//! refused any more.
+//! refused any more. `caller` is what a caller works out without a call.
 
 pub mod board;
+pub mod caller;
 pub mod constraints;
 pub mod convert;
 pub mod edit;
