@@ -226,9 +226,9 @@ unfolding ones tab each sum first firstBad wordAt elementAt allBytesNeeded nextW
 stored = record {
   before-U9 = record {
     accepted = refl;
-    written = left (storedPackTest storedTaps storedClaim) 148 _ storedFile refl refl;
+    written = left (storedPackTest storedTaps storedClaim) 148 (packedShort storedTaps storedClaim) storedFile refl refl;
     returned = refl;
-    read = left (storedUnpackTest storedFile) 28 _ storedTaps refl refl;
+    read = left (storedUnpackTest storedFile) 28 (storedTapsIn storedFile) storedTaps refl refl;
   };
   since-U9 = short-file storedTaps storedClaim storedFile refl refl refl;
 }
