@@ -1,6 +1,7 @@
 pub mod Demand1
 pub mod Demand2
 pub mod Demand3
+pub mod ProgramDays
 pub mod Program
 pub mod OneNumber
 pub mod Request1

@@ -33,6 +33,7 @@ use Rattle.demands.specs.Demand1.{OneOf}
 use Rattle.demands.specs.Program.{Program}
 use Rattle.demands.proofs.Demand1.{one-of}
 use Rattle.demands.proofs.OneNumber as one
+use Rattle.demands.proofs.ProgramDays.{zero-day, other-day}
 
 -- ---- what is true of every refusal that the program answers
 
@@ -180,4 +181,6 @@ program = record {
   index-line = lines.index-line;
   refused-line = lines.refused-line;
   long-line = lines.long-line;
+  zero-day = zero-day;
+  other-day = other-day;
 }

@@ -3,10 +3,11 @@
 -- `clearing::clear`, `textOf` that of `lines::text`; what an acceptance and each refusal mean stands beside `Clears`.
 -- Assumes nothing.
 use mathlib.Core.Path.{_≡_}
-use mathlib.Core.List.{List, [], _∷_}
+use mathlib.Core.List.{List, [], _∷_, _++_}
 use mathlib.Core.Logic.{_↔_}
 use Prim.Native.Nat.{ℕ, _+_, _*_, _-_, _≤_, _<_}
-use lib.ListN.{length}
+use lib.ListN.{length, set}
+use Rattle.lists.specs.Lists.{each}
 use Rattle.numbers.specs.Numbers.{traceRows, traceWords, tapWordBatches}
 use Rattle.refusals.specs.Refusals.{digestWords}
 use Rattle.refusals.specs.declared.Refusal.{Refusal}
@@ -23,7 +24,17 @@ use Rattle.clearing.specs.declared.Outcome.the-variants.{Accepted, Refused, Too
 use Rattle.clearing.specs.Clearing.{rawIn, fileIn, reported, unprepared, Clears, IsJudged, IsCleared, IsUnlike}
 use Rattle.clearing.specs.Clearing.{InputFault}
 use Rattle.lines.specs.Line.{ascii, textOf}
+use Rattle.knowndays.specs.Days.{rawZ}
+use Rattle.knowndays.specs.Files.{zeroFile}
 use Rattle.demands.specs.Demand1.{OneOf}
+
+-- a word of a raw table, if it is below 2^8: 8 bytes, low byte first
+abbrev pub rawBytes : ℕ → List ℕ
+rawBytes w = w ∷ 0x00 ∷ 0x00 ∷ 0x00 ∷ 0x00 ∷ 0x00 ∷ 0x00 ∷ 0x00 ∷ []
+
+-- the raw table Z of the known days, and then a file
+unfoldable pub withZ : List ℕ → List ℕ
+withZ file = each rawBytes rawZ ++ file
 
 pub record Program : Type 0 where
   -- ---- every input has one answer, and no other
@@ -70,3 +81,7 @@ pub record Program : Type 0 where
   pub index-line : textOf (Refused (WrongKind 5)) ≡ ascii "refused 13 5\n"
   pub refused-line : (tests : ℕ) → textOf (Refused (Constraint (record { 0 = 31 }) 49 tests)) ≡ ascii "refused 11 31 49\n"
   pub long-line : textOf TooLong ≡ ascii "too long\n"
+  -- ---- known days: Z and the 244-byte file of zeros; the same with the claim (1,0,0,0), whose first word has its low
+  -- 30 bits from byte 12 on
+  pub zero-day : Clears (withZ zeroFile) (Accepted 1 372)
+  pub other-day : Clears (withZ (set zeroFile 12 1)) (Refused (Constraint (record { 0 = 31 }) 49 369))
