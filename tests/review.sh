@@ -199,10 +199,10 @@ awk 'FNR == 1 { fence = 0 } /^```/ { fence = !fence; next }
 # ---- theorems: those of section 1, and where a row of a table ends in the file that has them
 declared='^ *(pub )?(unfoldable |abbrev )?'
 awk 'function each(file, cell) { m = split(cell, word, "`"); for (i = 2; i <= m; i += 2) print file, word[i] }
-    /^\| U?[0-9]+ \| .* \| .* \| / {
+    /^\| (U?[0-9]+|Program) \| .* \| .* \| / {
         split($0, part, / \| /)
         stated = part[1]; sub(/^\| /, "", stated)
-        if (!sub(/^U/, "Request", stated)) stated = "Demand" stated
+        sub(/^U/, "Request", stated); sub(/^[0-9]/, "Demand&", stated)
         each("crates/demands/specs/" stated ".antt", part[3])
     }
     /^\|.*\| `crates\/[^`]*\.antt` \|$/ {
@@ -214,16 +214,17 @@ awk 'function each(file, cell) { m = split(cell, word, "`"); for (i = 2; i <= m;
         [ ! -e "$file" ] || grep -qE "$declared$name :" "$file" || wrong "$file has no $name"
     done
 
-# ---- the demands and the requests, to the letter: each statement is closed and stands in specs/, and each theorem is of
-# that type, with no parameter and in no section
-statements=$(cd crates/demands/specs && echo Demand[0-9]*.antt Request[0-9]*.antt | sed 's/\.antt//g')
+# ---- the demands, the requests, the program and the stored file, to the letter: each statement is closed and stands in
+# specs/, and each theorem is of that type, with no parameter and in no section
+statements=$(cd crates/demands/specs && echo Demand[0-9]*.antt Request[0-9]*.antt Program.antt Stored.antt |
+    sed 's/\.antt//g')
 for n in 1 2 3; do
     case " $statements " in *" Demand$n "*) ;; *) wrong "crates/demands/specs has no Demand$n" ;; esac
 done
 for statement in $statements; do
     stated=crates/demands/specs/$statement.antt
     proved=crates/demands/proofs/$statement.antt
-    theorem=$(echo "$statement" | sed 's/Demand/demand-/; s/Request/request-/')
+    theorem=$(echo "$statement" | sed 's/Demand/demand-/; s/Request/request-/; s/Program/program/; s/Stored/stored/')
     [ "$(grep -cx "pub record $statement : Type 0 where" "$stated")" = 1 ] ||
         wrong "$stated does not declare 'pub record $statement : Type 0 where'"
     [ "$(grep -cx "pub $theorem : $statement" "$proved")" = 1 ] ||

@@ -1,12 +1,11 @@
 -- The board file's promises (demand 2): a packed file unpacks to its taps and claim, an accepted file packs to the same
 -- bytes, so that no claim and list have two files; and no element from p on, or from 2^64 on, is taken for another.
 -- Assumes nothing.
-use mathlib.Core.Path.{_≡_, refl, sym, ap, _∙_}
-use mathlib.Core.List.{List, [], _∷_, _++_}
-use Prim.Native.Nat.{ℕ, zero, suc, _+_, _*_, _^_, _<_, _≤_}
+use mathlib.Core.Path.{_≡_, sym, ap, _∙_}
+use mathlib.Core.List.{List}
+use Prim.Native.Nat.{ℕ, _+_, _*_, _^_, _<_, _≤_}
 use native.Mathlib.Omega.{arith}
-use lib.ListN.{length, replicate}
-use Rattle.lists.specs.Lists.{each}
+use lib.ListN.{length}
 use Rattle.field.specs.Field.{P, Canonical}
 use Rattle.words.specs.Words.{AllCanonical}
 use Rattle.numbers.specs.Numbers.{IsPermittedTo, tapWordBatches}
@@ -15,7 +14,7 @@ use Rattle.refusals.specs.declared.Digest.{Digest}
 use Rattle.refusals.specs.declared.Refusal.the-variants.{WrongValue}
 use Rattle.refusals.specs.declared.Answer.the-variants as answer
 use Rattle.refusals.specs.declared.DigestAnswer.the-variants.{Accepted, Refused}
-use Rattle.elements.specs.Words.{payloadOf, wordAt, AllBytes, bytesOf}
+use Rattle.elements.specs.Words.{payloadOf, wordAt, AllBytes}
 use Rattle.elements.specs.Elements.{elementAt}
 use Rattle.elements.proofs.Laws.{no-word}
 use Rattle.elements.proofs.Tests.{too-large, first-refused}
@@ -114,14 +113,3 @@ pub no-wrap-64 : (file : List ℕ) (size i : ℕ) → ReadTo file size i → 15 
 no-wrap-64 file size i h above =
     let large = no-word file (1 + 3 * i) above in
     (large, no-wrap file size i h (omega (arith, large)))
-
--- the file of zeros (document 01, "Known days"): 00000001, then 40000000, 80000000, C0000000 twenty times.
--- `times` is a list n times
-abbrev pub times : ℕ → List ℕ → List ℕ
-times zero s = []
-times (suc n) s = s ++ times n s
-
-pub zero-file : fileOf (replicate 16 0) (replicate 4 0) 1
-    ≡ bytesOf (0x00000001 ∷ times 20 (0x40000000 ∷ 0x80000000 ∷ 0xC0000000 ∷ []))
-unfolding fileOf each
-zero-file = refl

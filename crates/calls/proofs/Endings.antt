@@ -58,21 +58,21 @@ use Rattle.calls.specs.Calls.{hashCallTest, chainCallTest, buildCallTest
 use Rattle.calls.specs.Calls.{unpackCallTest, unpackShortCallTest}
 
 -- ---- Prepare: 1, 8, 2, 3
-pub prepare-ends : (Q : Refusal → Type 0) → Q TableLength → Q DestinationLength
-    → ((i : ℕ) → i < 396 → Q (TableWord i)) → Q NoInverse
-    → (raw old new : List ℕ) (a : Answer) → Prepares raw old a new → AnswerEnds Q a
+pub prepare-ends : (Q : Refusal → Type 0) (raw old : List ℕ) → ((length raw ≡ 396 → ⊥) → Q TableLength)
+    → ((length old ≡ 540 → ⊥) → Q DestinationLength) → ((i : ℕ) → i < 396 → Q (TableWord i)) → Q NoInverse
+    → (new : List ℕ) (a : Answer) → Prepares raw old a new → AnswerEnds Q a
 unfolding rawTest
-prepare-ends Q q1 q8 q2 q3 raw old new a (accepts n e h) = tt
-prepare-ends Q q1 q8 q2 q3 raw old new a (no-inverse e k) = q3
-prepare-ends Q q1 q8 q2 q3 raw old new a (refuses r e) = subst (AnswerEnds Q) e raw-ends
+prepare-ends Q raw old q1 q8 q2 q3 new a (accepts n e h) = tt
+prepare-ends Q raw old q1 q8 q2 q3 new a (no-inverse e k) = q3
+prepare-ends Q raw old q1 q8 q2 q3 new a (refuses r e) = subst (AnswerEnds Q) e raw-ends
   where
     bad : eqb (length raw) 396 ≡ true → eqb (firstBad raw) 396 ≡ false → firstBad raw < 396
     bad e g = omega (arith, within raw, eqb-true (length raw) 396 e, eqb-false (firstBad raw) 396 g)
 
     raw-ends : AnswerEnds Q (rawTest raw (length old))
     raw-ends =
-        unless-ends Q (eqb (length raw) 396) TableLength _ (λ e. q1) λ e.
-        unless-ends Q (eqb (length old) 540) DestinationLength _ (λ f. q8) λ f.
+        unless-ends Q (eqb (length raw) 396) TableLength _ (λ e. q1 (eqb-false _ _ e)) λ e.
+        unless-ends Q (eqb (length old) 540) DestinationLength _ (λ f. q8 (eqb-false _ _ f)) λ f.
         unless-ends Q (eqb (firstBad raw) 396) (TableWord (firstBad raw)) _ (λ g. q2 (firstBad raw) (bad e g)) λ g. tt
 
 -- ---- the table test: 1, 2, 4

@@ -112,8 +112,8 @@ failing-bits T t claim c k p low high i q n f =
 -- ---- so nothing of an answer is lost
 pub prepare-bits : (raw old new : List ℕ) (a : Answer) → Prepares raw old a new → AnswerEnds RefusalInBits a
 prepare-bits raw old new a h =
-    ends.prepare-ends RefusalInBits one eight (λ i l. indexed-bits 2 i (lit< tt) (omega arith)) (alone-bits 3 (lit< tt))
-    raw old new a h
+    ends.prepare-ends RefusalInBits raw old (λ n. one) (λ n. eight)
+    (λ i l. indexed-bits 2 i (lit< tt) (omega arith)) (alone-bits 3 (lit< tt)) new a h
 
 pub hash-bits : (T words : List ℕ) (size : ℕ) → length words ≡ 8
     → AnswerEnds RefusalInBits (hashCallTest T words size)

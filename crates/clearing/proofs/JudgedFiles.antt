@@ -1,8 +1,9 @@
 -- The answer once table and file are accepted: what is known of them, and what the check comes to.
 -- Assumes nothing.
-use mathlib.Core.Path.{_≡_, refl, sym, ap, _∙_, subst}
+use mathlib.Core.Path.{_≡_, refl, ap, _∙_}
 use mathlib.Core.List.{List}
-use Prim.Native.Nat.{ℕ, _+_, _*_, _-_, _≤_, _<_}
+use mathlib.Core.Logic.{_⊎_, inl, inr}
+use Prim.Native.Nat.{ℕ, _+_, _*_, _-_, _≤_}
 use native.Mathlib.Omega.{arith}
 use lib.ListN.{length}
 use Rattle.words.specs.Words.{AllCanonical}
@@ -11,14 +12,12 @@ use Rattle.refusals.specs.declared.Refusal.{Refusal}
 use Rattle.refusals.specs.declared.Refusal.the-variants.{Constraint}
 use Rattle.refusals.specs.declared.Answer.{Answer}
 use Rattle.refusals.specs.declared.Answer.the-variants as answer
-use Rattle.refusals.proofs.Laws.{not-accepted}
 use Rattle.table.specs.Table.{IsTable, Prepares}
 use Rattle.hash.specs.Hash.{chain}
+use Rattle.hash.proofs.Inputs.{output-tap}
 use Rattle.trace.specs.Trace.{trace}
-use Rattle.trace.proofs.TraceCells.{length-trace, trace-canonical}
 use Rattle.constraints.specs.Constraints.{tests, constraintTest}
 use Rattle.constraints.proofs.TestCount.{length-tests}
-use Rattle.exact.proofs.Exactness.{first-failing}
 use Rattle.elements.proofs.Round.{length-elements}
 use Rattle.board.specs.Board.{batchesIn, claimIn, tapsIn, unpackTest}
 use Rattle.board.proofs.Answers.{batches-is, unpack-accepted, unpack-complete}
@@ -26,20 +25,20 @@ use Rattle.board.proofs.Round.{board-permitted, board-canonical, taps-length}
 use Rattle.clearing.specs.declared.Outcome.{Outcome}
 use Rattle.clearing.specs.declared.Outcome.the-variants.{Accepted, Refused}
 use Rattle.clearing.specs.Clearing.{tableBytes, longest, rawIn, fileIn, outcomeAfter, checkedTaps, cleared}
-use Rattle.clearing.specs.Clearing.{unprepared, IsJudged, IsUnlike}
-use Rattle.clearing.proofs.BuiltTraces.{accepted-chains, refused-last}
+use Rattle.clearing.specs.Clearing.{unprepared, IsJudged}
+use Rattle.clearing.proofs.BuiltTraces.{FirstUnlike, same-or-unlike, chains-accepted, unlike-refused}
 use Rattle.clearing.proofs.Stages.{is-table}
 
 -- ---- what a check comes to
 module _ (T w claim : List ℕ) (k : ℕ) where
-  pub checked-accepted : 1 ≤ k → constraintTest T (trace T w k) claim k k ≡ answer.Accepted
+  checked-accepted : 1 ≤ k → constraintTest T (trace T w k) claim k k ≡ answer.Accepted
       → checkedTaps T w claim k ≡ Accepted k (372 * k)
   unfolding checkedTaps
   checked-accepted some e =
       ap (λ a. outcomeAfter a (Accepted k (length (tests k k)))) e
       ∙ ap (Accepted k) (length-tests k k some (omega arith))
 
-  pub checked-refused : (r : Refusal) → constraintTest T (trace T w k) claim k k ≡ answer.Refused r
+  checked-refused : (r : Refusal) → constraintTest T (trace T w k) claim k k ≡ answer.Refused r
       → checkedTaps T w claim k ≡ Refused r
   unfolding checkedTaps
   checked-refused r e = ap (λ a. outcomeAfter a (Accepted k (length (tests k k)))) e
@@ -59,76 +58,76 @@ module _ (input T : List ℕ) (k : ℕ) (h : IsJudged input T k) where
   file-k : batchesIn (fileIn input) ≡ k
   file-k = batches-is (fileIn input) k (h .board)
 
-  -- the file's taps and claim, and the walk through the tests of their trace
+  -- the file's taps and claim
   abbrev w : List ℕ
   w = tapsIn (fileIn input)
 
   abbrev claim : List ℕ
   claim = claimIn (fileIn input)
 
-  abbrev walked : Answer
-  walked = constraintTest T (trace T w k) claim k k
-
   pub judged-table : IsTable T
   judged-table = is-table input unprepared T answer.Accepted (h .low) (h .high) refl (h .prepared) refl
 
-  pub judged-permitted : IsPermitted k
+  judged-permitted : IsPermitted k
   judged-permitted = board-permitted (fileIn input) k (h .board)
 
-  pub judged-size : length w ≡ 12 * k + 4
+  judged-size : length w ≡ 12 * k + 4
   judged-size = taps-length (fileIn input) ∙ ap (λ n. 12 * n + 4) file-k
 
-  pub judged-canonical : AllCanonical w
+  judged-canonical : AllCanonical w
   judged-canonical = board-canonical (fileIn input) (rw file-k (h .board)) .1
 
-  pub four-words : length claim ≡ 4
+  four-words : length claim ≡ 4
   unfolding claimIn
   four-words = length-elements (fileIn input) 1 4
 
-  pub taps-chain : walked ≡ answer.Accepted → chain T w k ≡ claim
-  taps-chain e = accepted-chains T w k judged-table judged-permitted judged-size judged-canonical claim four-words e
+  abbrev answered : Outcome
+  answered = cleared T (fileIn input)
 
-  pub answer-refused : (r : Refusal) → walked ≡ answer.Refused r
-      → (c : ℕ) × (n : ℕ) × (r ≡ Constraint (record { 0 = 32 * k - 1 }) c n) × (49 ≤ c) × IsUnlike input k (c - 49)
-  answer-refused r e =
-      let canonical = trace-canonical T w k judged-size judged-canonical in
-      let f =
-      first-failing T (trace T w k) claim k k judged-table judged-permitted (judged-permitted .low) (omega arith)
-      (length-trace T w k) canonical four-words (λ a. not-accepted r (sym e ∙ a)) in
-      let l =
-      refused-last T w k judged-table judged-permitted judged-size judged-canonical claim four-words
-      (f .0) (f .1) (f .2) (f .3) in
-      let last : f .0 ≡ 32 * k - 1 = omega (arith, l .0) in
-      let same : r ≡ Constraint (record { 0 = f .0 }) (f .1) (f .2) = one-refusal r _ (sym e ∙ f .3) in
-      let word : f .1 - 49 < 4 = omega (arith, l .1, l .2) in
-      let at-last = same ∙ ap (λ i. Constraint (record { 0 = i }) (f .1) (f .2)) last in
-      (f .1, f .2, at-last, l .1, record { table = T; accepted = h; word = word; other = l .3 })
+  -- the taps chain to the claim, or come to an output that is unlike it in some word first
+  pub chains-or-unlike : (chain T w k ≡ claim) ⊎ ((j : ℕ) × FirstUnlike (chain T w k) claim 4 j)
+  unfolding chain
+  chains-or-unlike =
+      let output = output-tap T w judged-canonical (omega (arith, judged-size)) (3 * k) in
+      same-or-unlike (chain T w k) claim 4 (output .size) four-words
+
+  pub chains-answer : chain T w k ≡ claim → answered ≡ Accepted k (372 * k)
+  chains-answer e =
+      judged-answer input T k h
+      ∙ checked-accepted T w claim k (judged-permitted .low)
+      (chains-accepted T w k judged-table judged-permitted judged-size judged-canonical claim e)
+
+  pub unlike-answer : (j : ℕ) → FirstUnlike (chain T w k) claim 4 j
+      → answered ≡ Refused (Constraint (record { 0 = 32 * k - 1 }) (49 + j) (372 * k - 3 + j))
+  unlike-answer j u =
+      judged-answer input T k h
+      ∙ checked-refused T w claim k _
+      (unlike-refused T w k judged-table judged-permitted judged-size judged-canonical claim j u)
+
+-- ---- the answer once the table is prepared
+module _ (input T : List ℕ) where
+  abbrev file : List ℕ
+  file = fileIn input
+
+  abbrev file-test : Answer
+  file-test = unpackTest file (12 * batchesIn file + 4)
+
+  pub file-refused-answer : (r : Refusal) → file-test ≡ answer.Refused r → cleared T file ≡ Refused r
+  unfolding cleared
+  file-refused-answer r e = rw e
+
+  -- the file's refusal, or a file that is accepted
+  pub judged-cases : tableBytes ≤ length input → length input ≤ longest
+      → Prepares (rawIn input) unprepared answer.Accepted T
+      → ((r : Refusal) × (file-test ≡ answer.Refused r)) ⊎ IsJudged input T (batchesIn file)
+  judged-cases low high p = go file-test refl
     where
-      one-refusal : (q s : Refusal) → answer.Refused q ≡ answer.Refused s → q ≡ s
-      one-refusal q s a = cc
-
--- the answer once the table is prepared: the file's refusal, or that of a check
-pub data Judged (input T : List ℕ) : Outcome → Type 0 where
-  file-refused : (r : Refusal) → unpackTest (fileIn input) (12 * batchesIn (fileIn input) + 4) ≡ answer.Refused r
-      → Judged input T (Refused r)
-  checked-taps : (k : ℕ) → IsJudged input T k
-      → Judged input T (checkedTaps T (tapsIn (fileIn input)) (claimIn (fileIn input)) k)
-
-pub judged-cases : (input T : List ℕ) → tableBytes ≤ length input → length input ≤ longest
-    → Prepares (rawIn input) unprepared answer.Accepted T → Judged input T (cleared T (fileIn input))
-unfolding cleared
-judged-cases input T low high p = go (unpackTest file (12 * batchesIn file + 4)) refl
-  where
-    file : List ℕ
-    file = fileIn input
-
-    rest : Outcome
-    rest = checkedTaps T (tapsIn file) (claimIn file) (batchesIn file)
-
-    go : (t : Answer) → unpackTest file (12 * batchesIn file + 4) ≡ t
-        → Judged input T (outcomeAfter (unpackTest file (12 * batchesIn file + 4)) rest)
-    go (answer.Refused r) e = subst (λ t. Judged input T (outcomeAfter t rest)) (sym e) (file-refused r e)
-    go answer.Accepted e =
-        let board = unpack-accepted file (12 * batchesIn file + 4) e .0 in
-        let h : IsJudged input T (batchesIn file) = record { low = low; high = high; prepared = p; board = board } in
-        subst (Judged input T) (sym (judged-answer input T (batchesIn file) h)) (checked-taps (batchesIn file) h)
+      go : (t : Answer) → file-test ≡ t
+          → ((r : Refusal) × (file-test ≡ answer.Refused r)) ⊎ IsJudged input T (batchesIn file)
+      go (answer.Refused r) e = inl (r, e)
+      go answer.Accepted e = inr (record {
+        low = low;
+        high = high;
+        prepared = p;
+        board = unpack-accepted file (12 * batchesIn file + 4) e .0;
+      })

@@ -1,6 +1,5 @@
 pub mod RawWords
 pub mod Stages
 pub mod BuiltTraces
-pub mod TurnedBack
 pub mod JudgedFiles
 pub mod Theorems

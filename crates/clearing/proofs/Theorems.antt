@@ -1,35 +1,42 @@
 -- What the program promises (document 01, "The board file"): every input has one answer, `accepted` and `refused` mean
 -- what they say.
 -- Assumes nothing.
-use mathlib.Core.Path.{_≡_, refl, sym, ap, _∙_, subst}
-use mathlib.Core.Logic.{_↔_}
+use mathlib.Core.Path.{_≡_, refl, sym, ap, ap₂, _∙_, subst}
+use mathlib.Core.Logic.{_↔_, _⊎_, inl, inr}
 use mathlib.Core.List.{List}
-use Prim.Native.Nat.{ℕ, _*_, _-_, _≤_, _<_}
+use Prim.Native.Nat.{ℕ, _+_, _*_, _≤_, _<_}
 use native.Mathlib.Decide.{decLt}
 use native.Mathlib.Omega.{arith}
 use lib.ListN.{length, length-drop}
-use Rattle.lists.specs.Lists.{cell}
+use Rattle.words.specs.Words.{AllCanonical}
+use Rattle.numbers.specs.Numbers.{traceWords, tapWordBatches}
+use Rattle.refusals.specs.Refusals.{digestWords}
+use Rattle.refusals.specs.Answers.{leaves}
 use Rattle.refusals.specs.declared.Refusal.{Refusal}
-use Rattle.refusals.specs.declared.Refusal.the-variants.{TableLength, Constraint}
+use Rattle.refusals.specs.declared.Refusal.the-variants.{TableLength}
 use Rattle.refusals.specs.declared.Answer.{Answer}
 use Rattle.refusals.specs.declared.Answer.the-variants as answer
-use Rattle.refusals.proofs.Laws.{not-accepted}
+use Rattle.refusals.specs.declared.Digest.{Digest}
+use Rattle.refusals.specs.declared.DigestAnswer.the-variants as output
+use Rattle.refusals.proofs.Laws.{not-accepted, digest-refused}
 use Rattle.table.specs.Table.{Prepares}
 use Rattle.prepare.proofs.Theorems.{prepares-some, prepares-unique}
-use Rattle.trace.specs.Trace.{trace}
-use Rattle.constraints.specs.Constraints.{constraintTest}
-use Rattle.board.specs.Board.{claimIn, tapsIn}
+use Rattle.hash.specs.Hash.{chain}
+use Rattle.trace.specs.Answers.{buildLeaves}
+use Rattle.checker.specs.Answers.{checkAnswer}
+use Rattle.board.specs.Board.{batchesIn, claimIn, tapsIn, unpackTest, unpackAnswer, unpackLeaves}
+use Rattle.board.proofs.Answers.{unpack-refuses, returned}
+use Rattle.board.proofs.Round.{board-canonical}
+use Rattle.board.proofs.Theorems.{accepted-board}
 use Rattle.clearing.specs.declared.Outcome.{Outcome}
 use Rattle.clearing.specs.declared.Outcome.the-variants.{Accepted, Refused, TooLong}
-use Rattle.clearing.specs.Clearing.{tableBytes, longest, rawIn, fileIn, checkedTaps, cleared, unprepared}
+use Rattle.clearing.specs.Clearing.{tableBytes, longest, rawIn, fileIn, reported, checkedTaps, cleared, unprepared}
 use Rattle.clearing.specs.Clearing.{Clears, short, long, turned-back, judged, IsJudged, IsCleared, IsUnlike}
-use Rattle.clearing.proofs.JudgedFiles.{checked-accepted, checked-refused, judged-answer, judged-table}
-use Rattle.clearing.proofs.JudgedFiles.{judged-permitted, judged-size, judged-canonical, four-words}
-use Rattle.clearing.proofs.JudgedFiles.{taps-chain, answer-refused}
-use Rattle.clearing.proofs.JudgedFiles.{Judged, file-refused, checked-taps, judged-cases}
-use Rattle.clearing.proofs.BuiltTraces.{chains-accepted}
-use Rattle.clearing.proofs.TurnedBack.{OfTable, OfFile, of-table, of-file}
-use Rattle.clearing.proofs.Stages.{table-turned-back}
+use Rattle.clearing.specs.Clearing.{InputFault, no-table, table-fault, file-fault, other-claim}
+use Rattle.clearing.proofs.BuiltTraces.{FirstUnlike}
+use Rattle.clearing.proofs.JudgedFiles.{judged-answer, judged-table, chains-or-unlike, chains-answer}
+use Rattle.clearing.proofs.JudgedFiles.{unlike-answer, file-refused-answer, judged-cases}
+use Rattle.clearing.proofs.Stages.{taps-cleared, batches-are, file-taps, table-turned-back}
 
 -- ---- every input has one answer and no other
 pub clears-some : (input : List ℕ) → (o : Outcome) × Clears input o
@@ -77,131 +84,136 @@ clears-unique input a b (judged l h S q) (turned-back m n r p) =
 clears-unique input a b (judged l h S q) (judged m n T p) =
     ap (λ s. cleared s (fileIn input)) (one-way input S T answer.Accepted answer.Accepted q p .1)
 
--- ---- accepted
-
 -- an accepted file has at most 16 batches
 pub at-most-16 : (input T : List ℕ) (k : ℕ) → IsJudged input T k → k ≤ 16
 unfolding fileIn
 at-most-16 input T k h = omega (arith, h .board .size, h .high, length-drop tableBytes input)
 
--- accepted exactly where table and file are accepted and the taps chain to the claim, with all tests of the order
-pub accepts-exactly : (input : List ℕ) (o : Outcome) (k tests : ℕ) → Clears input o
-    → (o ≡ Accepted k tests) ↔ (IsCleared input k × (tests ≡ 372 * k))
-accepts-exactly input o k tests c = (to o c, λ s. clears-unique input o (Accepted k tests) c (from (s .0) (s .1)))
+-- ---- it prepares, unpacks, builds, checks: where Prepare wrote T, and Unpack accepts the file with the claim d, the
+-- answer is Check's on what Build leaves of the taps that Unpack left in `room`
+pub checks-built : (input T room rows : List ℕ) (d : Digest) (o : Outcome) → Clears input o
+    → tableBytes ≤ length input → length input ≤ longest → Prepares (rawIn input) unprepared answer.Accepted T
+    → unpackAnswer (fileIn input) (length room) ≡ output.Accepted d
+    → let w = unpackLeaves (fileIn input) room in
+    let k = tapWordBatches (length w) in
+    length rows ≡ traceWords k → o ≡ reported k (checkAnswer T (buildLeaves T w rows) (digestWords d) k)
+unfolding unpackLeaves
+checks-built input T room rows d o c low high p e size =
+    let file = fileIn input in
+    let b = accepted-board file (length room) d e in
+    let h : IsJudged input T (batchesIn file) =
+    record { low = low; high = high; prepared = p; board = b .0 } in
+    let left : unpackLeaves file room ≡ tapsIn file =
+    ap (λ a. leaves a (tapsIn file) room) (returned file (length room) d e .0) in
+    let k-is = batches-are file (b .0) in
+    let taps = file-taps file (b .0) (omega (arith, b .0 .size, at-most-16 input T (batchesIn file) h)) in
+    let claim = subst AllCanonical (b .2) (board-canonical file (b .0) .0) in
+    let room-is = size ∙ ap (λ s. 384 * tapWordBatches (length s)) left in
+    let checked = taps-cleared T (tapsIn file) (judged-table input T (batchesIn file) h) taps (digestWords d) rows _ _ _
+    claim room-is refl refl refl in
+    clears-unique input o _ c (judged low high T p)
+    ∙ judged-answer input T (batchesIn file) h
+    ∙ ap₂ (checkedTaps T (tapsIn file)) (b .2) (sym k-is)
+    ∙ sym checked
+    ∙ ap (λ s. reported (tapWordBatches (length s))
+    (checkAnswer T (buildLeaves T s rows) (digestWords d) (tapWordBatches (length s)))) (sym left)
+
+-- ---- what the answers mean, all of them
+pub data Means (input : List ℕ) : Outcome → Type 0 where
+  means-cleared : (k : ℕ) → IsCleared input k → Means input (Accepted k (372 * k))
+  means-fault : (r : Refusal) → InputFault input r → Means input (Refused r)
+  means-long : longest < length input → Means input TooLong
+
+pub clears-means : (input : List ℕ) (o : Outcome) → Clears input o → Means input o
+clears-means input o (short l) = means-fault TableLength (no-table l refl)
+clears-means input o (long l) = means-long l
+clears-means input o (turned-back l h r p) = means-fault r (table-fault l h p)
+clears-means input o (judged l h T p) = go (judged-cases input T l h p)
   where
-    w : List ℕ
-    w = tapsIn (fileIn input)
+    file : List ℕ
+    file = fileIn input
 
-    claim : List ℕ
-    claim = claimIn (fileIn input)
+    both : (k : ℕ) → IsJudged input T k
+        → (chain T (tapsIn file) k ≡ claimIn file) ⊎ ((j : ℕ) × FirstUnlike (chain T (tapsIn file) k) (claimIn file) 4 j)
+        → Means input (cleared T file)
+    both k i (inl e) =
+        subst (Means input) (sym (chains-answer input T k i e))
+        (means-cleared k (record { table = T; accepted = i; chains = e }))
+    both k i (inr (j, u)) =
+        let unlike : IsUnlike input k j = record {
+          table = T;
+          accepted = i;
+          word = u .word;
+          other = u .other;
+          before = u .before;
+        } in
+        subst (Means input) (sym (unlike-answer input T k i j u)) (means-fault _ (other-claim k j unlike refl))
 
-    accepted : (m n : ℕ) → Accepted m n ≡ Accepted k tests → (m ≡ k) × (n ≡ tests)
-    accepted m n e = (cc, cc)
+    go : ((r : Refusal) × (unpackTest file (12 * batchesIn file + 4) ≡ answer.Refused r))
+        ⊎ IsJudged input T (batchesIn file)
+        → Means input (cleared T file)
+    go (inl (r, e)) =
+        subst (Means input) (sym (file-refused-answer input T r e))
+        (means-fault r (file-fault l h T p (unpack-refuses file _ r e)))
+    go (inr i) = both (batchesIn file) i (chains-or-unlike input T (batchesIn file) i)
 
-    never : (r : Refusal) → Refused r ≡ Accepted k tests → ⊥
-    never r e = let z : _≡_ {A = ℕ} 0 1 = cc in omega arith
+pub means-clears : (input : List ℕ) (o : Outcome) → Means input o → Clears input o
+unfolding unpackAnswer
+means-clears input o (means-cleared k s) =
+    let h = s .accepted in
+    subst (Clears input) (chains-answer input (s .table) k h (s .chains))
+    (judged (h .low) (h .high) (s .table) (h .prepared))
+means-clears input o (means-fault r (no-table l e)) = subst (λ q. Clears input (Refused q)) (sym e) (short l)
+means-clears input o (means-fault r (table-fault l h p)) = turned-back l h r p
+means-clears input o (means-fault r (file-fault l h T p e)) =
+    subst (Clears input) (file-refused-answer input T r (digest-refused _ _ r e)) (judged l h T p)
+means-clears input o (means-fault r (other-claim k j u e)) =
+    let h = u .accepted in
+    let unlike : FirstUnlike (chain (u .table) (tapsIn (fileIn input)) k) (claimIn (fileIn input)) 4 j = record {
+      word = u .word;
+      other = u .other;
+      before = u .before;
+    } in
+    subst (Clears input) (unlike-answer input (u .table) k h j unlike ∙ ap Refused (sym e))
+    (judged (h .low) (h .high) (u .table) (h .prepared))
+means-clears input o (means-long l) = long l
 
-    check : (v : Answer) (T : List ℕ) (n : ℕ) → IsJudged input T n → constraintTest T (trace T w n) claim n n ≡ v
-        → checkedTaps T w claim n ≡ Accepted k tests → IsCleared input k × (tests ≡ 372 * k)
-    check (answer.Refused r) T n h e q = absurd (never r (sym (checked-refused T w claim n r e) ∙ q))
-    check answer.Accepted T n h e q =
-        let checked = checked-accepted T w claim n (judged-permitted input T n h .low) e in
-        let same = accepted n (372 * n) (sym checked ∙ q) in
-        let chained : IsCleared input n = record { table = T; accepted = h; chains = taps-chain input T n h e } in
-        (subst (IsCleared input) (same .0) chained, omega (arith, same .0, same .1))
+-- ---- so each is given exactly where it means that
+module _ (input : List ℕ) (o : Outcome) (c : Clears input o) where
+  one-answer : (a : Outcome) → Means input a → o ≡ a
+  one-answer a m = clears-unique input o a c (means-clears input a m)
 
-    after-table : (p : Outcome) (T : List ℕ) → Judged input T p → p ≡ Accepted k tests
-        → IsCleared input k × (tests ≡ 372 * k)
-    after-table p T (file-refused r e) q = absurd (never r q)
-    after-table p T (checked-taps n h) q = check _ T n h refl q
+  -- accepted where table and file are accepted and the taps chain to the claim, with all tests of the order
+  pub accepts-exactly : (k tests : ℕ) → (o ≡ Accepted k tests) ↔ (IsCleared input k × (tests ≡ 372 * k))
+  accepts-exactly k tests = (to o (clears-means input o c), from)
+    where
+      to : (a : Outcome) → Means input a → a ≡ Accepted k tests → IsCleared input k × (tests ≡ 372 * k)
+      to a (means-cleared n s) e =
+          let same : n ≡ k = cc in
+          let all : 372 * n ≡ tests = cc in
+          (subst (IsCleared input) same s, omega arith)
+      to a (means-fault r f) e = absurd (let z : _≡_ {A = ℕ} 0 1 = cc in omega arith)
+      to a (means-long l) e = absurd (let z : _≡_ {A = ℕ} 0 1 = cc in omega arith)
 
-    to : (p : Outcome) → Clears input p → p ≡ Accepted k tests → IsCleared input k × (tests ≡ 372 * k)
-    to p (short l) q = absurd (let z : _≡_ {A = ℕ} 0 1 = cc in omega arith)
-    to p (long l) q = absurd (let z : _≡_ {A = ℕ} 0 1 = cc in omega arith)
-    to p (turned-back l h r e) q = absurd (let z : _≡_ {A = ℕ} 0 1 = cc in omega arith)
-    to p (judged l h T e) q = after-table (cleared T (fileIn input)) T (judged-cases input T l h e) q
+      from : IsCleared input k × (tests ≡ 372 * k) → o ≡ Accepted k tests
+      from s = one-answer _ (means-cleared k (s .0)) ∙ ap (Accepted k) (sym (s .1))
 
-    from : IsCleared input k → tests ≡ 372 * k → Clears input (Accepted k tests)
-    from s n =
-        let T = s .table in
-        let h = s .accepted in
-        let v =
-        chains-accepted T w k (judged-table input T k h) (judged-permitted input T k h) (judged-size input T k h)
-        (judged-canonical input T k h) claim (four-words input T k h) (s .chains) in
-        let answered = judged-answer input T k h
-        ∙ checked-accepted T w claim k (judged-permitted input T k h .low) v
-        ∙ ap (Accepted k) (sym n) in
-        subst (Clears input) answered (judged (h .low) (h .high) T (h .prepared))
+  -- refused with r where the input has the fault of r
+  pub refuses-exactly : (r : Refusal) → (o ≡ Refused r) ↔ InputFault input r
+  refuses-exactly r = (to o (clears-means input o c), λ f. one-answer _ (means-fault r f))
+    where
+      to : (a : Outcome) → Means input a → a ≡ Refused r → InputFault input r
+      to a (means-cleared n s) e = absurd (let z : _≡_ {A = ℕ} 0 1 = cc in omega arith)
+      to a (means-fault q f) e =
+          let same : q ≡ r = cc in
+          subst (InputFault input) same f
+      to a (means-long l) e = absurd (let z : _≡_ {A = ℕ} 0 1 = cc in omega arith)
 
--- ---- refused
-
--- it is 1 for a short input, 2 or 3 for the table, 12, 13 or 14 for the file; and 11 is always the claim's: the last
--- row of the trace, and constraint 49 to 52 for a word of the output that is another than the claim's
-pub data Refuses (input : List ℕ) : Refusal → Type 0 where
-  short-input : length input < tableBytes → Refuses input TableLength
-  for-table : (r : Refusal) → OfTable r → Refuses input r
-  for-file : (r : Refusal) → OfFile r → Refuses input r
-  for-claim : (k c tests : ℕ) → 49 ≤ c → IsUnlike input k (c - 49)
-      → Refuses input (Constraint (record { 0 = 32 * k - 1 }) c tests)
-
-pub refuses-only : (input : List ℕ) (r : Refusal) → Clears input (Refused r) → Refuses input r
-refuses-only input r a = go (Refused r) a refl
-  where
-    w : List ℕ
-    w = tapsIn (fileIn input)
-
-    claim : List ℕ
-    claim = claimIn (fileIn input)
-
-    same : (q : Refusal) → Refused q ≡ Refused r → q ≡ r
-    same q e = cc
-
-    never : (k n : ℕ) → Accepted k n ≡ Refused r → ⊥
-    never k n e = let z : _≡_ {A = ℕ} 0 1 = cc in omega arith
-
-    check : (v : Answer) (T : List ℕ) (k : ℕ) → IsJudged input T k → constraintTest T (trace T w k) claim k k ≡ v
-        → checkedTaps T w claim k ≡ Refused r → Refuses input r
-    check answer.Accepted T k h e q =
-        let checked = checked-accepted T w claim k (judged-permitted input T k h .low) e in
-        absurd (never k (372 * k) (sym checked ∙ q))
-    check (answer.Refused s) T k h e q =
-        let f = answer-refused input T k h s e in
-        let told = same s (sym (checked-refused T w claim k s e) ∙ q) in
-        subst (Refuses input) (sym (f .2) ∙ told) (for-claim k (f .0) (f .1) (f .3) (f .4))
-
-    after-table : (p : Outcome) (T : List ℕ) → Judged input T p → p ≡ Refused r → Refuses input r
-    after-table p T (file-refused s e) q = subst (Refuses input) (same s q) (for-file s (of-file (fileIn input) s e))
-    after-table p T (checked-taps k h) q = check _ T k h refl q
-
-    go : (p : Outcome) → Clears input p → p ≡ Refused r → Refuses input r
-    go p (short l) q = subst (Refuses input) (same TableLength q) (short-input l)
-    go p (long l) q = absurd (let z : _≡_ {A = ℕ} 0 1 = cc in omega arith)
-    go p (turned-back l h s e) q = subst (Refuses input) (same s q) (for-table s (of-table input s unprepared e))
-    go p (judged l h T e) q = after-table (cleared T (fileIn input)) T (judged-cases input T l h e) q
-
--- and where a word of the output is another than the claim's, 11 it is
-pub unlike-refused : (input : List ℕ) (o : Outcome) (k j : ℕ) → Clears input o → IsUnlike input k j
-    → (c : ℕ) × (tests : ℕ) × (o ≡ Refused (Constraint (record { 0 = 32 * k - 1 }) c tests))
-unlike-refused input o k j a u = go (constraintTest T (trace T w k) claim k k) refl
-  where
-    T : List ℕ
-    T = u .table
-
-    w : List ℕ
-    w = tapsIn (fileIn input)
-
-    claim : List ℕ
-    claim = claimIn (fileIn input)
-
-    h : IsJudged input T k
-    h = u .accepted
-
-    answered : o ≡ checkedTaps T w claim k
-    answered = clears-unique input o _ a (judged (h .low) (h .high) T (h .prepared)) ∙ judged-answer input T k h
-
-    go : (v : Answer) → constraintTest T (trace T w k) claim k k ≡ v
-        → (c : ℕ) × (tests : ℕ) × (o ≡ Refused (Constraint (record { 0 = 32 * k - 1 }) c tests))
-    go answer.Accepted e = absurd (u .other (ap (λ s. cell s j) (taps-chain input T k h e)))
-    go (answer.Refused r) e =
-        let f = answer-refused input T k h r e in
-        (f .0, f .1, answered ∙ checked-refused T w claim k r e ∙ ap Refused (f .2))
+  -- too long from 5573 bytes on
+  pub long-exactly : (o ≡ TooLong) ↔ (longest < length input)
+  long-exactly = (to o (clears-means input o c), λ l. one-answer TooLong (means-long l))
+    where
+      to : (a : Outcome) → Means input a → a ≡ TooLong → longest < length input
+      to a (means-cleared n s) e = absurd (let z : _≡_ {A = ℕ} 0 1 = cc in omega arith)
+      to a (means-fault q f) e = absurd (let z : _≡_ {A = ℕ} 0 1 = cc in omega arith)
+      to a (means-long l) e = l

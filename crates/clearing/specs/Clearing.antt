@@ -2,22 +2,23 @@
 -- Assumes nothing.
 use mathlib.Core.Path.{_≡_}
 use mathlib.Core.List.{List}
-use Prim.Native.Nat.{ℕ, _+_, _*_, _^_, _≤_, _<_}
+use Prim.Native.Nat.{ℕ, _+_, _*_, _-_, _^_, _≤_, _<_}
 use lib.ListN.{length, drop, replicate}
 use Rattle.lists.specs.Lists.{cell, tab, sum}
 use Rattle.words.specs.Words.{AllCanonical}
-use Rattle.numbers.specs.Numbers.{tapWords, IsPermitted, tapWordBatches}
+use Rattle.numbers.specs.Numbers.{traceRows, tapWords, IsPermitted, tapWordBatches}
 use Rattle.refusals.specs.declared.Refusal.{Refusal}
-use Rattle.refusals.specs.declared.Refusal.the-variants.{TableLength}
+use Rattle.refusals.specs.declared.Refusal.the-variants.{TableLength, Constraint}
 use Rattle.refusals.specs.declared.Answer.{Answer}
 use Rattle.refusals.specs.declared.Answer.the-variants as answer
+use Rattle.refusals.specs.declared.DigestAnswer.the-variants as output
 use Rattle.refusals.specs.declared.TestsAnswer.{TestsAnswer}
 use Rattle.refusals.specs.declared.TestsAnswer.the-variants as tests-answer
 use Rattle.table.specs.Table.{rawWords, tableWords, Prepares}
 use Rattle.hash.specs.Hash.{chain}
 use Rattle.trace.specs.Trace.{trace}
 use Rattle.constraints.specs.Constraints.{tests, constraintTest}
-use Rattle.board.specs.Board.{fileSize, batchesIn, tapsIn, claimIn, unpackTest, IsBoard}
+use Rattle.board.specs.Board.{fileSize, batchesIn, tapsIn, claimIn, unpackTest, unpackAnswer, IsBoard}
 use Rattle.clearing.specs.declared.Outcome.{Outcome}
 use Rattle.clearing.specs.declared.Outcome.the-variants.{Accepted, Refused, TooLong}
 
@@ -94,12 +95,29 @@ pub record IsCleared (input : List ℕ) (k : ℕ) : Type 0 where
   pub accepted : IsJudged input table k
   pub chains : chain table (tapsIn (fileIn input)) k ≡ claimIn (fileIn input)
 
--- or come to an output whose word j is another than the claim's
+-- or come to another output: word j is the first that is unlike the claim's
 pub record IsUnlike (input : List ℕ) (k j : ℕ) : Type 0 where
   pub table : List ℕ
   pub accepted : IsJudged input table k
   pub word : j < 4
   pub other : cell (chain table (tapsIn (fileIn input)) k) j ≡ cell (claimIn (fileIn input)) j → ⊥
+  pub before : (m : ℕ) → m < j → cell (chain table (tapsIn (fileIn input)) k) m ≡ cell (claimIn (fileIn input)) m
+
+-- the fault that r is answered for, in the order of the stages
+pub data InputFault (input : List ℕ) (r : Refusal) : Type 0 where
+  -- no whole table: 1
+  no-table : length input < tableBytes → r ≡ TableLength → InputFault input r
+  -- what Prepare refuses the table for
+  table-fault : tableBytes ≤ length input → length input ≤ longest
+      → Prepares (rawIn input) unprepared (answer.Refused r) unprepared → InputFault input r
+  -- the table being prepared, what Unpack refuses the file for, with room for its taps
+  file-fault : tableBytes ≤ length input → length input ≤ longest → (T : List ℕ)
+      → Prepares (rawIn input) unprepared answer.Accepted T
+      → unpackAnswer (fileIn input) (tapWords (batchesIn (fileIn input))) ≡ output.Refused r → InputFault input r
+  -- both being accepted, a claim that is another's: 11 with the last row, the constraint of the first word that is
+  -- unlike, and its place among the last four tests (document 02, U4)
+  other-claim : (k j : ℕ) → IsUnlike input k j
+      → r ≡ Constraint (record { 0 = traceRows k - 1 }) (49 + j) (372 * k - 3 + j) → InputFault input r
 
 -- ---- what the stages hand on: the tap words of an accepted file of k batches, k at most 16
 pub record Taps (w : List ℕ) : Type 0 where

@@ -81,11 +81,11 @@ use Rattle.refusals.proofs.Returned.{four-words, twelve-words}
 
 -- ---- numbers of a list, by computing
 
-abbrev among : ℕ → List ℕ → Bool
+abbrev pub among : ℕ → List ℕ → Bool
 among n [] = false
 among n (m ∷ ms) = eqb n m || among n ms
 
-one-of : (n : ℕ) (ns : List ℕ) → among n ns ≡ true → List·Memᴰ n ns
+pub one-of : (n : ℕ) (ns : List ℕ) → among n ns ≡ true → List·Memᴰ n ns
 one-of n [] e = absurd (true≢false (sym e))
 one-of n (m ∷ ms) e = go (λ h. one-of n ms h) (or-cases (eqb n m) (among n ms) e)
   where
@@ -111,9 +111,10 @@ table-causes ns a b c =
 -- ---- the orders of tests that an operation and its call share
 
 prepare-numbers : (raw old new : List ℕ) (a : Answer) → Prepares raw old a new → AnswerEnds (OneOf (numbers prepare)) a
-prepare-numbers =
+prepare-numbers raw old =
     let ns = numbers prepare in
-    ends.prepare-ends (OneOf ns) (one-of 1 ns refl) (one-of 8 ns refl) (λ i l. one-of 2 ns refl) (one-of 3 ns refl)
+    ends.prepare-ends (OneOf ns) raw old (λ n. one-of 1 ns refl) (λ n. one-of 8 ns refl) (λ i l. one-of 2 ns refl)
+    (one-of 3 ns refl)
 
 check-numbers : (T t claim : List ℕ) (c : ℕ) → AnswerEnds (OneOf (numbers check)) (checkTest T t claim c)
 check-numbers T t claim c =

@@ -2,6 +2,8 @@ pub mod Called
 pub mod Demand1
 pub mod Demand2
 pub mod Demand3
+pub mod ProgramDays
+pub mod Program
 pub mod OneNumber
 pub mod Request1
 pub mod Request2

@@ -9,8 +9,11 @@ use Prim.Native.Nat.{ℕ, _≤_, _<_}
 use native.Mathlib.Decide.{ℕ-discrete, decLe, decLt}
 use native.Mathlib.Omega.{arith}
 use borrow.Author.Tests.{eq-eqb, ne-eqb, eqb-true, le-leb, lt-leb}
+use lib.Count.{ones}
 use lib.Dec.{eqb, leb}
 use lib.ListN.{length}
+use Rattle.lists.specs.Lists.{tab, each, sum, first}
+use Rattle.words.specs.Words.{firstBad}
 use Rattle.numbers.specs.Numbers.{IsPermittedTo, IsPermitted, mostBatches, permitted, tapWordBatches, isTapLength}
 use Rattle.numbers.proofs.Laws.{permitted-to, permitted-sound, permitted-complete, tap-length-sound}
 use Rattle.numbers.proofs.Laws.{tap-length-complete}
@@ -25,15 +28,20 @@ use Rattle.refusals.specs.declared.DigestAnswer.the-variants.{Accepted, Refused
 use Rattle.refusals.proofs.Laws.{not-accepted, passed, both-accepted, digest-accepted, AnswerEnds, unless-ends}
 use Rattle.refusals.proofs.Laws.{one-cause}
 use Rattle.elements.specs.Words.{kindOf, wordAt}
+use Rattle.elements.specs.Elements.{elementAt}
 use Rattle.board.specs.Board.{mostFileBatches}
-use Rattle.shortboard.specs.ShortBoard.{shortCountWord, packShortTest, packedShort, packShortLeaves, shortCountIn}
-use Rattle.shortboard.specs.ShortBoard.{markIn, shortBatchesIn, shortClaimIn, shortTapsIn, shortCountTest}
+use Rattle.shortwords.specs.Short.{allBytesNeeded}
+use Rattle.shortreading.specs.Reading.{shortAt, nextWord, threeTest, shortTest, firstWord, shortsAt, shortsTest}
+use Rattle.shortboard.specs.ShortBoard.{shortCountWord, shortFileOf, packShortTest, packedShort, packShortLeaves}
+use Rattle.shortboard.specs.ShortBoard.{shortCountIn, markIn, shortBatchesIn, shortClaimIn, shortTapsIn, shortCountTest}
 use Rattle.shortboard.specs.ShortBoard.{unpackShortTest, unpackShortAnswer, unpackShortLeaves}
 use Rattle.shortboard.proofs.Answers.{count-accepted, count-complete, count-fault-refused, kind, value}
 use Rattle.tofull.specs.ToFull.{NoFullForm}
+use Rattle.knowndays.proofs.Files.{left, short-file}
 use Rattle.demands.specs.Stored.{mostStored, storedPackTest, storedPackLeaves, storedCountIn, storedSpareIn}
 use Rattle.demands.specs.Stored.{storedBatchesIn, storedTapsIn, storedCountTest, storedUnpackTest}
-use Rattle.demands.specs.Stored.{storedUnpackAnswer, storedUnpackLeaves}
+use Rattle.demands.specs.Stored.{storedUnpackAnswer, storedUnpackLeaves, storedClaim, storedTaps, storedFile}
+use Rattle.demands.specs.Stored.{Stored}
 
 -- ---- word 0: accepted exactly where it was the count word of a k permitted up to 1024
 stored-count : (w : ℕ) → storedCountTest w ≡ answer.Accepted
@@ -209,3 +217,18 @@ stored-writes taps claim old e =
     let same : packShortTest taps claim (length old) ≡ storedPackTest taps claim (length old) =
     rw (was, longer (length taps) was) refl in
     (same ∙ e, ap (λ a. leaves a (packedShort taps claim) old) same)
+
+-- ---- the stored file, by computing
+pub stored : Stored
+unfolding ones tab each sum first firstBad wordAt elementAt allBytesNeeded nextWord shortAt threeTest shortTest firstWord
+    shortsAt shortsTest shortFileOf packShortTest packedShort shortClaimIn storedPackTest storedPackLeaves storedBatchesIn
+    storedTapsIn storedCountTest storedUnpackTest storedUnpackAnswer storedUnpackLeaves storedClaim storedTaps storedFile
+stored = record {
+  before-U9 = record {
+    accepted = refl;
+    written = left (storedPackTest storedTaps storedClaim) 148 (packedShort storedTaps storedClaim) storedFile refl refl;
+    returned = refl;
+    read = left (storedUnpackTest storedFile) 28 (storedTapsIn storedFile) storedTaps refl refl;
+  };
+  since-U9 = short-file storedTaps storedClaim storedFile refl refl refl;
+}

@@ -1,6 +1,7 @@
 pub mod Demand1
 pub mod Demand2
 pub mod Demand3
+pub mod Program
 pub mod Request1
 pub mod Request2
 pub mod Request3

@@ -1,11 +1,11 @@
 -- The short edition as it was before U9 (document 02, U7): k in bits 0 to 15 of word 0, bits 16 to 28 zero, and at most
 -- 1024 batches. By this, short files that are already stored were written and read. The elements, the mark and the file
--- of k batches are those of the definitions of now, which U9 left as they were.
+-- of k batches are those of the definitions of now, which U9 left as they were. And one such file, byte by byte.
 -- Assumes nothing.
-use mathlib.Core.List.{List}
+use mathlib.Core.List.{List, [], _∷_, _++_}
 use Prim.Native.Nat.{ℕ, _/_, _%_, _^_}
 use lib.Dec.{eqb, leb}
-use lib.ListN.{length}
+use lib.ListN.{length, replicate}
 use Rattle.words.specs.Words.{firstBad, canonicalWords}
 use Rattle.numbers.specs.Numbers.{tapWords, permitted, isTapLength}
 use Rattle.refusals.specs.Refusals.{digest}
@@ -19,6 +19,7 @@ use Rattle.elements.specs.Words.{kindOf, payloadOf, wordAt}
 use Rattle.board.specs.Board.{elementCount}
 use Rattle.shortreading.specs.Reading.{firstWord, shortsAt, shortsTest}
 use Rattle.shortboard.specs.ShortBoard.{shortFileSize, packedShort, markIn, shortClaimIn}
+use Rattle.knowndays.specs.Files.{FileOf, ShortFile, times}
 
 -- the most batches of a short file
 abbrev pub mostStored : ℕ
@@ -72,3 +73,28 @@ storedUnpackAnswer file size = digestAfter (storedUnpackTest file size) (digest 
 
 unfoldable pub storedUnpackLeaves : List ℕ → List ℕ → List ℕ
 storedUnpackLeaves file old = leaves (storedUnpackTest file (length old)) (storedTapsIn file) old
+
+-- ---- a file of two batches as it was stored, each word with its low byte first
+
+unfoldable pub storedClaim : List ℕ
+storedClaim = 1 ∷ 2 ∷ 3 ∷ 1073741824 ∷ []
+
+unfoldable pub storedTaps : List ℕ
+storedTaps = (2305843095113039872 ∷ 4 ∷ 5 ∷ 6 ∷ []) ++ replicate 23 0 ++ (7 ∷ [])
+
+-- 20000002; C0000001, C0000002, C0000003, and 2^30 in three words; p − 1 in three, C0000004, ..
+unfoldable pub storedFile : List ℕ
+storedFile =
+    (0x02 ∷ 0x00 ∷ 0x00 ∷ 0x20 ∷ [])
+    ++ (0x01 ∷ 0x00 ∷ 0x00 ∷ 0xC0 ∷ 0x02 ∷ 0x00 ∷ 0x00 ∷ 0xC0 ∷ 0x03 ∷ 0x00 ∷ 0x00 ∷ 0xC0 ∷ [])
+    ++ (0x00 ∷ 0x00 ∷ 0x00 ∷ 0x40 ∷ 0x01 ∷ 0x00 ∷ 0x00 ∷ 0x80 ∷ 0x00 ∷ 0x00 ∷ 0x00 ∷ 0xC0 ∷ [])
+    ++ (0x02 ∷ 0x00 ∷ 0x00 ∷ 0x40 ∷ 0x50 ∷ 0x00 ∷ 0x00 ∷ 0x80 ∷ 0x00 ∷ 0x00 ∷ 0x00 ∷ 0xC0 ∷ [])
+    ++ (0x04 ∷ 0x00 ∷ 0x00 ∷ 0xC0 ∷ 0x05 ∷ 0x00 ∷ 0x00 ∷ 0xC0 ∷ 0x06 ∷ 0x00 ∷ 0x00 ∷ 0xC0 ∷ [])
+    ++ times 23 (0x00 ∷ 0x00 ∷ 0x00 ∷ 0xC0 ∷ [])
+    ++ (0x07 ∷ 0x00 ∷ 0x00 ∷ 0xC0 ∷ [])
+
+-- it was written and read so before U9, and still is
+pub record Stored : Type 0 where
+  pub before-U9 : FileOf storedPackTest storedPackLeaves storedUnpackAnswer storedUnpackLeaves storedTaps storedClaim
+      storedFile
+  pub since-U9 : ShortFile storedTaps storedClaim storedFile

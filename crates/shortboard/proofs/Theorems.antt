@@ -3,15 +3,15 @@
 -- Assumes nothing.
 use mathlib.Core.Path.{_≡_, refl, sym, ap, _∙_}
 use mathlib.Core.Bool.{false, true≢false}
-use mathlib.Core.List.{List, _∷_, _++_}
+use mathlib.Core.List.{List, _++_}
 use mathlib.Core.Logic.{_↔_}
 use Prim.Native.Nat.{ℕ, _+_, _*_, _^_, _≤_, _<_}
 use native.Mathlib.Decide.{decLt}
 use native.Mathlib.Omega.{arith}
 use borrow.Author.Tests.{eq-eqb, ne-eqb, eqb-true, eqb-false, le-leb, lt-leb, leb-true, leb-false}
 use lib.Dec.{eqb, leb}
-use lib.ListN.{length, length-append, replicate}
-use Rattle.lists.specs.Lists.{cell, each}
+use lib.ListN.{length, length-append}
+use Rattle.lists.specs.Lists.{cell}
 use Rattle.numbers.specs.Numbers.{tapWords, permitted, tapWordBatches}
 use Rattle.refusals.specs.Refusals.{told, digest, digestWords}
 use Rattle.refusals.specs.Answers.{after}
@@ -22,7 +22,7 @@ use Rattle.refusals.specs.declared.Answer.the-variants as answer
 use Rattle.refusals.specs.declared.Digest.{Digest}
 use Rattle.refusals.specs.declared.DigestAnswer.the-variants.{Accepted, Refused}
 use Rattle.refusals.proofs.Laws.{AnswerEnds, unless-ends, after-ends, refusal-ends, ends-refusal}
-use Rattle.elements.specs.Words.{kindOf, wordAt, AllBytes, bytesOf}
+use Rattle.elements.specs.Words.{kindOf, wordAt, AllBytes}
 use Rattle.elements.specs.Elements.{elementAt, IsElement}
 use Rattle.board.specs.Board.{elementCount, fileSize, spareIn, countTest, unpackTest, unpackAnswer}
 use Rattle.shortwords.specs.Short.{shortWords, spelled}
@@ -253,8 +253,3 @@ no-bit-lost x h = go (decLt x (2 ^ 30))
     go : Dec (x < 2 ^ 30) → spelled 0 (shortWords x) ≡ x
     go (yes l) = rw (one-word x l) (omega arith)
     go (no l) = rw (three-words x (omega arith)) (omega (arith, words-spell x h))
-
--- the short file of zeros: 20000001, then C0000000 twenty times
-pub zero-file : shortFileOf (replicate 16 0) (replicate 4 0) 1 ≡ bytesOf (0x20000001 ∷ replicate 20 0xC0000000)
-unfolding shortFileOf each
-zero-file = refl
