@@ -19,8 +19,8 @@
 extern "C" {
 #endif
 
-/* The number of this interface, raised where a call takes other parameters or lengths than it did. No linker notices
- * that, so a caller compares the number with the library's at its start, and makes no other call where they differ:
+/* The number of this interface, raised where a call takes other parameters, or another length for the same k, than it
+ * did. No linker notices that, so a caller compares the number with the library's at its start, and makes no other call where they differ:
  *
  *     if (lemoncolumn_interface() != LEMONCOLUMN_INTERFACE)
  *         return 1;

@@ -10,7 +10,7 @@ use lib.Dec.{leb}
 use lib.ListN.{length, take, drop}
 use Rattle.numbers.specs.Numbers.{mostBatches, isTapLength, tapWordBatches, traceWordBatches}
 use Rattle.refusals.specs.Refusals.{digest, state, pairWords}
-use Rattle.refusals.specs.Answers.{unless, after, Refuses, digestAfter, stateAfter, leaves}
+use Rattle.refusals.specs.Answers.{unless, after, IsRefusal, digestAfter, stateAfter, leaves}
 use Rattle.refusals.specs.declared.Refusal.{Refusal}
 use Rattle.refusals.specs.declared.Refusal.the-variants.{TapLength, DestinationLength, NoSuchTap}
 use Rattle.refusals.specs.declared.Answer.{Answer}
@@ -47,7 +47,7 @@ use Rattle.calls.specs.Calls.{editCall, unhashCallTest, UnhashCall, unpa
 use Rattle.calls.specs.Calls.{unpackShortCallTest, unpackShortCall}
 
 -- ---- tests t that can only refuse, as those of a call have become where its words find no room
-module _ (t called : Answer) (same : called ≡ t) (refuses : Refuses t) where
+module _ (t called : Answer) (same : called ≡ t) (refuses : IsRefusal t) where
   pub stopped : (d : Digest) (code : ℕ) (old : List ℕ) → code ≡ answerCode t
       → HandsOver (digestAfter called d) code old old
   stopped d code old e =
@@ -117,28 +117,28 @@ module _ (T t claim : List ℕ) (c n : ℕ) (new : List ℕ) (size : ℕ) where
   unfolding editCallTest editNoRoom
   edit-without e = rw (ne-eqb size 4 e)
 
-pub hash-no-room-refuses : (T : List ℕ) → Refuses (hashNoRoom T)
+pub hash-no-room-refuses : (T : List ℕ) → IsRefusal (hashNoRoom T)
 unfolding hashNoRoom
 hash-no-room-refuses T = go (tableTest T)
   where
-    go : (t : Answer) → Refuses (after t (answer.Refused DestinationLength))
+    go : (t : Answer) → IsRefusal (after t (answer.Refused DestinationLength))
     go (answer.Refused r) = (r, refl)
     go answer.Accepted = (DestinationLength, refl)
 
-pub chain-no-room-refuses : (T w : List ℕ) → Refuses (chainNoRoom T w)
+pub chain-no-room-refuses : (T w : List ℕ) → IsRefusal (chainNoRoom T w)
 unfolding chainNoRoom
 chain-no-room-refuses T w = go (tableTest T) (isTapLength mostBatches (length w))
   where
-    go : (t : Answer) (b : Bool) → Refuses (after t (unless b TapLength (answer.Refused DestinationLength)))
+    go : (t : Answer) (b : Bool) → IsRefusal (after t (unless b TapLength (answer.Refused DestinationLength)))
     go (answer.Refused r) b = (r, refl)
     go answer.Accepted true = (DestinationLength, refl)
     go answer.Accepted false = (TapLength, refl)
 
-pub edit-no-room-refuses : (T t : List ℕ) (c n : ℕ) → Refuses (editNoRoom T t c n)
+pub edit-no-room-refuses : (T t : List ℕ) (c n : ℕ) → IsRefusal (editNoRoom T t c n)
 unfolding editNoRoom
 edit-no-room-refuses T t c n = go (openingTest T t c) (leb n (3 * traceWordBatches (length t)))
   where
-    go : (a : Answer) (b : Bool) → Refuses (after a (unless b NoSuchTap (answer.Refused DestinationLength)))
+    go : (a : Answer) (b : Bool) → IsRefusal (after a (unless b NoSuchTap (answer.Refused DestinationLength)))
     go (answer.Refused r) b = (r, refl)
     go answer.Accepted true = (DestinationLength, refl)
     go answer.Accepted false = (NoSuchTap, refl)
@@ -163,14 +163,14 @@ module _ (file : List ℕ) (taps size : ℕ) where
   unpack-short-without e = rw (ne-eqb size 4 e, ne-eqb 0 (12 * shortBatchesIn file + 4) (λ q. omega arith))
 
 -- no list of taps has 0 words
-no-list : (t : Answer) (k : ℕ) → (t ≡ answer.Accepted → 0 ≡ 12 * k + 4) → Refuses t
+no-list : (t : Answer) (k : ℕ) → (t ≡ answer.Accepted → 0 ≡ 12 * k + 4) → IsRefusal t
 no-list (answer.Refused r) k e = (r, refl)
 no-list answer.Accepted k e = absurd (omega (arith, e refl))
 
-pub no-list-refuses : (file : List ℕ) → Refuses (unpackTest file 0)
+pub no-list-refuses : (file : List ℕ) → IsRefusal (unpackTest file 0)
 no-list-refuses file = no-list (unpackTest file 0) (batchesIn file) (λ e. unpack-accepted file 0 e .1)
 
-pub no-short-list-refuses : (file : List ℕ) → Refuses (unpackShortTest file 0)
+pub no-short-list-refuses : (file : List ℕ) → IsRefusal (unpackShortTest file 0)
 no-short-list-refuses file =
     no-list (unpackShortTest file 0) (shortBatchesIn file) (λ e. short.unpack-accepted file 0 e .1)
 

@@ -1,5 +1,6 @@
--- What each call from another language answers and leaves (document 01, "What is turned back", and document 02, for
--- Edit U1, for Unhash U5, for c U6, for the short edition U7, for the converters U8, for the order of the refusals).
+-- What each call from another language answers and leaves: the order of its refusals (document 01, "What is turned
+-- back"; document 02, U1 for Edit, U5 for Unhash, U6 for c, U7 and U9 for the short edition, U8 and U9 for the
+-- converters), and what its destinations hold afterwards.
 -- Four words that are returned, Hash's twelve (document 02, U3) and Unhash's eight go to a destination like any other;
 -- size is its length, and one other than 4, for Hash than 12, for Unhash than 8, is refused with 8, where 8 stands in
 -- the order. T is the lent table, w a list of taps, t a trace, c the number of batches that is lent with a claim, n the
@@ -41,7 +42,8 @@ use Rattle.tofull.specs.ToFull.{toFullTest, toFullLeaves}
 use Rattle.handover.specs.Code.{answerCode, testsCode}
 use Rattle.handover.specs.HandsOver.{HandsOver}
 
--- ---- the number of these calls: raised where a call that there was takes other parameters or lengths
+-- ---- the number of these calls: raised where a call that there was takes other parameters, or another length for the
+-- same k
 
 abbrev pub interface : ℕ
 interface = 3

@@ -17,7 +17,7 @@ use Rattle.numbers.specs.Numbers.{within}
 use Rattle.constraints.specs.Constraints.{entering, between, lastRow, claimRow, applies}
 use Rattle.constraints.specs.Constraints.{Family, family, families, columnOf, ofFamily}
 use Rattle.constraints.specs.Constraints.{atRow, atEntering, atMiddle, atJoint, atClaim}
-use Rattle.constraints.specs.Constraints.{zeros, initial, this, thisPlusInitial, forwardOfThis, next}
+use Rattle.constraints.specs.Constraints.{zeroState, initial, this, thisPlusInitial, forwardOfThis, next}
 use Rattle.constraints.specs.Constraints.{backOfNext, claimed}
 
 -- ---- a number between two, or not
@@ -50,7 +50,7 @@ outside b n e = go (decLt n 1) (decLt b n)
 
 -- ---- the family of constraint q
 module _ (q : ℕ) (answer : Family → Bool) where
-  pub asked-1 : 1 ≤ q → q ≤ 4 → ofFamily q answer families ≡ answer (family 1 4 (atRow 0) this zeros 8)
+  pub asked-1 : 1 ≤ q → q ≤ 4 → ofFamily q answer families ≡ answer (family 1 4 (atRow 0) this zeroState 8)
   unfolding ofFamily families
   asked-1 l h = rw (in-range 1 4 q l h)
 

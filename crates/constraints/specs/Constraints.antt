@@ -70,18 +70,18 @@ between a b n = leb a n && leb n b
 abbrev pub Rows : Type 0
 Rows = ℕ → ℕ → ℕ → ℕ → Bool
 
-abbrev pub State : Type 0
-State = List ℕ → List ℕ → List ℕ → ℕ → List ℕ
+abbrev pub StateAt : Type 0
+StateAt = List ℕ → List ℕ → List ℕ → ℕ → List ℕ
 
 pub record Family : Type 0 where
   pub first : ℕ
   pub last : ℕ
   pub rows : Rows
-  pub left : State
-  pub right : State
+  pub left : StateAt
+  pub right : StateAt
   pub column : ℕ
 
-abbrev pub family : ℕ → ℕ → Rows → State → State → ℕ → Family
+abbrev pub family : ℕ → ℕ → Rows → StateAt → StateAt → ℕ → Family
 family first last rows left right column =
     record { first = first; last = last; rows = rows; left = left; right = right; column = column }
 
@@ -104,34 +104,34 @@ abbrev pub atClaim : Rows
 atClaim k c i j = claimRow c i
 
 -- the states, at row i
-abbrev pub zeros : State
-zeros T t claim i = tab width (λ j. 0)
+abbrev pub zeroState : StateAt
+zeroState T t claim i = tab width (λ j. 0)
 
-abbrev pub initial : State
+abbrev pub initial : StateAt
 initial T t claim i = initialConstant T
 
-abbrev pub this : State
+abbrev pub this : StateAt
 this T t claim i = row t i
 
-abbrev pub thisPlusInitial : State
+abbrev pub thisPlusInitial : StateAt
 thisPlusInitial T t claim i = plus (row t i) (initialConstant T)
 
-abbrev pub forwardOfThis : State
+abbrev pub forwardOfThis : StateAt
 forwardOfThis T t claim i = forward T t i
 
-abbrev pub next : State
+abbrev pub next : StateAt
 next T t claim i = row t (i + 1)
 
-abbrev pub backOfNext : State
+abbrev pub backOfNext : StateAt
 backOfNext T t claim i = back T t (i + 1)
 
-abbrev pub claimed : State
+abbrev pub claimed : StateAt
 claimed T t claim i = claim
 
 -- document 01's list: numbers, rows, what is compared, the first column
 unfoldable pub families : List Family
 families =
-    family 1 4 (atRow 0) this zeros 8
+    family 1 4 (atRow 0) this zeroState 8
     ∷ family 5 8 atEntering backOfNext initial 8
     ∷ family 9 20 (atRow 0) thisPlusInitial backOfNext 0
     ∷ family 21 32 atMiddle forwardOfThis backOfNext 0

@@ -7,7 +7,7 @@ use native.Mathlib.Decide.{ℕ-discrete}
 use lib.ListN.{length}
 use Rattle.numbers.specs.Numbers.{tapWordBatches}
 use Rattle.refusals.specs.Refusals.{digest, digestWords}
-use Rattle.refusals.specs.Answers.{Refuses, digestAfter}
+use Rattle.refusals.specs.Answers.{IsRefusal, digestAfter}
 use Rattle.refusals.specs.declared.Answer.{Answer}
 use Rattle.refusals.specs.declared.Answer.the-variants as answer
 use Rattle.refusals.specs.declared.Digest.{Digest}
@@ -27,7 +27,7 @@ use Rattle.calls.proofs.Answers.{no-list-refuses, unpack-without, unpack-answer
 use Rattle.calls.proofs.Theorems as bits
 
 -- without room the tests can only refuse
-pub had-room : (size : ℕ) (tests none : Answer) → ((size ≡ 4 → ⊥) → tests ≡ none) → Refuses none
+pub had-room : (size : ℕ) (tests none : Answer) → ((size ≡ 4 → ⊥) → tests ≡ none) → IsRefusal none
     → tests ≡ answer.Accepted → size ≡ 4
 had-room size tests none without refuses e = go (ℕ-discrete size 4)
   where

@@ -14,7 +14,7 @@ use lib.ListN.{length}
 use Rattle.lists.proofs.Bools.{or-cases, and-both}
 use Rattle.numbers.specs.Numbers.{mostBatches, isTapLength, tapWordBatches, traceWordBatches}
 use Rattle.refusals.specs.Refusals.{told, digest, digestWords, state}
-use Rattle.refusals.specs.Answers.{Refuses as IsRefusal, digestAfter, stateAfter, testsAfter, leaves}
+use Rattle.refusals.specs.Answers.{IsRefusal, digestAfter, stateAfter, testsAfter, leaves}
 use Rattle.refusals.specs.declared.Refusal.{Refusal}
 use Rattle.refusals.specs.declared.Refusal.the-variants.{NoInverse, WrongInverse, TapLength}
 use Rattle.refusals.specs.declared.Refusal.the-variants.{DestinationLength}
@@ -276,7 +276,8 @@ module _ (code : ℕ) (ns : List ℕ) (Is : Answer → Type 0) (full : ℕ → T
   state-says t i s e = tests-says t i 0 (e ∙ state-none t s) (λ a. lit< tt)
 
 prepare-call : (raw table table′ : List ℕ) (code : ℕ) → PrepareCall raw table code table′
-    → Answered code (callNumbers prepare) (λ a. Prepares raw table a table′) (PrepareResult raw table table′) (table′ ≡ table)
+    → Answered code (callNumbers prepare) (λ a. Prepares raw table a table′)
+    (PrepareResult raw table table′) (table′ ≡ table)
 prepare-call raw table table′ code h =
     answer-says code (callNumbers prepare) (λ a. Prepares raw table a table′) (PrepareResult raw table table′)
     (table′ ≡ table) (h .answer) (h .prepares) (h .coded)
@@ -295,7 +296,9 @@ module _ (t : Answer) (d : Digest) (code : ℕ) (old new : List ℕ) (h : HandsO
 
 hash-call : (T output output′ : List ℕ) (w0 w1 w2 w3 w4 w5 w6 w7 code : ℕ)
     → HandsOverState (hashCall T (w0 ∷ w1 ∷ w2 ∷ w3 ∷ w4 ∷ w5 ∷ w6 ∷ w7 ∷ []) (length output)) code output output′
-    → Answered code (callNumbers hash) (λ a. hashCallTest T (w0 ∷ w1 ∷ w2 ∷ w3 ∷ w4 ∷ w5 ∷ w6 ∷ w7 ∷ []) (length output) ≡ a) (HashResult T (w0 ∷ w1 ∷ w2 ∷ w3 ∷ []) (w4 ∷ w5 ∷ w6 ∷ w7 ∷ []) output′)
+    → Answered code (callNumbers hash)
+    (λ a. hashCallTest T (w0 ∷ w1 ∷ w2 ∷ w3 ∷ w4 ∷ w5 ∷ w6 ∷ w7 ∷ []) (length output) ≡ a)
+    (HashResult T (w0 ∷ w1 ∷ w2 ∷ w3 ∷ []) (w4 ∷ w5 ∷ w6 ∷ w7 ∷ []) output′)
     (output′ ≡ output)
 unfolding hashCall
 hash-call T output output′ w0 w1 w2 w3 w4 w5 w6 w7 code h =
@@ -346,7 +349,8 @@ build-call-inputs T w rows size e =
     build-inputs T w rows (build-room T w size rows (eqb-true size 4 (d .0)) ∙ e)
 
 chain-call : (T w output output′ : List ℕ) (code : ℕ) → HandsOver (chainCall T w (length output)) code output output′
-    → Answered code (callNumbers chain) (λ a. chainCallTest T w (length output) ≡ a) (ChainResult T w output′) (output′ ≡ output)
+    → Answered code (callNumbers chain) (λ a. chainCallTest T w (length output) ≡ a)
+    (ChainResult T w output′) (output′ ≡ output)
 unfolding chainCall
 chain-call T w output output′ code h =
     let ns = callNumbers chain in
@@ -367,7 +371,8 @@ chain-call T w output output′ code h =
     (output-old t d code output output′ h)
 
 build-call : (T w rows rows′ output output′ : List ℕ) (code : ℕ) → BuildCall T w code rows rows′ output output′
-    → Answered code (callNumbers build) (λ a. buildCallTest T w (length rows) (length output) ≡ a) (BuildResult T w rows′ output′) ((rows′ ≡ rows) × (output′ ≡ output))
+    → Answered code (callNumbers build) (λ a. buildCallTest T w (length rows) (length output) ≡ a)
+    (BuildResult T w rows′ output′) ((rows′ ≡ rows) × (output′ ≡ output))
 unfolding buildCall
 build-call T w rows rows′ output output′ code h =
     let ns = callNumbers build in
@@ -400,7 +405,8 @@ module _ (T t : List ℕ) (c0 c1 c2 c3 c : ℕ) where
       (i .canonical) four e
 
   check-call : (code : ℕ) → code ≡ testsCode (checkAnswer T t (c0 ∷ c1 ∷ c2 ∷ c3 ∷ []) c)
-      → Answered code (callNumbers check) (λ a. checkTest T t (c0 ∷ c1 ∷ c2 ∷ c3 ∷ []) c ≡ a) (CheckResult T t (c0 ∷ c1 ∷ c2 ∷ c3 ∷ []) c) Unit
+      → Answered code (callNumbers check) (λ a. checkTest T t (c0 ∷ c1 ∷ c2 ∷ c3 ∷ []) c ≡ a)
+      (CheckResult T t (c0 ∷ c1 ∷ c2 ∷ c3 ∷ []) c) Unit
   unfolding checkAnswer
   check-call code h =
       let claim : List ℕ = c0 ∷ c1 ∷ c2 ∷ c3 ∷ [] in
@@ -421,7 +427,8 @@ module _ (T t : List ℕ) (c0 c1 c2 c3 c : ℕ) where
       (λ r. tt)
 
   read-off-call : (taps taps′ : List ℕ) (code : ℕ) → ReadOffCall T t (c0 ∷ c1 ∷ c2 ∷ c3 ∷ []) c code taps taps′
-      → Answered code (callNumbers read-off) (λ a. readOffTest T t (c0 ∷ c1 ∷ c2 ∷ c3 ∷ []) c (length taps) ≡ a) (ReadOffResult T t (c0 ∷ c1 ∷ c2 ∷ c3 ∷ []) c taps′) (taps′ ≡ taps)
+      → Answered code (callNumbers read-off) (λ a. readOffTest T t (c0 ∷ c1 ∷ c2 ∷ c3 ∷ []) c (length taps) ≡ a)
+      (ReadOffResult T t (c0 ∷ c1 ∷ c2 ∷ c3 ∷ []) c taps′) (taps′ ≡ taps)
   unfolding readOffAnswer readOffLeaves
   read-off-call taps taps′ code h =
       let claim : List ℕ = c0 ∷ c1 ∷ c2 ∷ c3 ∷ [] in
@@ -452,7 +459,9 @@ edit-call-inputs T t claim c n new size e = opened T t c (both-accepted (opening
 
 edit-call : (T t t′ output output′ : List ℕ) (c0 c1 c2 c3 c n w0 w1 w2 w3 code : ℕ)
     → EditCall T t (c0 ∷ c1 ∷ c2 ∷ c3 ∷ []) c n (w0 ∷ w1 ∷ w2 ∷ w3 ∷ []) code t′ output output′
-    → Answered code (callNumbers edit) (λ a. editCallTest T t (c0 ∷ c1 ∷ c2 ∷ c3 ∷ []) c n (w0 ∷ w1 ∷ w2 ∷ w3 ∷ []) (length output) ≡ a) (EditResult T t c n (w0 ∷ w1 ∷ w2 ∷ w3 ∷ []) t′ output′)
+    → Answered code (callNumbers edit)
+    (λ a. editCallTest T t (c0 ∷ c1 ∷ c2 ∷ c3 ∷ []) c n (w0 ∷ w1 ∷ w2 ∷ w3 ∷ []) (length output) ≡ a)
+    (EditResult T t c n (w0 ∷ w1 ∷ w2 ∷ w3 ∷ []) t′ output′)
     ((t′ ≡ t) × (output′ ≡ output))
 unfolding editCall
 edit-call T t t′ output output′ c0 c1 c2 c3 c n w0 w1 w2 w3 code h =
@@ -464,8 +473,8 @@ edit-call T t t′ output output′ c0 c1 c2 c3 c n w0 w1 w2 w3 code h =
     let first = rescue.firstTaps c w in
     let tested = editCallTest T t claim c n new (length output) in
     let d = digest (rescue.chain T first c) in
-    digest-says code ns (λ a. tested ≡ a) (EditResult T t c n new t′ output′) ((t′ ≡ t) × (output′ ≡ output)) tested refl d
-    (h .four .coded)
+    digest-says code ns (λ a. tested ≡ a) (EditResult T t c n new t′ output′) ((t′ ≡ t) × (output′ ≡ output)) tested refl
+    d (h .four .coded)
     (bits.edit-bits T t claim c refl n new (length output) refl)
     (ends.edit-call-ends (OneOf ns) (table-causes ns refl refl refl) T t claim c (λ n. one-of 7 ns refl)
     (λ k e p s o. one-of 17 ns refl) (λ i l. one-of 9 ns refl) (λ k s p i l. one-of 10 ns refl) n new
@@ -484,7 +493,8 @@ edit-call T t t′ output output′ c0 c1 c2 c3 c n w0 w1 w2 w3 code h =
 
 unhash-call : (T taps taps′ : List ℕ) (s0 s1 s2 s3 s4 s5 s6 s7 s8 s9 s10 s11 code : ℕ)
     → let s = s0 ∷ s1 ∷ s2 ∷ s3 ∷ s4 ∷ s5 ∷ s6 ∷ s7 ∷ s8 ∷ s9 ∷ s10 ∷ s11 ∷ [] in
-    UnhashCall T s code taps taps′ → Answered code (callNumbers unhash) (λ a. unhashCallTest T s (length taps) ≡ a) (UnhashResult T s taps′) (taps′ ≡ taps)
+    UnhashCall T s code taps taps′ → Answered code (callNumbers unhash) (λ a. unhashCallTest T s (length taps) ≡ a)
+    (UnhashResult T s taps′) (taps′ ≡ taps)
 unhash-call T taps taps′ s0 s1 s2 s3 s4 s5 s6 s7 s8 s9 s10 s11 code h =
     let s : List ℕ = s0 ∷ s1 ∷ s2 ∷ s3 ∷ s4 ∷ s5 ∷ s6 ∷ s7 ∷ s8 ∷ s9 ∷ s10 ∷ s11 ∷ [] in
     let ns = callNumbers unhash in
@@ -498,19 +508,21 @@ unhash-call T taps taps′ s0 s1 s2 s3 s4 s5 s6 s7 s8 s9 s10 s11 code h =
     (λ r. h .taps ∙ ap left (r .1))
 
 pack-call : (w file file′ : List ℕ) (c0 c1 c2 c3 code : ℕ) → PackCall w (c0 ∷ c1 ∷ c2 ∷ c3 ∷ []) file code file′
-    → Answered code (callNumbers pack) (λ a. packTest w (c0 ∷ c1 ∷ c2 ∷ c3 ∷ []) (length file) ≡ a) (PackResult w (c0 ∷ c1 ∷ c2 ∷ c3 ∷ []) file′) (file′ ≡ file)
+    → Answered code (callNumbers pack) (λ a. packTest w (c0 ∷ c1 ∷ c2 ∷ c3 ∷ []) (length file) ≡ a)
+    (PackResult w (c0 ∷ c1 ∷ c2 ∷ c3 ∷ []) file′) (file′ ≡ file)
 unfolding packLeaves
 pack-call w file file′ c0 c1 c2 c3 code h =
     let claim : List ℕ = c0 ∷ c1 ∷ c2 ∷ c3 ∷ [] in
-    answer-says code (callNumbers pack) (λ a. packTest w claim (length file) ≡ a) (PackResult w claim file′) (file′ ≡ file)
-    (packTest w claim (length file)) refl (h .coded)
+    answer-says code (callNumbers pack) (λ a. packTest w claim (length file) ≡ a) (PackResult w claim file′)
+    (file′ ≡ file) (packTest w claim (length file)) refl (h .coded)
     (bits.pack-bits w claim (length file) refl)
     (pack-numbers w claim (length file))
     (λ e. record { none = refl; file-is = h .file ∙ ap (λ x. leaves x (packed w claim) file) e })
     (λ r. h .file ∙ ap (λ x. leaves x (packed w claim) file) (r .1))
 
 unpack-call : (file taps taps′ claim claim′ : List ℕ) (code : ℕ) → UnpackCall file code taps taps′ claim claim′
-    → Answered code (callNumbers unpack) (λ a. unpackCallTest file (length taps) (length claim) ≡ a) (UnpackResult file taps′ claim′) ((taps′ ≡ taps) × (claim′ ≡ claim))
+    → Answered code (callNumbers unpack) (λ a. unpackCallTest file (length taps) (length claim) ≡ a)
+    (UnpackResult file taps′ claim′) ((taps′ ≡ taps) × (claim′ ≡ claim))
 unfolding unpackCall
 unpack-call file taps taps′ claim claim′ code h =
     let ns = callNumbers unpack in
@@ -530,13 +542,14 @@ unpack-call file taps taps′ claim claim′ code h =
 
 pack-short-call : (w file file′ : List ℕ) (c0 c1 c2 c3 code : ℕ)
     → PackShortCall w (c0 ∷ c1 ∷ c2 ∷ c3 ∷ []) file code file′
-    → Answered code (callNumbers pack-short) (λ a. packShortTest w (c0 ∷ c1 ∷ c2 ∷ c3 ∷ []) (length file) ≡ a) (PackShortResult w (c0 ∷ c1 ∷ c2 ∷ c3 ∷ []) file′) (file′ ≡ file)
+    → Answered code (callNumbers pack-short) (λ a. packShortTest w (c0 ∷ c1 ∷ c2 ∷ c3 ∷ []) (length file) ≡ a)
+    (PackShortResult w (c0 ∷ c1 ∷ c2 ∷ c3 ∷ []) file′) (file′ ≡ file)
 unfolding packShortLeaves
 pack-short-call w file file′ c0 c1 c2 c3 code h =
     let claim : List ℕ = c0 ∷ c1 ∷ c2 ∷ c3 ∷ [] in
     let left : Answer → List ℕ = λ x. leaves x (packedShort w claim) file in
-    answer-says code (callNumbers pack-short) (λ a. packShortTest w claim (length file) ≡ a) (PackShortResult w claim file′)
-    (file′ ≡ file) (packShortTest w claim (length file)) refl (h .coded)
+    answer-says code (callNumbers pack-short) (λ a. packShortTest w claim (length file) ≡ a)
+    (PackShortResult w claim file′) (file′ ≡ file) (packShortTest w claim (length file)) refl (h .coded)
     (bits.pack-short-bits w claim (length file) refl)
     (pack-short-numbers w claim (length file))
     (λ e. record { none = refl; file-is = h .file ∙ ap left e })
@@ -544,7 +557,8 @@ pack-short-call w file file′ c0 c1 c2 c3 code h =
 
 unpack-short-call : (file taps taps′ claim claim′ : List ℕ) (code : ℕ)
     → UnpackShortCall file code taps taps′ claim claim′
-    → Answered code (callNumbers unpack-short) (λ a. unpackShortCallTest file (length taps) (length claim) ≡ a) (UnpackShortResult file taps′ claim′)
+    → Answered code (callNumbers unpack-short) (λ a. unpackShortCallTest file (length taps) (length claim) ≡ a)
+    (UnpackShortResult file taps′ claim′)
     ((taps′ ≡ taps) × (claim′ ≡ claim))
 unfolding unpackShortCall
 unpack-short-call file taps taps′ claim claim′ code h =
@@ -565,7 +579,8 @@ unpack-short-call file taps taps′ claim claim′ code h =
     (λ r. (h .list ∙ ap left (r .1), output-old t d code claim claim′ (h .four) r))
 
 to-short-call : (file short short′ : List ℕ) (code : ℕ) → ToShortCall file short code short′
-    → Answered code (callNumbers to-short) (λ a. toShortTest file (length short) ≡ a) (ToShortResult file short′) (short′ ≡ short)
+    → Answered code (callNumbers to-short) (λ a. toShortTest file (length short) ≡ a)
+    (ToShortResult file short′) (short′ ≡ short)
 unfolding toShortLeaves
 to-short-call file short short′ code h =
     let left : Answer → List ℕ = λ x. leaves x (packedShort (tapsIn file) (claimIn file)) short in
@@ -577,12 +592,13 @@ to-short-call file short short′ code h =
     (λ r. h .short ∙ ap left (r .1))
 
 to-full-call : (short file file′ : List ℕ) (code : ℕ) → ToFullCall short file code file′
-    → Answered code (callNumbers to-full) (λ a. toFullTest short (length file) ≡ a) (ToFullResult short file′) (file′ ≡ file)
+    → Answered code (callNumbers to-full) (λ a. toFullTest short (length file) ≡ a)
+    (ToFullResult short file′) (file′ ≡ file)
 unfolding toFullLeaves
 to-full-call short file file′ code h =
     let left : Answer → List ℕ = λ x. leaves x (packed (shortTapsIn short) (shortClaimIn short)) file in
-    answer-says code (callNumbers to-full) (λ a. toFullTest short (length file) ≡ a) (ToFullResult short file′) (file′ ≡ file)
-    (toFullTest short (length file)) refl (h .coded)
+    answer-says code (callNumbers to-full) (λ a. toFullTest short (length file) ≡ a) (ToFullResult short file′)
+    (file′ ≡ file) (toFullTest short (length file)) refl (h .coded)
     (bits.to-full-bits short (length file))
     (to-full-numbers short (length file))
     (λ e. record { none = refl; file-is = h .file ∙ ap left e })

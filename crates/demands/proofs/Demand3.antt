@@ -95,8 +95,8 @@ module _ (T t claim : List ℕ) (c k : ℕ) (table : IsTable T) (permitted : IsP
     says-failing i q n e =
         let r = Constraint (record { 0 = i }) q n in
         let refused = tests-refused (checkTest T t claim c) _ r e in
-        rw (coded ∙ ap testsCode e)
-        (says (told r) (ends-refusal RefusalInBits (checkTest T t claim c) r (check-bits T t claim c claim-size) refused))
+        let inside = ends-refusal RefusalInBits (checkTest T t claim c) r (check-bits T t claim c claim-size) refused in
+        rw (coded ∙ ap testsCode e) (says (told r) inside)
 
     call-decided : Says code (indexed 0 (372 * k))
         ⊎ ((i : ℕ) × (q : ℕ) × (n : ℕ) × Says code (told (Constraint (record { 0 = i }) q n))

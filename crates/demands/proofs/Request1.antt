@@ -383,7 +383,8 @@ module _ (T t claim : List ℕ) (c n : ℕ) (new t′ output output′ : List �
           ↔ ((length output ≡ 4) × (AllCanonical claim × AllCanonical t × IsFirstBad new i))
       roomed = (
         λ h.
-            let a = reached 6 full (fromClaim T t claim c n new) (never-by 6 DestinationLength _ refl) (TapWord i) refl h in
+            let a = reached 6 full (fromClaim T t claim c n new) (never-by 6 DestinationLength _ refl) (TapWord i) refl
+            h in
             (room (ℕ-discrete (length output) 4) (a .0), six T t claim c n new i .0 (a .1)),
         λ h. inr (λ q o. o .0 (h .0), six T t claim c n new i .1 (h .1)),
       )

@@ -65,8 +65,8 @@ use Rattle.calls.specs.Calls.{PrepareCall, hashCallTest, hashCall, chainCallTes
 use Rattle.calls.specs.Calls.{BuildCall, ReadOffCall, editCallTest, editCall, EditCall, unhashCallTest, UnhashCall}
 use Rattle.calls.specs.Calls.{PackCall, unpackCallTest, unpackCall, UnpackCall, PackShortCall}
 use Rattle.calls.proofs.Theorems as bits
-use Rattle.demands.specs.TurnedBack.{tableCauses, rawCauses, prepareCauses, hashCauses, hashCallCauses, NoTapLength}
-use Rattle.demands.specs.TurnedBack.{chainCauses, writtenCauses, NoTraceLength, openingCauses, constraintCauses}
+use Rattle.demands.specs.TurnedBack.{tableCauses, rawCauses, prepareCauses, hashCauses, hashCallCauses}
+use Rattle.demands.specs.TurnedBack.{NoTapLength, chainCauses, writtenCauses, NoTraceLength, openingCauses, constraintCauses}
 use Rattle.demands.specs.TurnedBack.{checkCauses, readOffCauses, editCauses, editCallCauses, NoTwoTaps}
 use Rattle.demands.specs.TurnedBack.{unhashCauses, unhashCallCauses, fileCauses, packCauses, packShortCauses}
 use Rattle.demands.specs.TurnedBack.{RowsFit, countCauses, elementCauses, elementsCauses, TapsFit, unpackCauses}
@@ -239,9 +239,13 @@ module _ (T t claim : List ℕ) (c : ℕ) where
   constraints : DecidedBy (constraintCauses T t claim c) (constraintTest T t claim c k)
   constraints = decided (constraintCauses T t claim c) (constraintTest T t claim c k) λ r. (
     λ e.
-        let f = else-first-failing T t claim k c (λ a. not-accepted r (sym e ∙ a)) in
-        (f .0, f .1, f .2, refused-first-failing T t claim k c (f .0) (f .1) (f .2) (f .3),
-        refused-same (sym e ∙ f .3)),
+        let f = else-first-failing T t claim k c (λ a. not-accepted r (sym e ∙ a)) in (
+          f .0,
+          f .1,
+          f .2,
+          refused-first-failing T t claim k c (f .0) (f .1) (f .2) (f .3),
+          refused-same (sym e ∙ f .3),
+        ),
     λ f. first-failing-refused T t claim k c (f .0) (f .1) (f .2) (f .3) ∙ ap Refused (sym (f .4)),
   )
 
@@ -303,7 +307,8 @@ module _ (T s : List ℕ) (twelve : length s ≡ 12) where
       one (endsInZeros (inputBefore T s)) NoPair (NoTwoTaps T s)
       (λ z w eight h.
       let refused : unhashTest T s ≡ Refused NoPair = rw (table, good, z) in
-      not-accepted NoPair (sym refused ∙ pair-accepted (unhashTest T s) _ (pair w) (hash-answered T s twelve w eight h) .0))
+      let answered = pair-accepted (unhashTest T s) _ (pair w) (hash-answered T s twelve w eight h) in
+      not-accepted NoPair (sym refused ∙ answered .0))
       (λ z none.
       let accepted : unhashTest T s ≡ Accepted = rw (table, good, z) in
       ⊎-elim (λ (w : (w : List ℕ) × (length w ≡ 8) × EndsIn T w s). none (w .0) (w .1) (w .2))
@@ -533,8 +538,8 @@ unpack-word : (file taps taps′ claim claim′ : List ℕ) (code : ℕ) → Unp
 unfolding unpackCall
 unpack-word file taps taps′ claim claim′ code h =
     let size = length claim in
-    digest-said (unpackCauses file ((size ≡ 4) × TapsFit file (length taps))) (unpackCallTest file (length taps) size) code
-    (unpack-call file (length taps) size) (bits.unpack-bits file (length taps) size) _ (h .four .coded)
+    digest-said (unpackCauses file ((size ≡ 4) × TapsFit file (length taps))) (unpackCallTest file (length taps) size)
+    code (unpack-call file (length taps) size) (bits.unpack-bits file (length taps) size) _ (h .four .coded)
 
 -- ---- all
 pub turned-back : TurnedBack

@@ -299,41 +299,56 @@ pub record Demand1 : Type 0 where
       → toFullLeaves short old ≡ old
   -- ---- the calls: whatever words and lengths are lent, with `′` on what a buffer holds afterwards
   pub prepare-call : (raw table table′ : List ℕ) (code : ℕ) → PrepareCall raw table code table′
-      → Answered code (callNumbers prepare) (λ a. Prepares raw table a table′) (PrepareResult raw table table′) (table′ ≡ table)
+      → Answered code (callNumbers prepare) (λ a. Prepares raw table a table′)
+      (PrepareResult raw table table′) (table′ ≡ table)
   pub hash-call : (T output output′ : List ℕ) (w0 w1 w2 w3 w4 w5 w6 w7 code : ℕ)
       → HandsOverState (hashCall T (w0 ∷ w1 ∷ w2 ∷ w3 ∷ w4 ∷ w5 ∷ w6 ∷ w7 ∷ []) (length output)) code output output′
-      → Answered code (callNumbers hash) (λ a. hashCallTest T (w0 ∷ w1 ∷ w2 ∷ w3 ∷ w4 ∷ w5 ∷ w6 ∷ w7 ∷ []) (length output) ≡ a)
+      → Answered code (callNumbers hash)
+      (λ a. hashCallTest T (w0 ∷ w1 ∷ w2 ∷ w3 ∷ w4 ∷ w5 ∷ w6 ∷ w7 ∷ []) (length output) ≡ a)
       (HashResult T (w0 ∷ w1 ∷ w2 ∷ w3 ∷ []) (w4 ∷ w5 ∷ w6 ∷ w7 ∷ []) output′) (output′ ≡ output)
   pub chain-call : (T w output output′ : List ℕ) (code : ℕ)
       → HandsOver (chainCall T w (length output)) code output output′
-      → Answered code (callNumbers chain) (λ a. chainCallTest T w (length output) ≡ a) (ChainResult T w output′) (output′ ≡ output)
+      → Answered code (callNumbers chain) (λ a. chainCallTest T w (length output) ≡ a)
+      (ChainResult T w output′) (output′ ≡ output)
   pub build-call : (T w rows rows′ output output′ : List ℕ) (code : ℕ) → BuildCall T w code rows rows′ output output′
-      → Answered code (callNumbers build) (λ a. buildCallTest T w (length rows) (length output) ≡ a) (BuildResult T w rows′ output′) ((rows′ ≡ rows) × (output′ ≡ output))
+      → Answered code (callNumbers build) (λ a. buildCallTest T w (length rows) (length output) ≡ a)
+      (BuildResult T w rows′ output′) ((rows′ ≡ rows) × (output′ ≡ output))
   pub check-call : (T t : List ℕ) (c0 c1 c2 c3 c code : ℕ)
       → code ≡ testsCode (checkAnswer T t (c0 ∷ c1 ∷ c2 ∷ c3 ∷ []) c)
-      → Answered code (callNumbers check) (λ a. checkTest T t (c0 ∷ c1 ∷ c2 ∷ c3 ∷ []) c ≡ a) (CheckResult T t (c0 ∷ c1 ∷ c2 ∷ c3 ∷ []) c) Unit
+      → Answered code (callNumbers check) (λ a. checkTest T t (c0 ∷ c1 ∷ c2 ∷ c3 ∷ []) c ≡ a)
+      (CheckResult T t (c0 ∷ c1 ∷ c2 ∷ c3 ∷ []) c) Unit
   pub read-off-call : (T t taps taps′ : List ℕ) (c0 c1 c2 c3 c code : ℕ)
       → ReadOffCall T t (c0 ∷ c1 ∷ c2 ∷ c3 ∷ []) c code taps taps′
-      → Answered code (callNumbers read-off) (λ a. readOffTest T t (c0 ∷ c1 ∷ c2 ∷ c3 ∷ []) c (length taps) ≡ a) (ReadOffResult T t (c0 ∷ c1 ∷ c2 ∷ c3 ∷ []) c taps′) (taps′ ≡ taps)
+      → Answered code (callNumbers read-off) (λ a. readOffTest T t (c0 ∷ c1 ∷ c2 ∷ c3 ∷ []) c (length taps) ≡ a)
+      (ReadOffResult T t (c0 ∷ c1 ∷ c2 ∷ c3 ∷ []) c taps′) (taps′ ≡ taps)
   pub edit-call : (T t t′ output output′ : List ℕ) (c0 c1 c2 c3 c n w0 w1 w2 w3 code : ℕ)
       → EditCall T t (c0 ∷ c1 ∷ c2 ∷ c3 ∷ []) c n (w0 ∷ w1 ∷ w2 ∷ w3 ∷ []) code t′ output output′
-      → Answered code (callNumbers edit) (λ a. editCallTest T t (c0 ∷ c1 ∷ c2 ∷ c3 ∷ []) c n (w0 ∷ w1 ∷ w2 ∷ w3 ∷ []) (length output) ≡ a) (EditResult T t c n (w0 ∷ w1 ∷ w2 ∷ w3 ∷ []) t′ output′)
+      → Answered code (callNumbers edit)
+      (λ a. editCallTest T t (c0 ∷ c1 ∷ c2 ∷ c3 ∷ []) c n (w0 ∷ w1 ∷ w2 ∷ w3 ∷ []) (length output) ≡ a)
+      (EditResult T t c n (w0 ∷ w1 ∷ w2 ∷ w3 ∷ []) t′ output′)
       ((t′ ≡ t) × (output′ ≡ output))
   pub unhash-call : (T taps taps′ : List ℕ) (s0 s1 s2 s3 s4 s5 s6 s7 s8 s9 s10 s11 code : ℕ)
       → let s = s0 ∷ s1 ∷ s2 ∷ s3 ∷ s4 ∷ s5 ∷ s6 ∷ s7 ∷ s8 ∷ s9 ∷ s10 ∷ s11 ∷ [] in
-      UnhashCall T s code taps taps′ → Answered code (callNumbers unhash) (λ a. unhashCallTest T s (length taps) ≡ a) (UnhashResult T s taps′) (taps′ ≡ taps)
+      UnhashCall T s code taps taps′ → Answered code (callNumbers unhash) (λ a. unhashCallTest T s (length taps) ≡ a)
+      (UnhashResult T s taps′) (taps′ ≡ taps)
   pub pack-call : (w file file′ : List ℕ) (c0 c1 c2 c3 code : ℕ) → PackCall w (c0 ∷ c1 ∷ c2 ∷ c3 ∷ []) file code file′
-      → Answered code (callNumbers pack) (λ a. packTest w (c0 ∷ c1 ∷ c2 ∷ c3 ∷ []) (length file) ≡ a) (PackResult w (c0 ∷ c1 ∷ c2 ∷ c3 ∷ []) file′) (file′ ≡ file)
+      → Answered code (callNumbers pack) (λ a. packTest w (c0 ∷ c1 ∷ c2 ∷ c3 ∷ []) (length file) ≡ a)
+      (PackResult w (c0 ∷ c1 ∷ c2 ∷ c3 ∷ []) file′) (file′ ≡ file)
   pub unpack-call : (file taps taps′ claim claim′ : List ℕ) (code : ℕ) → UnpackCall file code taps taps′ claim claim′
-      → Answered code (callNumbers unpack) (λ a. unpackCallTest file (length taps) (length claim) ≡ a) (UnpackResult file taps′ claim′) ((taps′ ≡ taps) × (claim′ ≡ claim))
+      → Answered code (callNumbers unpack) (λ a. unpackCallTest file (length taps) (length claim) ≡ a)
+      (UnpackResult file taps′ claim′) ((taps′ ≡ taps) × (claim′ ≡ claim))
   pub pack-short-call : (w file file′ : List ℕ) (c0 c1 c2 c3 code : ℕ)
       → PackShortCall w (c0 ∷ c1 ∷ c2 ∷ c3 ∷ []) file code file′
-      → Answered code (callNumbers pack-short) (λ a. packShortTest w (c0 ∷ c1 ∷ c2 ∷ c3 ∷ []) (length file) ≡ a) (PackShortResult w (c0 ∷ c1 ∷ c2 ∷ c3 ∷ []) file′) (file′ ≡ file)
+      → Answered code (callNumbers pack-short) (λ a. packShortTest w (c0 ∷ c1 ∷ c2 ∷ c3 ∷ []) (length file) ≡ a)
+      (PackShortResult w (c0 ∷ c1 ∷ c2 ∷ c3 ∷ []) file′) (file′ ≡ file)
   pub unpack-short-call : (file taps taps′ claim claim′ : List ℕ) (code : ℕ)
       → UnpackShortCall file code taps taps′ claim claim′
-      → Answered code (callNumbers unpack-short) (λ a. unpackShortCallTest file (length taps) (length claim) ≡ a) (UnpackShortResult file taps′ claim′)
+      → Answered code (callNumbers unpack-short) (λ a. unpackShortCallTest file (length taps) (length claim) ≡ a)
+      (UnpackShortResult file taps′ claim′)
       ((taps′ ≡ taps) × (claim′ ≡ claim))
   pub to-short-call : (file short short′ : List ℕ) (code : ℕ) → ToShortCall file short code short′
-      → Answered code (callNumbers to-short) (λ a. toShortTest file (length short) ≡ a) (ToShortResult file short′) (short′ ≡ short)
+      → Answered code (callNumbers to-short) (λ a. toShortTest file (length short) ≡ a)
+      (ToShortResult file short′) (short′ ≡ short)
   pub to-full-call : (short file file′ : List ℕ) (code : ℕ) → ToFullCall short file code file′
-      → Answered code (callNumbers to-full) (λ a. toFullTest short (length file) ≡ a) (ToFullResult short file′) (file′ ≡ file)
+      → Answered code (callNumbers to-full) (λ a. toFullTest short (length file) ≡ a)
+      (ToFullResult short file′) (file′ ≡ file)

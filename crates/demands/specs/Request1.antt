@@ -94,8 +94,8 @@ pub record Request1 : Type 0 where
   -- a refusal alters nothing
   pub keeps : (T t claim : List ℕ) (c n : ℕ) (new : List ℕ) (r : Refusal) → editAnswer T t claim c n new ≡ Refused r
       → editLeaves T t claim c n new ≡ t
-  -- ---- from another language, with `′` on what a buffer holds afterwards: a call that returns 0 had room for the output,
-  -- and is such an edit, of the one list
+  -- ---- from another language, with `′` on what a buffer holds afterwards: a call that returns 0 had room for the
+  -- output, and is such an edit, of the one list
   pub call-accepts-exactly : (T t claim : List ℕ) (c n : ℕ) (new t′ output output′ : List ℕ) (code : ℕ)
       → length claim ≡ 4 → length new ≡ 4 → EditCall T t claim c n new code t′ output output′
       → (code ≡ 0)

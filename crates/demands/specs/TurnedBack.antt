@@ -91,8 +91,8 @@ writtenCauses T w Room =
     (inOrder (by DestinationLength (Room → ⊥))
     (byIndex TapWord (IsFirstBad w))))
 
--- ---- Check: 1, 2, 4, 7, 17, 9, 10, 11; Read-off: 1, 2, 4, 7, 17, 8, 9, 10, 11; Edit: 1, 2, 4, 7, 17, 15, 9, 10, 6, 11,
--- from another language 1, 2, 4, 7, 17, 15, 8, 9, 10, 6, 11
+-- ---- Check: 1, 2, 4, 7, 17, 9, 10, 11; Read-off: 1, 2, 4, 7, 17, 8, 9, 10, 11; and Edit: 1, 2, 4, 7, 17, 15, 9, 10,
+-- 6, 11, from another language 1, 2, 4, 7, 17, 15, 8, 9, 10, 6, 11
 abbrev pub NoTraceLength : List ℕ → Type 0
 NoTraceLength t = (k : ℕ) → IsPermitted k → length t ≡ traceWords k → ⊥
 
@@ -215,7 +215,7 @@ pub record SaidFor (causes : Refusal → Type 0) (code : ℕ) : Type 0 where
   pub refuses-exactly : (r : Refusal) → Says code (told r) ↔ causes r
   pub accepts-exactly : (numberIn code ≡ 0) ↔ ((r : Refusal) → causes r → ⊥)
 
--- ---- each, for whatever is lent: what an operation's tests answer, which it answers, and what the word of its call says
+-- ---- each, for whatever is lent: what an operation's tests answer, which it answers too, and what its call's word says
 pub record TurnedBack : Type 0 where
   pub table : (T : List ℕ) → DecidedBy (tableCauses T) (tableTest T)
   pub prepare : (raw old new : List ℕ) (a : Answer) → Prepares raw old a new

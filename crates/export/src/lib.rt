@@ -257,8 +257,9 @@ pub extern "C" fn lemoncolumn_to_short(file: &[u8], short: &mut [u8]) -> u64
     handover::answer_code(toshort::to_short(file, short))
 }
 
-// From the short edition to the full one: 12 (below 4), word 0's 13, 19, 14, then element by element 12 where the input
-// ends, 13, 14, 18, and 12 for bytes after the last, and last 8.
+// From the short edition to the full one: 12 (below 4), word 0's 13, 19, 14, right after it 14 for more batches than a
+// full file has, then element by element 12 where the input ends, 13, 14, 18, and 12 for bytes after the last, and last
+// 8.
 #[no_mangle]
 pub extern "C" fn lemoncolumn_to_full(short: &[u8], file: &mut [u8]) -> u64
     ensures { λ r. ⌜ ToFullCall (now (short .entry)) (now (file .entry)) r (now (file .exit)) ⌝ }

@@ -43,7 +43,7 @@ use Rattle.constraints.specs.ReadOff.{readInput, readWord, readTaps}
 use Rattle.checker.specs.Answers.{openingTest, traceTest, checkTest, checkAnswer}
 use Rattle.readoff.specs.Answers.{readOffTest, readOffAnswer, readOffLeaves}
 use Rattle.readoff.proofs.Theorems.{same-for}
-use Rattle.knowndays.specs.Days.{shifted, Z, A, S, zeroTrace, altered, tapped, zeros, KnownDays}
+use Rattle.knowndays.specs.Days.{shifted, Z, A, S, zeroTrace, withOne, tapped, fourZeros, KnownDays}
 use Rattle.knowndays.proofs.Shift.{final-turned}
 use Rattle.knowndays.proofs.Tables.{accepted-Z, accepted-A, accepted-S}
 
@@ -93,8 +93,8 @@ small (suc (suc (suc zero))) h = omega arith
 small (suc (suc (suc (suc i)))) h = absurd (omega arith)
 
 hash-S : (a : List ℕ) → length a ≡ 4 → AllCanonical a
-    → hashAnswer S (a ++ second) ≡ final.Accepted (state (second ++ zeros ++ a))
-unfolding hashAnswer zeros
+    → hashAnswer S (a ++ second) ≡ final.Accepted (state (second ++ fourZeros ++ a))
+unfolding hashAnswer fourZeros
 hash-S a size h =
     ap (λ t. stateAfter t (state (finalState S (input (take 4 w) (drop 4 w)))))
     (hash-passes S w (record { table = test-sound S accepted-S; canonical = append-canonical a second h small }))
@@ -111,51 +111,51 @@ hash-S a size h =
     second-tap = record { size = refl; canonical = small }
 
 -- ---- the tapped trace
-tapped-accepted : checkAnswer Z tapped zeros 1 ≡ counted.Accepted 372
+tapped-accepted : checkAnswer Z tapped fourZeros 1 ≡ counted.Accepted 372
 unfolding ones tab sum first firstBad timesColumn times matrixOf inverseOf constant initialConstant firstStepConstant
     secondStepConstant cubes plus mix secondStep row plusFirst forward minus backStep back families ofFamily applies
-    holds rowTests testsFrom tests walk constraintTest shifted Z tapped zeros
-tapped-accepted = judges Z accepted-Z tapped zeros 1 refl
+    holds rowTests testsFrom tests walk constraintTest shifted Z tapped fourZeros
+tapped-accepted = judges Z accepted-Z tapped fourZeros 1 refl
 
-tapped-read-off : readOffAnswer Z tapped zeros 1 16 ≡ counted.Accepted 372
+tapped-read-off : readOffAnswer Z tapped fourZeros 1 16 ≡ counted.Accepted 372
 unfolding tab tapped
-tapped-read-off = same-for Z tapped zeros 1 1 refl ∙ tapped-accepted
+tapped-read-off = same-for Z tapped fourZeros 1 1 refl ∙ tapped-accepted
 
 tapped-tap : tap (readTaps Z tapped 1) 2 ≡ 0 ∷ 1 ∷ 0 ∷ 0 ∷ []
 unfolding tab sum timesColumn times inverseOf constant initialConstant firstStepConstant cubes tap row minus backStep
     back readInput readWord readTaps shifted Z tapped
 tapped-tap = refl
 
-tapped-read : (old : List ℕ) → length old ≡ 16 → tap (readOffLeaves Z tapped zeros 1 old) 2 ≡ 0 ∷ 1 ∷ 0 ∷ 0 ∷ []
+tapped-read : (old : List ℕ) → length old ≡ 16 → tap (readOffLeaves Z tapped fourZeros 1 old) 2 ≡ 0 ∷ 1 ∷ 0 ∷ 0 ∷ []
 unfolding tab tapped readOffAnswer readOffLeaves
 tapped-read old e =
     ap (λ x. tap (leaves x (readTaps Z tapped 1) old) 2)
-    (tests-accepted (readOffTest Z tapped zeros 1 (length old)) _ 372 answered .0)
+    (tests-accepted (readOffTest Z tapped fourZeros 1 (length old)) _ 372 answered .0)
     ∙ tapped-tap
   where
-    answered : readOffAnswer Z tapped zeros 1 (length old) ≡ counted.Accepted 372
-    answered = ap (readOffAnswer Z tapped zeros 1) e ∙ tapped-read-off
+    answered : readOffAnswer Z tapped fourZeros 1 (length old) ≡ counted.Accepted 372
+    answered = ap (readOffAnswer Z tapped fourZeros 1) e ∙ tapped-read-off
 
 pub known-days : KnownDays
 unfolding ones tab sum first firstBad halving power root timesColumn times matrixOf inverseOf constant initialConstant
     firstStepConstant secondStepConstant roots cubes plus mix firstStep secondStep stateAt finalState input hash tap
     outputAt chain row plusFirst forward minus backStep back families ofFamily applies holds rowTests testsFrom tests
-    walk constraintTest placeOf shifted Z A zeroTrace altered zeros
+    walk constraintTest placeOf shifted Z A zeroTrace withOne fourZeros
 known-days = record {
   product-of-negatives = refl;
   product-of-powers = refl;
   root-of-0 = refl;
   root-of-8 = refl;
   root-of-negative = refl;
-  hash-Z = hashed Z accepted-Z ((8 ∷ 27 ∷ 1 ∷ 0 ∷ []) ++ zeros) refl;
-  hash-A = hashed A accepted-A (zeros ++ zeros) refl;
+  hash-Z = hashed Z accepted-Z ((8 ∷ 27 ∷ 1 ∷ 0 ∷ []) ++ fourZeros) refl;
+  hash-A = hashed A accepted-A (fourZeros ++ fourZeros) refl;
   hash-S = hash-S;
   chain-A = chained A accepted-A (replicate 16 0) refl;
-  zero-accepted = judges Z accepted-Z zeroTrace zeros 1 refl;
+  zero-accepted = judges Z accepted-Z zeroTrace fourZeros 1 refl;
   zero-claim = judges Z accepted-Z zeroTrace (1 ∷ 0 ∷ 0 ∷ 0 ∷ []) 1 refl;
-  altered-0-8 = judges Z accepted-Z (altered 0 8) zeros 1 refl;
-  altered-31-5 = judges Z accepted-Z (altered 31 5) zeros 1 refl;
-  altered-11-5 = judges Z accepted-Z (altered 11 5) zeros 1 refl;
+  one-at-0-8 = judges Z accepted-Z (withOne 0 8) fourZeros 1 refl;
+  one-at-31-5 = judges Z accepted-Z (withOne 31 5) fourZeros 1 refl;
+  one-at-11-5 = judges Z accepted-Z (withOne 11 5) fourZeros 1 refl;
   places = (refl, refl, refl, refl);
   tapped-accepted = tapped-accepted;
   tapped-read-off = tapped-read-off;

@@ -74,15 +74,15 @@ unfoldable pub zeroTrace : List ℕ
 zeroTrace = replicate 384 0
 
 -- the zero trace with the cell at row and column set to 1
-unfoldable pub altered : ℕ → ℕ → List ℕ
-altered row column = set zeroTrace (width * row + column) 1
+unfoldable pub withOne : ℕ → ℕ → List ℕ
+withOne row column = set zeroTrace (width * row + column) 1
 
 -- column 5 of rows 11 to 20 all 1
 unfoldable pub tapped : List ℕ
 tapped = tab 384 (λ n. choose (eqb (n % width) 5) (choose (eqb ((n / width - 1) / 10) 1) 1 0) 0)
 
-unfoldable pub zeros : List ℕ
-zeros = replicate 4 0
+unfoldable pub fourZeros : List ℕ
+fourZeros = replicate 4 0
 
 -- the list, over what the operations answer. The counts of refusal 11 are the failing tests' places: 362 stands in
 -- document 02, U4, the others follow from document 01's order
@@ -93,21 +93,23 @@ pub record KnownDays : Type 0 where
   pub root-of-8 : root 8 ≡ 2
   pub root-of-negative : root (P - 1) ≡ P - 1
   -- Hash, all twelve cells (document 02, U3)
-  pub hash-Z : hashAnswer Z ((8 ∷ 27 ∷ 1 ∷ 0 ∷ []) ++ zeros)
-      ≡ final.Accepted (state ((8 ∷ 27 ∷ 1 ∷ 0 ∷ []) ++ zeros ++ zeros))
-  pub hash-A : hashAnswer A (zeros ++ zeros) ≡ final.Accepted (state ((1 ∷ 0 ∷ 0 ∷ 0 ∷ []) ++ zeros ++ zeros))
+  pub hash-Z : hashAnswer Z ((8 ∷ 27 ∷ 1 ∷ 0 ∷ []) ++ fourZeros)
+      ≡ final.Accepted (state ((8 ∷ 27 ∷ 1 ∷ 0 ∷ []) ++ fourZeros ++ fourZeros))
+  pub hash-A : hashAnswer A (fourZeros ++ fourZeros)
+      ≡ final.Accepted (state ((1 ∷ 0 ∷ 0 ∷ 0 ∷ []) ++ fourZeros ++ fourZeros))
   pub hash-S : (a : List ℕ) → length a ≡ 4 → AllCanonical a
-      → hashAnswer S (a ++ (5 ∷ 6 ∷ 7 ∷ 9 ∷ [])) ≡ final.Accepted (state ((5 ∷ 6 ∷ 7 ∷ 9 ∷ []) ++ zeros ++ a))
+      → hashAnswer S (a ++ (5 ∷ 6 ∷ 7 ∷ 9 ∷ [])) ≡ final.Accepted (state ((5 ∷ 6 ∷ 7 ∷ 9 ∷ []) ++ fourZeros ++ a))
   pub chain-A : chainAnswer A (replicate 16 0) ≡ output.Accepted (digest (3 ∷ 0 ∷ 0 ∷ 0 ∷ []))
-  pub zero-accepted : checkAnswer Z zeroTrace zeros 1 ≡ tests.Accepted 372
+  pub zero-accepted : checkAnswer Z zeroTrace fourZeros 1 ≡ tests.Accepted 372
   pub zero-claim : checkAnswer Z zeroTrace (1 ∷ 0 ∷ 0 ∷ 0 ∷ []) 1
       ≡ tests.Refused (Constraint (record { 0 = 31 }) 49 369)
-  pub altered-0-8 : checkAnswer Z (altered 0 8) zeros 1 ≡ tests.Refused (Constraint (record { 0 = 0 }) 1 1)
-  pub altered-31-5 : checkAnswer Z (altered 31 5) zeros 1 ≡ tests.Refused (Constraint (record { 0 = 30 }) 38 362)
-  pub altered-11-5 : checkAnswer Z (altered 11 5) zeros 1 ≡ tests.Refused (Constraint (record { 0 = 11 }) 26 138)
+  pub one-at-0-8 : checkAnswer Z (withOne 0 8) fourZeros 1 ≡ tests.Refused (Constraint (record { 0 = 0 }) 1 1)
+  pub one-at-31-5 : checkAnswer Z (withOne 31 5) fourZeros 1 ≡ tests.Refused (Constraint (record { 0 = 30 }) 38 362)
+  pub one-at-11-5 : checkAnswer Z (withOne 11 5) fourZeros 1 ≡ tests.Refused (Constraint (record { 0 = 11 }) 26 138)
   -- the places of the four tests that fail there, counted by themselves
   pub places : (placeOf 1 1 31 49 ≡ 369) × (placeOf 1 1 0 1 ≡ 1) × (placeOf 1 1 30 38 ≡ 362)
       × (placeOf 1 1 11 26 ≡ 138)
-  pub tapped-accepted : checkAnswer Z tapped zeros 1 ≡ tests.Accepted 372
-  pub tapped-read-off : readOffAnswer Z tapped zeros 1 16 ≡ tests.Accepted 372
-  pub tapped-read : (old : List ℕ) → length old ≡ 16 → tap (readOffLeaves Z tapped zeros 1 old) 2 ≡ 0 ∷ 1 ∷ 0 ∷ 0 ∷ []
+  pub tapped-accepted : checkAnswer Z tapped fourZeros 1 ≡ tests.Accepted 372
+  pub tapped-read-off : readOffAnswer Z tapped fourZeros 1 16 ≡ tests.Accepted 372
+  pub tapped-read : (old : List ℕ) → length old ≡ 16
+      → tap (readOffLeaves Z tapped fourZeros 1 old) 2 ≡ 0 ∷ 1 ∷ 0 ∷ 0 ∷ []

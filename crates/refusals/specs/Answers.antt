@@ -32,8 +32,8 @@ after Accepted rest = rest
 after (Refused r) rest = Refused r
 
 -- an answer that is a refusal
-abbrev pub Refuses : Answer → Type 0
-Refuses a = (r : Refusal) × (a ≡ Refused r)
+abbrev pub IsRefusal : Answer → Type 0
+IsRefusal a = (r : Refusal) × (a ≡ Refused r)
 
 -- ---- what follows from the answer of an operation's tests
 

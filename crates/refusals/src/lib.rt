@@ -1,7 +1,7 @@
 // What is turned back (document 01, the section of that name; document 02), and the answers that hold it.
 ghost use mathlib.Core.Path.{_≡_};
 ghost use Rattle.refusals.specs.Refusals.{alone, indexed, told, state, stateWords, pair};
-ghost use Rattle.refusals.specs.Answers.{Refuses};
+ghost use Rattle.refusals.specs.Answers.{IsRefusal};
 use numbers::RowNumber;
 use numbers::WIDTH;
 
@@ -114,7 +114,7 @@ pub enum Answer {
 impl Answer {
     // The refusal of an answer that is one: what `let .. else` has left. The other arm is never taken.
     pub fn refusal(self) -> Refusal
-        requires { ⌜ Refuses self ⌝ }
+        requires { ⌜ IsRefusal self ⌝ }
         ensures { λ r. ⌜ self ≡ Answer.Refused r ⌝ }
     {
         match self {

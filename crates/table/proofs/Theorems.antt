@@ -106,12 +106,14 @@ test-answers t = with-size (ℕ-discrete (length t) tableWords)
         subst (Answers t) (tested.accepted t size good u)
         (accepted (record { size = size; canonical = good-all t (good ∙ sym size); inverse = like-identity t u }))
     with-cells size good (no u) =
-        subst (Answers t) (tested.wrong-cell t size good _ refl u) (cell-refused _ size (good-all t (good ∙ sym size)) (first-cell t u))
+        subst (Answers t) (tested.wrong-cell t size good _ refl u)
+        (cell-refused _ size (good-all t (good ∙ sym size)) (first-cell t u))
 
     with-words : (size : length t ≡ tableWords) → Dec (firstBad t ≡ tableWords) → Answers t (tableTest t)
     with-words size (yes b) = with-cells size b (ℕ-discrete (firstUnlike t) 144)
     with-words size (no b) =
-        subst (Answers t) (tested.wrong-word t size _ refl b) (word-refused _ size (first-bad t (omega (arith, within t))))
+        subst (Answers t) (tested.wrong-word t size _ refl b)
+        (word-refused _ size (first-bad t (omega (arith, within t))))
 
     with-size : Dec (length t ≡ tableWords) → Answers t (tableTest t)
     with-size (yes s) = with-words s (ℕ-discrete (firstBad t) tableWords)

@@ -7,8 +7,8 @@
 //!
 //! # Panics
 //!
-//! Where a call takes other parameters than it did, the number of the interface
-//! is raised, since a linker would not notice. So each call first asks the linked
+//! Where a call takes other parameters, or another length for the same k, than it
+//! did, the number of the interface is raised, since a linker would not notice. So each call first asks the linked
 //! library for its number, which takes about a nanosecond. Where that is not
 //! [`INTERFACE`], the call panics and lends nothing.
 
