@@ -26,10 +26,10 @@ done <"$work/names"
 (cd rust && cargo run --quiet --offline -p inputs --bin header) >"$work/expected"
 sed -n 's/: .*//p' "$work/expected" >"$work/questions"
 
-# the program compiled with the flags $*; the second time anything undefined ends it
+# of the program compiled with the flags $*; with the second ones anything undefined ends it
 same_lines() {
     cc -std=c11 -Wall -Wextra -Werror -pedantic "$@" -Iinclude tests/c/header.c -o "$work/header"
-    "$work/header" <"$work/questions" >"$work/lines" || fail "compiled with $*, tests/c/header.c does not come to its end"
+    "$work/header" <"$work/questions" >"$work/lines" || fail "compiled with $*, tests/c/header.c ends with status $?"
     diff "$work/expected" "$work/lines" >"$work/diff" || {
         head -n 20 "$work/diff" >&2
         fail "compiled with $*, the header has the lines marked >, and the second implementation those marked <"
@@ -38,5 +38,5 @@ same_lines() {
 same_lines -O2
 same_lines -O0 -fsanitize=undefined -fsanitize-undefined-trap-on-error
 
-echo "tests/header.sh: $(($(wc -l <"$work/names"))) names of the header, in $(($(wc -l <"$work/expected"))) lines as the" \
-    "second implementation has them"
+echo "tests/header.sh: $(($(wc -l <"$work/names"))) names of the header, in $(($(wc -l <"$work/expected"))) lines" \
+    "as the second implementation has them"

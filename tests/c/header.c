@@ -116,7 +116,7 @@ static void of_list(void)
 }
 
 /* A file: its length, the byte that it is full of, how many 32-bit words are others, and place and word of each. The bytes after its end
- * would count too; those of a word that stands there, or in part, are in memory and not lent. */
+ * would count too, also those of such a word. */
 static void of_file(void)
 {
     size_t length = next();
