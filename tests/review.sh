@@ -199,7 +199,7 @@ awk 'FNR == 1 { fence = 0 } /^```/ { fence = !fence; next }
 # ---- theorems: those of section 1, and where a row of a table ends in the file that has them
 declared='^ *(pub )?(unfoldable |abbrev )?'
 awk 'function each(file, cell) { m = split(cell, word, "`"); for (i = 2; i <= m; i += 2) print file, word[i] }
-    /^\| (U?[0-9]+|Program) \| .* \| .* \| / {
+    /^\| (U?[0-9]+|TurnedBack|Program) \| .* \| .* \| / {
         split($0, part, / \| /)
         stated = part[1]; sub(/^\| /, "", stated)
         sub(/^U/, "Request", stated); sub(/^[0-9]/, "Demand&", stated)
@@ -214,17 +214,16 @@ awk 'function each(file, cell) { m = split(cell, word, "`"); for (i = 2; i <= m;
         [ ! -e "$file" ] || grep -qE "$declared$name :" "$file" || wrong "$file has no $name"
     done
 
-# ---- the demands, the requests, the program and the stored file, to the letter: each statement is closed and stands in
-# specs/, and each theorem is of that type, with no parameter and in no section
-statements=$(cd crates/demands/specs && echo Demand[0-9]*.antt Request[0-9]*.antt Program.antt Stored.antt |
-    sed 's/\.antt//g')
+# ---- every statement of crate `demands`, to the letter: it is closed and stands in specs/, and its theorem is of that
+# type, with no parameter and in no section
+statements=$(cd crates/demands/specs && echo *.antt | sed 's/\.antt//g; s/ Lib / /')
 for n in 1 2 3; do
     case " $statements " in *" Demand$n "*) ;; *) wrong "crates/demands/specs has no Demand$n" ;; esac
 done
 for statement in $statements; do
     stated=crates/demands/specs/$statement.antt
     proved=crates/demands/proofs/$statement.antt
-    theorem=$(echo "$statement" | sed 's/Demand/demand-/; s/Request/request-/; s/Program/program/; s/Stored/stored/')
+    theorem=$(echo "$statement" | sed 's/[A-Z0-9]/-&/g; s/^-//' | tr A-Z a-z)
     [ "$(grep -cx "pub record $statement : Type 0 where" "$stated")" = 1 ] ||
         wrong "$stated does not declare 'pub record $statement : Type 0 where'"
     [ "$(grep -cx "pub $theorem : $statement" "$proved")" = 1 ] ||

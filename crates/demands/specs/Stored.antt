@@ -19,7 +19,7 @@ use Rattle.elements.specs.Words.{kindOf, payloadOf, wordAt}
 use Rattle.board.specs.Board.{elementCount}
 use Rattle.shortreading.specs.Reading.{firstWord, shortsAt, shortsTest}
 use Rattle.shortboard.specs.ShortBoard.{shortFileSize, packedShort, markIn, shortClaimIn}
-use Rattle.knowndays.specs.Files.{FileOf, ShortFile, times}
+use Rattle.knowndays.specs.Files.{FileOf, ShortFile, repeated}
 
 -- the most batches of a short file
 abbrev pub mostStored : ℕ
@@ -90,7 +90,7 @@ storedFile =
     ++ (0x00 ∷ 0x00 ∷ 0x00 ∷ 0x40 ∷ 0x01 ∷ 0x00 ∷ 0x00 ∷ 0x80 ∷ 0x00 ∷ 0x00 ∷ 0x00 ∷ 0xC0 ∷ [])
     ++ (0x02 ∷ 0x00 ∷ 0x00 ∷ 0x40 ∷ 0x50 ∷ 0x00 ∷ 0x00 ∷ 0x80 ∷ 0x00 ∷ 0x00 ∷ 0x00 ∷ 0xC0 ∷ [])
     ++ (0x04 ∷ 0x00 ∷ 0x00 ∷ 0xC0 ∷ 0x05 ∷ 0x00 ∷ 0x00 ∷ 0xC0 ∷ 0x06 ∷ 0x00 ∷ 0x00 ∷ 0xC0 ∷ [])
-    ++ times 23 (0x00 ∷ 0x00 ∷ 0x00 ∷ 0xC0 ∷ [])
+    ++ repeated 23 (0x00 ∷ 0x00 ∷ 0x00 ∷ 0xC0 ∷ [])
     ++ (0x07 ∷ 0x00 ∷ 0x00 ∷ 0xC0 ∷ [])
 
 -- it was written and read so before U9, and still is

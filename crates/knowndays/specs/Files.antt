@@ -33,19 +33,19 @@ ShortFile = FileOf packShortTest packShortLeaves unpackShortAnswer unpackShortLe
 -- ---- the files, each word of four bytes with its low byte first
 
 -- a list n times
-abbrev pub times : ℕ → List ℕ → List ℕ
-times zero s = []
-times (suc n) s = s ++ times n s
+abbrev pub repeated : ℕ → List ℕ → List ℕ
+repeated zero s = []
+repeated (suc n) s = s ++ repeated n s
 
 -- words in hexadecimal: 00000001, then 40000000, 80000000, C0000000 twenty times
 unfoldable pub zeroFile : List ℕ
 zeroFile =
     (0x01 ∷ 0x00 ∷ 0x00 ∷ 0x00 ∷ [])
-    ++ times 20 (0x00 ∷ 0x00 ∷ 0x00 ∷ 0x40 ∷ 0x00 ∷ 0x00 ∷ 0x00 ∷ 0x80 ∷ 0x00 ∷ 0x00 ∷ 0x00 ∷ 0xC0 ∷ [])
+    ++ repeated 20 (0x00 ∷ 0x00 ∷ 0x00 ∷ 0x40 ∷ 0x00 ∷ 0x00 ∷ 0x00 ∷ 0x80 ∷ 0x00 ∷ 0x00 ∷ 0x00 ∷ 0xC0 ∷ [])
 
 -- in the short edition 20000001, then C0000000 twenty times
 unfoldable pub zeroShort : List ℕ
-zeroShort = (0x01 ∷ 0x00 ∷ 0x00 ∷ 0x20 ∷ []) ++ times 20 (0x00 ∷ 0x00 ∷ 0x00 ∷ 0xC0 ∷ [])
+zeroShort = (0x01 ∷ 0x00 ∷ 0x00 ∷ 0x20 ∷ []) ++ repeated 20 (0x00 ∷ 0x00 ∷ 0x00 ∷ 0xC0 ∷ [])
 
 -- a day of one batch: p − 1, a word of three different parts, 2^30 and the word below it as the claim; taps of small
 -- words, but for 2^32, 2^60 and, last of all, 2^61
