@@ -14,7 +14,7 @@ pub fn is_entering(row: RowNumber) -> bool
     ensures { λ r. ⌜ r ≡ entering (row .0) ⌝ }
 {
     let within = row.within();
-    within == 10 || within == 20
+    within.0 == 10 || within.0 == 20
 }
 
 // Rows 1 to 29 of a batch, whose next row is a middle state too, but at rows 10 and 20 columns 0 to 3 only.
@@ -22,10 +22,10 @@ fn is_middle(row: RowNumber, column: usize) -> bool
     ensures { λ r. ⌜ r ≡ (between 1 29 (within (row .0)) && (not (entering (row .0)) || ltb column 4)) ⌝ }
 {
     let within = row.within();
-    if within < 1 {
+    if within.0 < 1 {
         return false;
     }
-    if 29 < within {
+    if 29 < within.0 {
         return false;
     }
     !is_entering(row) || column < 4
@@ -79,22 +79,22 @@ pub fn applies(k: usize, c: usize, row: RowNumber, constraint: usize) -> bool
     ensures { λ r. ⌜ r ≡ applies k c (row .0) constraint ⌝ }
 {
     if constraint < NEW_ZEROS {
-        return row.within() == 0;
+        return row.within().0 == 0;
     }
     if constraint < STARTS {
         return is_entering(row);
     }
     if constraint < GOES_ON {
-        return row.within() == 0;
+        return row.within().0 == 0;
     }
     if constraint < ENDS {
         return is_middle(row, constraint - GOES_ON);
     }
     if constraint < JOINS {
-        return row.within() == 30;
+        return row.within().0 == 30;
     }
     if constraint < CLAIMS {
-        return row.within() == 31 && !is_last_row(k, row);
+        return row.within().0 == 31 && !is_last_row(k, row);
     }
     is_claim_row(c, row)
 }
@@ -107,16 +107,16 @@ pub fn span_of(row: RowNumber) -> Span
     ensures { λ r. ⌜ r ≡ spanOf (row .0) ⌝ }
 {
     let within = row.within();
-    if within == 0 {
+    if within.0 == 0 {
         return Span(ZEROS, GOES_ON);
     }
     if is_entering(row) {
         return Span(NEW_ZEROS, GOES_ON + 4);
     }
-    if within <= 29 {
+    if within.0 <= 29 {
         return Span(GOES_ON, ENDS);
     }
-    if within == 30 {
+    if within.0 == 30 {
         return Span(ENDS, JOINS);
     }
     Span(JOINS, END)

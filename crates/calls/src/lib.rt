@@ -6,6 +6,7 @@ use mixing::READY_WORDS;
 use numbers::BATCH_WORDS;
 use numbers::BatchCount;
 use numbers::MOST_BATCHES;
+use numbers::TapNumber;
 use refusals::Answer;
 use refusals::Refusal;
 
@@ -35,15 +36,15 @@ pub fn chain_no_room(table: &[u64], taps: &[u64]) -> Answer
 }
 
 // What Edit refuses where its output finds no room: 1, 2, 4, 7, 17, 15, 8.
-pub fn edit_no_room(table: &[u64], trace: &[u64], c: usize, tap: usize) -> Answer
-    ensures { λ r. ⌜ r ≡ editNoRoom (now (table .entry)) (now (trace .entry)) c tap ⌝ }
+pub fn edit_no_room(table: &[u64], trace: &[u64], c: usize, tap: TapNumber) -> Answer
+    ensures { λ r. ⌜ r ≡ editNoRoom (now (table .entry)) (now (trace .entry)) c (tap .0) ⌝ }
 {
     let mut room = [0u64; READY_WORDS];
     let opening = checker::test_opening(table, trace, c, &mut room);
     let Answer::Accepted = opening else {
         return opening;
     };
-    if 3 * (trace.len() / BATCH_WORDS) < tap {
+    if 3 * (trace.len() / BATCH_WORDS) < tap.0 {
         return Answer::Refused(Refusal::NoSuchTap);
     }
     Answer::Refused(Refusal::DestinationLength)

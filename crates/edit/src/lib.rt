@@ -12,6 +12,7 @@ ghost use Rattle.edit.specs.Answers.{editTraceTest, editAnswer, editLeav
 use mixing::READY_WORDS;
 use numbers::BATCH_WORDS;
 use numbers::BatchNumber;
+use numbers::BatchRow;
 use numbers::TapNumber;
 use refusals::Answer;
 use refusals::Digest;
@@ -81,7 +82,7 @@ pub fn edit(
         TestsAnswer::Accepted(_) => {
             rewriting::rewrite(&ready, &inverse, table, k, tap, words, trace);
             // The claim's row begins with the output of the altered list's first 3c + 1 taps.
-            let row = rows::cells(trace, BatchNumber(c - 1).row(31));
+            let row = rows::cells(trace, BatchNumber(c - 1).row(BatchRow(31)));
             DigestAnswer::Accepted(Digest(row[0], row[1], row[2], row[3]))
         }
         TestsAnswer::Refused(r) => DigestAnswer::Refused(r),

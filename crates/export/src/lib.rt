@@ -142,18 +142,12 @@ pub extern "C" fn lemoncolumn_edit(
     ensures { λ r. ⌜ EditCall (now (table .entry)) (now (trace .entry)) (c0 ∷ c1 ∷ c2 ∷ c3 ∷ []) c tap
         (w0 ∷ w1 ∷ w2 ∷ w3 ∷ []) r (now (trace .exit)) (now (output .entry)) (now (output .exit)) ⌝ }
 {
+    let number = TapNumber(tap);
     if output.len() != 4 {
-        return handover::answer_code(calls::edit_no_room(table, trace, c, tap));
+        return handover::answer_code(calls::edit_no_room(table, trace, c, number));
     }
     handover::hand_over(
-        edit::edit(
-            table,
-            trace,
-            [c0, c1, c2, c3],
-            c,
-            TapNumber(tap),
-            [w0, w1, w2, w3],
-        ),
+        edit::edit(table, trace, [c0, c1, c2, c3], c, number, [w0, w1, w2, w3]),
         output,
     )
 }

@@ -30,6 +30,9 @@ pub struct BatchNumber(pub usize);
 // A row of the whole trace, counted from 0.
 pub struct RowNumber(pub usize);
 
+// A row of a batch, counted from 0.
+pub struct BatchRow(pub usize);
+
 // A hash of the chain, counted from 0.
 pub struct HashNumber(pub usize);
 
@@ -44,11 +47,11 @@ pub enum BatchCount {
 
 impl BatchNumber {
     // The row of the trace that is row `within` of the batch.
-    pub fn row(self, within: usize) -> RowNumber
-        requires { ⌜ (self .0 < 2 ^ 32) × (within < batchRows) ⌝ }
-        ensures { λ r. ⌜ r .0 ≡ batchRows * self .0 + within ⌝ }
+    pub fn row(self, within: BatchRow) -> RowNumber
+        requires { ⌜ (self .0 < 2 ^ 32) × (within .0 < batchRows) ⌝ }
+        ensures { λ r. ⌜ r .0 ≡ batchRows * self .0 + within .0 ⌝ }
     {
-        RowNumber(BATCH_ROWS * self.0 + within)
+        RowNumber(BATCH_ROWS * self.0 + within.0)
     }
 }
 
@@ -60,10 +63,10 @@ impl RowNumber {
     }
 
     // The row's number within its batch.
-    pub fn within(self) -> usize
-        ensures { λ r. ⌜ r ≡ within (self .0) ⌝ }
+    pub fn within(self) -> BatchRow
+        ensures { λ r. ⌜ r .0 ≡ within (self .0) ⌝ }
     {
-        self.0 % BATCH_ROWS
+        BatchRow(self.0 % BATCH_ROWS)
     }
 
     pub fn next(self) -> RowNumber
@@ -101,7 +104,7 @@ impl HashNumber {
         requires { ⌜ self .0 / 3 < 2 ^ 32 ⌝ }
         ensures { λ r. ⌜ r .0 ≡ firstRow (self .0) ⌝ }
     {
-        self.batch().row(10 * self.within() + 1)
+        self.batch().row(BatchRow(10 * self.within() + 1))
     }
 
     // The tap that the hash takes in; the first hash takes tap 0 as its left input too.

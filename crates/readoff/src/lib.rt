@@ -13,6 +13,7 @@ ghost use Rattle.readoff.specs.TapHelpers.{HasTap};
 use mixing::READY_WORDS;
 use numbers::BATCH_TAP_WORDS;
 use numbers::BATCH_WORDS;
+use numbers::BatchRow;
 use numbers::HashNumber;
 use numbers::RowNumber;
 use numbers::TAP_WORDS;
@@ -29,7 +30,7 @@ pub fn read_input(inverse: &[u64], table: &[u64], trace: &[u64], hash: HashNumbe
     ensures { λ r. ⌜ r ≡ readInput (now (table .entry)) (now (trace .entry)) (hash .0) ⌝ }
 {
     if hash.within() == 0 {
-        return rows::cells(trace, hash.batch().row(0));
+        return rows::cells(trace, hash.batch().row(BatchRow(0)));
     }
     let back = rows::back(inverse, table, trace, hash.first_row());
     steps::less_initial(table, back)

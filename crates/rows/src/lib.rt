@@ -45,7 +45,7 @@ fn round_of(row: RowNumber) -> usize
     requires { ⌜ 1 ≤ within (row .0) ⌝ }
     ensures { λ r. ⌜ (r ≡ round (row .0)) × (r < 10) ⌝ }
 {
-    (row.within() - 1) % 10
+    (row.within().0 - 1) % 10
 }
 
 // The state plus K_0 in columns 0 to 3 only, as at rows 10 and 20.

@@ -7,6 +7,7 @@ ghost use Rattle.numbers.specs.Numbers.{batchRows, width};
 ghost use Rattle.trace.specs.Trace.{row};
 ghost use Rattle.rows.specs.RowHelpers.{LentRow};
 use numbers::BatchNumber;
+use numbers::BatchRow;
 use numbers::RowNumber;
 use numbers::WIDTH;
 
@@ -17,9 +18,9 @@ pub struct Batch<'a> {
 }
 
 // Row `within` of the batch, from the trace itself: what the readers of a view call.
-pub fn row_at(trace: &[u64], batch: BatchNumber, within: usize) -> &[u64]
-    requires { ⌜ LentRow (now trace) (batch .0) within ⌝ }
-    ensures { λ r. ⌜ now r ≡ row (now (trace .entry)) (batchRows * batch .0 + within) ⌝ }
+pub fn row_at(trace: &[u64], batch: BatchNumber, within: BatchRow) -> &[u64]
+    requires { ⌜ LentRow (now trace) (batch .0) (within .0) ⌝ }
+    ensures { λ r. ⌜ now r ≡ row (now (trace .entry)) (batchRows * batch .0 + within .0) ⌝ }
 {
     let row = batch.row(within);
     let start = row.start();
@@ -35,17 +36,17 @@ pub fn view<'a>(trace: &'a [u64], batch: BatchNumber) -> Batch<'a>
 }
 
 // Row `within` of the batch that is viewed.
-pub fn row<'a>(b: Batch<'a>, within: usize) -> &'a [u64]
-    requires { ⌜ LentRow (now (b .trace)) (b .batch .0) within ⌝ }
-    ensures { λ r. ⌜ now r ≡ row (now (b .entry .trace)) (batchRows * b .entry .batch .0 + within) ⌝ }
+pub fn row<'a>(b: Batch<'a>, within: BatchRow) -> &'a [u64]
+    requires { ⌜ LentRow (now (b .trace)) (b .batch .0) (within .0) ⌝ }
+    ensures { λ r. ⌜ now r ≡ row (now (b .entry .trace)) (batchRows * b .entry .batch .0 + within .0) ⌝ }
 {
     row_at(b.trace, b.batch, within)
 }
 
 // The same with plain parameters: whoever calls this one needs no walk.
-pub fn row_of(trace: &[u64], batch: BatchNumber, within: usize) -> &[u64]
-    requires { ⌜ LentRow (now trace) (batch .0) within ⌝ }
-    ensures { λ r. ⌜ now r ≡ row (now (trace .entry)) (batchRows * batch .0 + within) ⌝ }
+pub fn row_of(trace: &[u64], batch: BatchNumber, within: BatchRow) -> &[u64]
+    requires { ⌜ LentRow (now trace) (batch .0) (within .0) ⌝ }
+    ensures { λ r. ⌜ now r ≡ row (now (trace .entry)) (batchRows * batch .0 + within .0) ⌝ }
 {
     row(view(trace, batch), within)
 }

@@ -23,10 +23,10 @@ pub fn forward_of(ready: &[u64], table: &[u64], trace: &[u64], row: RowNumber) -
     ensures { λ r. ⌜ r ≡ forwardOf (now (table .entry)) (now (trace .entry)) (row .0) ⌝ }
 {
     let within = row.within();
-    if within < 1 {
+    if within.0 < 1 {
         return [0u64; WIDTH];
     }
-    if 30 < within {
+    if 30 < within.0 {
         return [0u64; WIDTH];
     }
     rows::forward(ready, table, trace, row)
@@ -37,7 +37,7 @@ pub fn back_after(ready: &[u64], table: &[u64], trace: &[u64], row: RowNumber) -
     requires { ⌜ IsTable (now table) × (now ready ≡ backReady (now table)) × InTrace (now trace) (row .0) ⌝ }
     ensures { λ r. ⌜ r ≡ backAfter (now (table .entry)) (now (trace .entry)) (row .0) ⌝ }
 {
-    if 29 < row.within() {
+    if 29 < row.within().0 {
         return [0u64; WIDTH];
     }
     rows::back(ready, table, trace, row.next())

@@ -15,6 +15,7 @@ use mixing::READY_WORDS;
 use numbers::BATCH_TAP_WORDS;
 use numbers::BATCH_WORDS;
 use numbers::BatchCount;
+use numbers::BatchRow;
 use numbers::HashNumber;
 use numbers::MOST_BATCHES;
 use numbers::RowNumber;
@@ -84,7 +85,7 @@ fn write_input(destination: &mut [u64], hash: HashNumber, input: [u64; WIDTH])
     if hash.within() != 0 {
         return;
     }
-    write_row(destination, hash.batch().row(0), input);
+    write_row(destination, hash.batch().row(BatchRow(0)), input);
 }
 
 // Row 31 of the batch, for its third hash: the final state. The batch's other final states have no row.
@@ -97,7 +98,7 @@ fn write_final(destination: &mut [u64], hash: HashNumber, state: [u64; WIDTH])
     if hash.within() != 2 {
         return;
     }
-    write_row(destination, hash.batch().row(31), state);
+    write_row(destination, hash.batch().row(BatchRow(31)), state);
 }
 
 // The rows that the hash fills, from its input. Its final state.

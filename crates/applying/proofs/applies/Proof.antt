@@ -17,7 +17,9 @@ within-requires : tie.Need-within-requires
 within-requires c κs = search needs
 
 returns : tie.Need-returns
-returns c = rw (c .within .ensures) (sym (applies-zeros _ _ _ _ (c .before .before .pre .3) (c .before .if1 .taken)))
+returns c =
+    let test = c .before .before in
+    rw (c .before .within .ensures) (sym (applies-zeros _ _ _ _ (test .before .pre .3) (test .if1 .taken)))
 
 is-entering-requires : tie.Need-is-entering-requires
 is-entering-requires c κs = search needs
@@ -32,8 +34,8 @@ within-requires-2 c κs = search needs
 
 returns-3 : tie.Need-returns-3
 returns-3 c =
-    let test = c .before in
-    rw (c .within2 .ensures) (sym (applies-starts _ _ _ _ (test .before .if2 .left) (test .if3 .taken)))
+    let test = c .before .before in
+    rw (c .before .within2 .ensures) (sym (applies-starts _ _ _ _ (test .before .if2 .left) (test .if3 .taken)))
 
 is-middle-requires : tie.Need-is-middle-requires
 is-middle-requires c κs = search needs
@@ -48,8 +50,8 @@ within-requires-3 c κs = search needs
 
 returns-5 : tie.Need-returns-5
 returns-5 c =
-    let test = c .before in
-    rw (c .within3 .ensures) (sym (applies-ends _ _ _ _ (test .before .if4 .left) (test .if5 .taken)))
+    let test = c .before .before in
+    rw (c .before .within3 .ensures) (sym (applies-ends _ _ _ _ (test .before .if4 .left) (test .if5 .taken)))
 
 within-requires-4 : tie.Need-within-requires-4
 within-requires-4 c κs = search needs
@@ -60,22 +62,22 @@ is-last-row-requires c κs = search needs
 returns-6 : tie.Need-returns-6
 returns-6 c =
     let row = c .before in
-    let test = row .before .before in
+    let test = row .before .before .before in
     let a = entry (test .before) .args in
     rw (
       applies-joins (a .k) (a .c) (a .row .0) (a .constraint) (test .before .if5 .left) (test .if6 .taken),
-      ← row .before .within4 .ensures,
+      ← row .before .before .within4 .ensures,
       eq-eqb _ _ (row .if7 .taken),
       c .is-last-row .ensures,
     )
 
 returns-7 : tie.Need-returns-7
 returns-7 c =
-    let test = c .before .before in
+    let test = c .before .before .before in
     let a = entry (test .before) .args in
     rw (
       applies-joins (a .k) (a .c) (a .row .0) (a .constraint) (test .before .if5 .left) (test .if6 .taken),
-      ← c .before .within4 .ensures,
+      ← c .before .before .within4 .ensures,
       ne-eqb _ _ (c .if7 .left),
     )
 

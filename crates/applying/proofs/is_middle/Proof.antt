@@ -23,12 +23,12 @@ within-requires : tie.Need-within-requires
 within-requires c κs = search needs
 
 returns : tie.Need-returns
-returns c = simp (← c .before .within .ensures, lt-leb _ _ (c .if1 .taken))
+returns c = simp (← c .before .before .within .ensures, lt-leb _ _ (c .if1 .taken))
 
 returns-2 : tie.Need-returns-2
 returns-2 c =
-    let first = c .before in
-    simp (← first .before .within .ensures, le-leb _ _ (first .if1 .left), lt-leb _ _ (c .if2 .taken))
+    let first = c .before .before in
+    simp (← first .before .before .within .ensures, le-leb _ _ (first .if1 .left), lt-leb _ _ (c .if2 .taken))
 
 is-entering-requires : tie.Need-is-entering-requires
 is-entering-requires c κs = search needs
@@ -37,20 +37,20 @@ returns-3 : tie.Need-returns-3
 returns-3 c =
     let entering = c .before in
     let second = entering .before in
-    let first = second .before in
-    let a = first .before .before .args in
+    let first = second .before .before in
+    let a = first .before .before .before .args in
     rw (c .if3 .taken) refl
-    ∙ last-line (a .row .0) (a .column) (first .before .within .ensures) (first .if1 .left) (second .if2 .left)
+    ∙ last-line (a .row .0) (a .column) (first .before .before .within .ensures) (first .if1 .left) (second .if2 .left)
     (entering .is-entering .ensures)
 
 returns-4 : tie.Need-returns-4
 returns-4 c =
     let entering = c .before in
     let second = entering .before in
-    let first = second .before in
-    let a = first .before .before .args in
+    let first = second .before .before in
+    let a = first .before .before .before .args in
     rw (c .if3 .left) refl
-    ∙ last-line (a .row .0) (a .column) (first .before .within .ensures) (first .if1 .left) (second .if2 .left)
+    ∙ last-line (a .row .0) (a .column) (first .before .before .within .ensures) (first .if1 .left) (second .if2 .left)
     (entering .is-entering .ensures)
 
 pub is-middle-spec : {M : Type 1} → statement M

@@ -9,7 +9,7 @@ within-requires : tie.Need-within-requires
 within-requires c κs = search needs
 
 returns : tie.Need-returns
-returns c = first-row _ (c .before .within .ensures) (c .if1 .taken)
+returns c = first-row _ (c .before .before .within .ensures) (c .if1 .taken)
 
 is-entering-requires : tie.Need-is-entering-requires
 is-entering-requires c κs = search needs
@@ -20,29 +20,33 @@ add-t5 c = search needs
 returns-2 : tie.Need-returns-2
 returns-2 c =
     let e = c .before in
-    entering-row _ (e .before .before .within .ensures) (e .is-entering .ensures) (e .before .if1 .left) (c .if2 .taken)
+    let first = e .before in
+    entering-row _ (first .before .before .within .ensures) (e .is-entering .ensures) (first .if1 .left) (c .if2 .taken)
 
 returns-3 : tie.Need-returns-3
 returns-3 c =
-    let e = c .before .before in
+    let other = c .before .before in
+    let e = other .before in
     let first = e .before in
-    middle-row _ (first .before .within .ensures) (e .is-entering .ensures) (first .if1 .left) (c .before .if2 .left)
-    (c .if3 .taken)
+    middle-row _ (first .before .before .within .ensures) (e .is-entering .ensures) (first .if1 .left)
+    (other .if2 .left) (c .if3 .taken)
 
 returns-4 : tie.Need-returns-4
 returns-4 c =
-    let m = c .before in
-    let e = m .before .before in
+    let m = c .before .before in
+    let other = m .before .before in
+    let e = other .before in
     let first = e .before in
-    row-30 _ (first .before .within .ensures) (e .is-entering .ensures) (first .if1 .left) (m .before .if2 .left)
+    row-30 _ (first .before .before .within .ensures) (e .is-entering .ensures) (first .if1 .left) (other .if2 .left)
     (m .if3 .left) (c .if4 .taken)
 
 returns-5 : tie.Need-returns-5
 returns-5 c =
-    let m = c .before in
-    let e = m .before .before in
+    let m = c .before .before in
+    let other = m .before .before in
+    let e = other .before in
     let first = e .before in
-    row-31 _ (first .before .within .ensures) (e .is-entering .ensures) (first .if1 .left) (m .before .if2 .left)
+    row-31 _ (first .before .before .within .ensures) (e .is-entering .ensures) (first .if1 .left) (other .if2 .left)
     (m .if3 .left) (c .if4 .left)
 
 pub span-of-spec : {M : Type 1} → statement M

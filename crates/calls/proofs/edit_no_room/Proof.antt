@@ -37,8 +37,8 @@ abbrev entry : tie.After-enum-told → tie.Start
 entry told = told .before .before .before .before .before .before
 
 opened : (c : tie.After-enum-told) {o : Answer} → let a = entry c .args in
-    o ≡ unless (leb (a .tap) (3 * traceWordBatches (length (a .trace .now)))) NoSuchTap (Refused DestinationLength)
-    → o ≡ editNoRoom (a .table .now) (a .trace .now) (a .c) (a .tap)
+    o ≡ unless (leb (a .tap .0) (3 * traceWordBatches (length (a .trace .now)))) NoSuchTap (Refused DestinationLength)
+    → o ≡ editNoRoom (a .table .now) (a .trace .now) (a .c) (a .tap .0)
 unfolding editNoRoom
 opened c e = after-accepted (c .before .before .test-opening .ensures .0) (c .enum-told .given .1) e
 
@@ -46,10 +46,10 @@ mul-if1 : tie.Need-mul-if1
 mul-if1 c = omega (arith, opened-by _ _ _ (c .before .before .test-opening .ensures .0) (c .enum-told .given .1) .1)
 
 returns-2 : tie.Need-returns-2
-returns-2 c = opened (c .before) (unless-refused _ (lt-leb _ _ (c .if1 .taken)) refl)
+returns-2 c = opened (c .before .before) (unless-refused _ (lt-leb _ _ (c .if1 .taken)) refl)
 
 returns-3 : tie.Need-returns-3
-returns-3 c = opened (c .before) (unless-passed _ (le-leb _ _ (c .if1 .left)) refl)
+returns-3 c = opened (c .before .before) (unless-passed _ (le-leb _ _ (c .if1 .left)) refl)
 
 pub edit-no-room-spec : {M : Type 1} → statement M
 edit-no-room-spec =

@@ -164,17 +164,17 @@ cells-requires c κs =
     has-claim-row _ _ _ _ _ (can-rewrite passed) (four (start (passed .before .before)) .1) _ (m .0) (m .1) _
     (c .row .ensures) _ (written .rewrite .ensures)
 
-array-read-t49 : tie.Need-array-read-t49
-array-read-t49 c = search needs
+array-read-t50 : tie.Need-array-read-t50
+array-read-t50 c = search needs
 
-array-read-t52 : tie.Need-array-read-t52
-array-read-t52 c = search needs
+array-read-t53 : tie.Need-array-read-t53
+array-read-t53 c = search needs
 
-array-read-t55 : tie.Need-array-read-t55
-array-read-t55 c = search needs
+array-read-t56 : tie.Need-array-read-t56
+array-read-t56 c = search needs
 
-array-read-t58 : tie.Need-array-read-t58
-array-read-t58 c = search needs
+array-read-t59 : tie.Need-array-read-t59
+array-read-t59 c = search needs
 
 enum-known-answer : tie.Need-enum-known-answer
 enum-known-answer c = search needs
@@ -231,10 +231,10 @@ edit-spec =
     sub-t45
     row-requires
     cells-requires
-    array-read-t49
-    array-read-t52
-    array-read-t55
-    array-read-t58
+    array-read-t50
+    array-read-t53
+    array-read-t56
+    array-read-t59
     enum-known-answer
     same-length-2
     returns-2

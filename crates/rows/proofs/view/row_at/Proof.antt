@@ -40,8 +40,8 @@ part-result-end c = search needs
 returns : tie.Need-returns
 returns c =
     let a = c .before .before .before .before .args in
-    let e : c .before .start .result ≡ 12 * (32 * a .batch .0 + a .within) = omega arith in
-    part-row (a .trace .now) (c .before .start .result) (32 * a .batch .0 + a .within) e
+    let e : c .before .start .result ≡ 12 * (32 * a .batch .0 + a .within .0) = omega arith in
+    part-row (a .trace .now) (c .before .start .result) (32 * a .batch .0 + a .within .0) e
 
 pub row-at-spec : {M : Type 1} → statement M
 row-at-spec =

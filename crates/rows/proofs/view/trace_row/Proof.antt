@@ -21,7 +21,7 @@ returns : tie.Need-returns
 returns c =
     let w = c .before in
     let a = w .before .before .before .args in
-    let e : 32 * w .before .batch .result .0 + w .within .result ≡ a .number .0 = omega arith in
+    let e : 32 * w .before .batch .result .0 + w .within .result .0 ≡ a .number .0 = omega arith in
     c .row-of .ensures ∙ ap (row (a .trace .now)) e
 
 pub trace-row-spec : {M : Type 1} → statement M
