@@ -42,7 +42,7 @@ awk -v crates=" $(echo $crates) " '
             if (name != "clear" && !index(crates, " " $i " "))
                 print "crates.txt: " name " needs " $i ", a library of the kit" }
     ' crates.txt >>"$work/wrong"
-for library in export probes; do
+for library in lemoncolumn speed_probes; do
     verdict "target/log/$library.say" "target=x86_64-unknown-linux-gnu " ""
 done
 

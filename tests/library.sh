@@ -5,13 +5,13 @@
 set -eu
 cd "$(dirname "$0")/.."
 
-rt staticlib export
-rt staticlib probes
+rt staticlib lemoncolumn
+rt staticlib speed_probes
 
 room=$(mktemp -d)
 trap 'rm -rf "$room"' EXIT
 compile() { # FOLDER-OF-THE-HEADER
-    cc -std=c11 -Wall -Wextra -Werror -pedantic -O2 "-I$1" examples/c/known_days.c target/staticlib/libexport.a \
+    cc -std=c11 -Wall -Wextra -Werror -pedantic -O2 "-I$1" examples/c/known_days.c target/staticlib/liblemoncolumn.a \
         -o "$room/known_days"
 }
 compile include

@@ -9,7 +9,7 @@ cd "$(dirname "$0")/.."
 root=$PWD
 work=$(mktemp -d)
 trap 'rm -rf "$work"' EXIT
-plain=target/staticlib/libexport.a
+plain=target/staticlib/liblemoncolumn.a
 folder=target/staticlib/x86-64-v3
 . tests/common/archive.sh
 
@@ -37,21 +37,21 @@ fi
 cp "$plain" "$work/plain.a"
 tools/staticlib-for x86-64-v3
 cmp "$work/plain.a" "$plain" || fail "$plain is another than before"
-alone "$folder/libexport.a"
+alone "$folder/liblemoncolumn.a"
 
 # The hot loops of the file $1 make four products at once (vpmuludq in registers of 256 bits), as no plain x86-64 does.
 wide() {
     objdump -d --no-show-raw-insn "$1" >"$work/code"
-    for function in mixing::mix roots::joined; do
+    for function in matrix_ready::mix field_roots::joined; do
         awk -v head="<$function>:" '/^[0-9a-f]+ <.*>:$/ { on = $2 == head }
             on && $2 == "vpmuludq" && /%ymm/ { found = 1 } END { exit !found }' "$work/code" ||
             fail "$function of $1 has no vector multiplication of 256 bits"
     done
 }
-wide "$folder/libexport.a"
+wide "$folder/liblemoncolumn.a"
 
 # ---- C
-cc -std=c11 -Wall -Wextra -Werror -pedantic -O2 -Iinclude examples/c/known_days.c "$folder/libexport.a" \
+cc -std=c11 -Wall -Wextra -Werror -pedantic -O2 -Iinclude examples/c/known_days.c "$folder/liblemoncolumn.a" \
     -o "$work/known_days"
 "$work/known_days" >"$work/lines"
 diff "$work/lines" examples/c/known_days.expected || fail "examples/c/known_days.c prints something else"

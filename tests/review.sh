@@ -88,9 +88,9 @@ find crates/*/src -name '*.rt' | sort | xargs awk '
 
 # ---- the table of section 6 beside them. Entry points are the operations of documents 01 and 02, the table test, and
 # whatever other languages link
-operations="table::test prepare::prepare hash::hash chain::chain trace::build checker::check readoff::read_off"
-operations="$operations edit::edit unhash::unhash board::pack board::unpack shortboard::pack_short"
-operations="$operations shortboard::unpack_short toshort::to_short tofull::to_full clearing::clear"
+operations="table::test table_prepare::prepare hash::hash hash_chain::chain trace::build check_trace::check trace_read_off::read_off"
+operations="$operations trace_edit::edit hash_undo::unhash board::pack board::unpack board_short::pack_short"
+operations="$operations board_short::unpack_short board_to_short::to_short board_to_full::to_full clear_answer::clear"
 awk -F '\t' -v operations=" $operations " -v named="$named" -v structs="$work/structs" '
     function bad(text) { print "tests/review.sh: " name ": " text }
     function apart(text) { text = " " text " "; gsub(/[() ]+/, " ", text); return text }

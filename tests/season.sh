@@ -9,7 +9,7 @@ cd "$(dirname "$0")/.."
 
 work=$(mktemp -d)
 trap 'rm -rf "$work"' EXIT
-library=target/staticlib/libexport.a
+library=target/staticlib/liblemoncolumn.a
 . tests/common/archive.sh
 
 fail() {

@@ -10,12 +10,12 @@ cd "$(dirname "$0")/.."
 # bits each) it has with the kit of kit.txt. More is as good; an edit that needs fewer says so here.
 loops='
 hash::montgomery_cubes 11
-inverse::add_row 6
+matrix_inverse::add_row 6
 lemoncolumn_prepare 6
-mixing::mix 10
-mixing::make_ready 20
-roots::joined 11
-roots::scaled_roots 6
+matrix_ready::mix 10
+matrix_ready::make_ready 20
+field_roots::joined 11
+field_roots::scaled_roots 6
 '
 # FUNCTION COUNT: a function that multiplies words, and how many multiplications it has that leave 128 bits (`mul` and
 # `imul` with one operand, `mulx`). Prepare has one, which divides an index by 24; the other functions of the archive
@@ -24,12 +24,12 @@ products='
 hash::first_step 0
 hash::montgomery_cubes 0
 hash::second_step 0
-inverse::add_row 0
+matrix_inverse::add_row 0
 lemoncolumn_prepare 1
-mixing::mix 0
-mixing::make_ready 0
-roots::joined 0
-roots::scaled_roots 0
+matrix_ready::mix 0
+matrix_ready::make_ready 0
+field_roots::joined 0
+field_roots::scaled_roots 0
 '
 
 work=$(mktemp -d)
@@ -60,8 +60,8 @@ read_code() { # ARCHIVE LOOPS
             exit failed
         }' "$work/code" >&2
 }
-read_code target/staticlib/libexport.a "$loops"
+read_code target/staticlib/liblemoncolumn.a "$loops"
 # That its loops are vector code, of twice the width, tests/newer.sh has seen.
-newer=target/staticlib/x86-64-v3/libexport.a
+newer=target/staticlib/x86-64-v3/liblemoncolumn.a
 [ ! -f "$newer" ] || read_code "$newer" ''
 echo "tests/vectors.sh: the hot loops are vector code, and no product of words has 128 bits"

@@ -1,4 +1,4 @@
-//! Links the probes of speed, which `rt staticlib probes` writes to the repository's
+//! Links the probes of speed, which `rt staticlib speed_probes` writes to the repository's
 //! target/staticlib. Where `tools/staticlib-for x86-64-v3` has written the library for
 //! that level there, it is linked too, with names that are not the plain library's.
 
@@ -20,20 +20,20 @@ fn main() {
     let folder = own.join("../../target/staticlib");
     // The folder, since a file that is not there would have this run each time.
     println!("cargo:rerun-if-changed={}", folder.display());
-    let library = folder.join("libprobes.a");
+    let library = folder.join("libspeed_probes.a");
     assert!(
         library.is_file(),
-        "there is no {}: write it by `rt staticlib probes`",
+        "there is no {}: write it by `rt staticlib speed_probes`",
         library.display()
     );
     println!("cargo:rustc-link-search=native={}", folder.display());
-    println!("cargo:rustc-link-lib=static=probes");
+    println!("cargo:rustc-link-lib=static=speed_probes");
 
     println!("cargo:rustc-check-cfg=cfg(newer)");
-    let library = folder.join("x86-64-v3/libexport.a");
+    let library = folder.join("x86-64-v3/liblemoncolumn.a");
     let time = |file: &Path| file.metadata().and_then(|it| it.modified()).ok();
     // One that is older than the plain library may be of another state.
-    if library.is_file() && time(&library) >= time(&folder.join("libexport.a")) {
+    if library.is_file() && time(&library) >= time(&folder.join("liblemoncolumn.a")) {
         link_newer(&library);
     }
 }

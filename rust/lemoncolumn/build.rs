@@ -1,6 +1,6 @@
-//! Links the proved library, which `rt staticlib export` writes to the repository's
+//! Links the proved library, which `rt staticlib lemoncolumn` writes to the repository's
 //! target/staticlib. `LEMONCOLUMN_LIB_DIR`, an absolute path, names another folder to
-//! take libexport.a from, such as one of `tools/staticlib-for`. Nothing is downloaded.
+//! take liblemoncolumn.a from, such as one of `tools/staticlib-for`. Nothing is downloaded.
 
 use std::env::var_os;
 use std::path::PathBuf;
@@ -18,13 +18,13 @@ fn main() {
         "LEMONCOLUMN_LIB_DIR is {}: it must be an absolute path",
         folder.display()
     );
-    let library = folder.join("libexport.a");
+    let library = folder.join("liblemoncolumn.a");
     println!("cargo:rerun-if-changed={}", library.display());
     assert!(
         library.is_file(),
-        "there is no {}: write it by `rt staticlib export`",
+        "there is no {}: write it by `rt staticlib lemoncolumn`",
         library.display()
     );
     println!("cargo:rustc-link-search=native={}", folder.display());
-    println!("cargo:rustc-link-lib=static=export");
+    println!("cargo:rustc-link-lib=static=lemoncolumn");
 }

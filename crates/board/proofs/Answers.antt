@@ -7,8 +7,8 @@ use native.Mathlib.Omega.{arith}
 use borrow.Author.Tests.{eq-eqb, ne-eqb, eqb-true, le-leb}
 use lib.Dec.{eqb, leb}
 use lib.ListN.{length}
-use Rattle.words.specs.Words.{AllCanonical, firstBad, canonicalWords}
-use Rattle.words.proofs.Laws.{test-good, good-test}
+use Rattle.field_words.specs.Words.{AllCanonical, firstBad, canonicalWords}
+use Rattle.field_words.proofs.Laws.{test-good, good-test}
 use Rattle.numbers.specs.Numbers.{IsPermittedTo, permitted, tapWordBatches, isTapLength}
 use Rattle.numbers.proofs.Laws.{permitted-sound, permitted-complete, tap-length-sound, tap-length-complete}
 use Rattle.refusals.specs.Refusals.{digest}
@@ -19,9 +19,9 @@ use Rattle.refusals.specs.declared.Answer.the-variants.{Accepted, Refused}
 use Rattle.refusals.specs.declared.Digest.{Digest}
 use Rattle.refusals.specs.declared.DigestAnswer.the-variants as digest-answer
 use Rattle.refusals.proofs.Laws.{passed, both-accepted, digest-accepted, AnswerEnds, unless-ends, one-cause}
-use Rattle.elements.specs.Words.{kindOf, wordAt}
-use Rattle.elements.specs.Elements.{elementsTest}
-use Rattle.elements.proofs.Tests.{each-accepted, all-accepted}
+use Rattle.board_words.specs.Words.{kindOf, wordAt}
+use Rattle.board_words.specs.Elements.{elementsTest}
+use Rattle.board_words.proofs.Tests.{each-accepted, all-accepted}
 use Rattle.board.specs.Board.{mostFileBatches, countWord, fileSize, packTest}
 use Rattle.board.specs.Board.{countIn, spareIn, batchesIn, claimIn, countTest, unpackTest, unpackAnswer, IsBoard}
 

@@ -10,12 +10,12 @@ use lib.Seq.{sets}
 use Rattle.lists.specs.Lists.{cell, each}
 use Rattle.lists.proofs.Each.{each-append}
 use Rattle.lists.proofs.Stores.{sets-append, sets-all}
-use Rattle.words.specs.Words.{AllCanonical}
-use Rattle.elements.specs.Words.{wordBytes, wordAt, bytesOf}
-use Rattle.elements.specs.Elements.{elementWords, wordsOf}
-use Rattle.elements.proofs.Words.{length-bytes, word-bytes}
-use Rattle.elements.proofs.Laws.{length-words}
-use Rattle.elements.proofs.Round.{words-below}
+use Rattle.field_words.specs.Words.{AllCanonical}
+use Rattle.board_words.specs.Words.{wordBytes, wordAt, bytesOf}
+use Rattle.board_words.specs.Elements.{elementWords, wordsOf}
+use Rattle.board_words.proofs.Words.{length-bytes, word-bytes}
+use Rattle.board_words.proofs.Laws.{length-words}
+use Rattle.board_words.proofs.Round.{words-below}
 use Rattle.board.specs.Board.{mostFileBatches, countWord, fileOf, fileSize}
 
 pub file-length : (taps claim : List ℕ) (k : ℕ) → length claim ≡ 4 → length taps ≡ 12 * k + 4

@@ -8,17 +8,17 @@ use native.Mathlib.Omega.{arith}
 use lib.ListN.{length, length-append, take, drop}
 use lib.Seq.{take-at, drop-at}
 use Rattle.lists.specs.Lists.{cell, tab}
-use Rattle.words.specs.Words.{AllCanonical}
-use Rattle.words.proofs.Laws.{append-canonical}
+use Rattle.field_words.specs.Words.{AllCanonical}
+use Rattle.field_words.proofs.Laws.{append-canonical}
 use Rattle.numbers.specs.Numbers.{IsPermitted, IsPermittedTo}
 use Rattle.refusals.specs.Refusals.{digest, digestWords}
 use Rattle.refusals.specs.declared.Digest.{Digest}
-use Rattle.elements.specs.Words.{wordAt, AllBytes, bytesOf}
-use Rattle.elements.specs.Elements.{wordsOf, elementsAt}
-use Rattle.elements.proofs.Words.{bytes-unique}
-use Rattle.elements.proofs.Laws.{length-words}
-use Rattle.elements.proofs.Round.{read-accepted, read-back, words-back, length-elements}
-use Rattle.elements.proofs.Round.{elements-append, elements-canonical}
+use Rattle.board_words.specs.Words.{wordAt, AllBytes, bytesOf}
+use Rattle.board_words.specs.Elements.{wordsOf, elementsAt}
+use Rattle.board_words.proofs.Words.{bytes-unique}
+use Rattle.board_words.proofs.Laws.{length-words}
+use Rattle.board_words.proofs.Round.{read-accepted, read-back, words-back, length-elements}
+use Rattle.board_words.proofs.Round.{elements-append, elements-canonical}
 use Rattle.board.specs.Board.{mostFileBatches, countWord, fileOf, batchesIn, claimIn, tapsIn, IsBoard}
 use Rattle.board.proofs.Answers.{batches-is}
 use Rattle.board.proofs.Files as files

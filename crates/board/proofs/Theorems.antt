@@ -7,17 +7,17 @@ use Prim.Native.Nat.{ℕ, _+_, _*_, _^_, _<_, _≤_}
 use native.Mathlib.Omega.{arith}
 use lib.ListN.{length}
 use Rattle.field.specs.Field.{P, Canonical}
-use Rattle.words.specs.Words.{AllCanonical}
+use Rattle.field_words.specs.Words.{AllCanonical}
 use Rattle.numbers.specs.Numbers.{IsPermittedTo, tapWordBatches}
 use Rattle.refusals.specs.Refusals.{digest, digestWords}
 use Rattle.refusals.specs.declared.Digest.{Digest}
 use Rattle.refusals.specs.declared.Refusal.the-variants.{WrongValue}
 use Rattle.refusals.specs.declared.Answer.the-variants as answer
 use Rattle.refusals.specs.declared.DigestAnswer.the-variants.{Accepted, Refused}
-use Rattle.elements.specs.Words.{payloadOf, wordAt, AllBytes}
-use Rattle.elements.specs.Elements.{elementAt}
-use Rattle.elements.proofs.Laws.{no-word}
-use Rattle.elements.proofs.Tests.{too-large, first-refused}
+use Rattle.board_words.specs.Words.{payloadOf, wordAt, AllBytes}
+use Rattle.board_words.specs.Elements.{elementAt}
+use Rattle.board_words.proofs.Laws.{no-word}
+use Rattle.board_words.proofs.Tests.{too-large, first-refused}
 use Rattle.board.specs.Board.{mostFileBatches, fileOf, packTest, packed, batchesIn, claimIn, tapsIn, unpackAnswer}
 use Rattle.board.specs.Board.{IsBoard, ReadTo}
 use Rattle.board.proofs.Answers.{pack-accepted, pack-complete, unpack-accepted, unpack-complete}

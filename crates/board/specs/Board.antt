@@ -5,7 +5,7 @@ use mathlib.Core.List.{List, _∷_, _++_}
 use Prim.Native.Nat.{ℕ, _+_, _*_, _/_, _%_, _^_, _≤_, _<_}
 use lib.Dec.{eqb, leb}
 use lib.ListN.{length}
-use Rattle.words.specs.Words.{firstBad, canonicalWords}
+use Rattle.field_words.specs.Words.{firstBad, canonicalWords}
 use Rattle.numbers.specs.Numbers.{tapWords, IsPermittedTo, permitted, tapWordBatches, isTapLength}
 use Rattle.refusals.specs.Refusals.{digest}
 use Rattle.refusals.specs.Answers.{unless, after, digestAfter, leaves}
@@ -14,8 +14,8 @@ use Rattle.refusals.specs.declared.Refusal.the-variants.{FileLength, WrongKind,
 use Rattle.refusals.specs.declared.Answer.{Answer}
 use Rattle.refusals.specs.declared.Answer.the-variants.{Accepted}
 use Rattle.refusals.specs.declared.DigestAnswer.{DigestAnswer}
-use Rattle.elements.specs.Words.{joined, kindOf, payloadOf, wordAt, bytesOf}
-use Rattle.elements.specs.Elements.{wordsOf, elementsAt, elementsTest, IsElement}
+use Rattle.board_words.specs.Words.{joined, kindOf, payloadOf, wordAt, bytesOf}
+use Rattle.board_words.specs.Elements.{wordsOf, elementsAt, elementsTest, IsElement}
 
 -- ---- the file of k batches
 

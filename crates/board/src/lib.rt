@@ -6,7 +6,7 @@ ghost use lib.ListN.{length};
 ghost use Rattle.numbers.specs.Numbers.{tapWords};
 ghost use Rattle.board.specs.Board.{mostFileBatches, countWord, fileOf, fileSize, packTest, packLeaves};
 ghost use Rattle.board.specs.Board.{countIn, countTest, unpackTest, unpackAnswer, unpackLeaves};
-use elements::Word;
+use board_words::Word;
 use numbers::BATCH_TAP_WORDS;
 use numbers::BatchCount;
 use numbers::TAP_WORDS;
@@ -36,11 +36,11 @@ fn test_pack(taps: &[u64], claim: [u64; 4], size: usize) -> Answer
     if size != BATCH_BYTES * k + EXTRA_BYTES {
         return Answer::Refused(Refusal::DestinationLength);
     }
-    let bad_claim = words::first_bad(&claim);
+    let bad_claim = field_words::first_bad(&claim);
     if bad_claim != 4 {
         return Answer::Refused(Refusal::ClaimWord(bad_claim));
     }
-    let bad_tap = words::first_bad(taps);
+    let bad_tap = field_words::first_bad(taps);
     if bad_tap != taps.len() {
         return Answer::Refused(Refusal::TapWord(bad_tap));
     }
@@ -61,8 +61,8 @@ fn write_file(taps: &[u64], claim: [u64; 4], k: usize, destination: &mut [u8])
     ensures { λ _. ⌜ now (destination .exit) ≡ fileOf (now (taps .entry)) claim k ⌝ }
 {
     count_word(k).write(0, destination);
-    elements::write_all(&claim, 1, destination);
-    elements::write_all(taps, 13, destination);
+    board_words::write_all(&claim, 1, destination);
+    board_words::write_all(taps, 13, destination);
 }
 
 // Pack writes the board file of the taps and the claim when all its tests have passed.
@@ -121,7 +121,7 @@ fn test_unpack(file: &[u8], size: usize) -> Answer
     if size != BATCH_TAP_WORDS * k + TAP_WORDS {
         return Answer::Refused(Refusal::DestinationLength);
     }
-    reading::test_all(file, 1, BATCH_TAP_WORDS * k + EXTRA_ELEMENTS)
+    board_read::test_all(file, 1, BATCH_TAP_WORDS * k + EXTRA_ELEMENTS)
 }
 
 // Unpack writes the taps of a board file and returns its claim when all its tests have passed.
@@ -134,11 +134,11 @@ pub fn unpack(file: &[u8], destination: &mut [u64]) -> DigestAnswer
         return DigestAnswer::Refused(of_file.refusal());
     };
     let claim = Digest(
-        reading::read(file, 1),
-        reading::read(file, 4),
-        reading::read(file, 7),
-        reading::read(file, 10),
+        board_read::read(file, 1),
+        board_read::read(file, 4),
+        board_read::read(file, 7),
+        board_read::read(file, 10),
     );
-    reading::read_all(file, 13, destination);
+    board_read::read_all(file, 13, destination);
     DigestAnswer::Accepted(claim)
 }

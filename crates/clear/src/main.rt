@@ -55,15 +55,15 @@ fn read_all(buf: &mut [u8]) -> Input
 
 fn main() {
     // One byte more than the longest input: so many bytes are too long, whatever follows them.
-    let mut bytes = [0u8; clearing::LONGEST + 1];
+    let mut bytes = [0u8; clear_answer::LONGEST + 1];
     let input = read_all(&mut bytes);
     let Input::Whole(read) = input else {
         io::write_all(STDERR_FILENO, b"clear: standard input cannot be read\n");
         return;
     };
-    let outcome = clearing::clear(&bytes[..read]);
+    let outcome = clear_answer::clear(&bytes[..read]);
     let mut line = [0u8; 80];
-    let length = lines::text(outcome, &mut line);
+    let length = clear_line::text(outcome, &mut line);
     if !io::write_all(STDOUT_FILENO, &line[..length]) {
         io::write_all(STDERR_FILENO, b"clear: standard output cannot be written\n");
     }

@@ -15,16 +15,16 @@ use Rattle.refusals.specs.declared.DigestAnswer.the-variants.{Accepted}
 use Rattle.refusals.proofs.Laws.{not-accepted}
 use Rattle.hash.specs.Hash.{chain, firstTaps}
 use Rattle.trace.specs.Answers.{buildAnswer, buildLeaves}
-use Rattle.edit.specs.Answers.{alteredTaps, editAnswer, editLeaves}
+use Rattle.trace_edit.specs.Answers.{alteredTaps, editAnswer, editLeaves}
 use Rattle.board.specs.Board.{claimIn, unpackTest, unpackAnswer, unpackLeaves}
-use Rattle.handover.specs.HandsOver.{written}
-use Rattle.handover.proofs.Bits.{zero-returns}
-use Rattle.calls.specs.Calls.{chainNoRoom, buildCallTest, buildCall, BuildCall, editNoRoom, editCallTest, editCall}
-use Rattle.calls.specs.Calls.{EditCall, unpackCallTest, unpackCall, UnpackCall}
-use Rattle.calls.proofs.Answers.{chain-no-room-refuses, build-without, build-answer, build-left}
-use Rattle.calls.proofs.Answers.{edit-no-room-refuses, edit-without, edit-answer, edit-left}
-use Rattle.calls.proofs.Answers.{no-list-refuses, unpack-without, unpack-answer, unpack-left}
-use Rattle.calls.proofs.Theorems as bits
+use Rattle.call_results.specs.HandsOver.{written}
+use Rattle.call_results.proofs.Bits.{zero-returns}
+use Rattle.call_answers.specs.Calls.{chainNoRoom, buildCallTest, buildCall, BuildCall, editNoRoom, editCallTest, editCall}
+use Rattle.call_answers.specs.Calls.{EditCall, unpackCallTest, unpackCall, UnpackCall}
+use Rattle.call_answers.proofs.Answers.{chain-no-room-refuses, build-without, build-answer, build-left}
+use Rattle.call_answers.proofs.Answers.{edit-no-room-refuses, edit-without, edit-answer, edit-left}
+use Rattle.call_answers.proofs.Answers.{no-list-refuses, unpack-without, unpack-answer, unpack-left}
+use Rattle.call_answers.proofs.Theorems as bits
 
 -- without room the tests can only refuse
 pub had-room : (size : ℕ) (tests none : Answer) → ((size ≡ 4 → ⊥) → tests ≡ none) → IsRefusal none

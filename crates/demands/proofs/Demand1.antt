@@ -1,5 +1,5 @@
 -- Demand 1: each operation refuses with its own numbers only, each call's word says a full result or such a refusal,
--- and a refusal alters no lent buffer. From how each can end (crate `calls`, proofs/Endings.antt), and that its word
+-- and a refusal alters no lent buffer. From how each can end (crate `call_answers`, proofs/Endings.antt), and that its word
 -- loses nothing of its answer (there, proofs/Theorems.antt).
 -- Assumes nothing.
 use mathlib.Core.Path.{_≡_, refl, sym, ap, subst, _∙_}
@@ -25,48 +25,48 @@ use Rattle.refusals.specs.declared.State.{State}
 use Rattle.refusals.proofs.Laws.{passed, both-accepted, digest-refused, state-refused, pair-refused}
 use Rattle.refusals.proofs.Laws.{tests-refused, AnswerEnds}
 use Rattle.table.specs.Table.{Prepares, tableTest}
-use Rattle.prepare.proofs.Theorems.{prepares-some, prepares-unique, refused-kept, no-inverse-exact, none-exactly}
-use Rattle.prepare.proofs.Theorems.{prepared-accepted}
+use Rattle.table_prepare.proofs.Theorems.{prepares-some, prepares-unique, refused-kept, no-inverse-exact, none-exactly}
+use Rattle.table_prepare.proofs.Theorems.{prepared-accepted}
 use Rattle.hash.specs.Hash as rescue
 use Rattle.hash.specs.Answers.{hashTest, hashAnswer}
 use Rattle.hash.proofs.States.{finalState-state}
 use Rattle.hash.proofs.Inputs.{hash-tap}
-use Rattle.chain.specs.Answers.{chainTest, chainAnswer}
-use Rattle.chain.proofs.Answers.{ChainInputs, chain-inputs}
+use Rattle.hash_chain.specs.Answers.{chainTest, chainAnswer}
+use Rattle.hash_chain.proofs.Answers.{ChainInputs, chain-inputs}
 use Rattle.trace.specs.Trace.{trace}
 use Rattle.trace.specs.Answers.{buildAnswer, buildLeaves, buildTest}
 use Rattle.trace.proofs.Answers.{BuildInputs, build-inputs}
-use Rattle.constraints.specs.Constraints as order
-use Rattle.constraints.specs.ReadOff.{readTaps}
-use Rattle.constraints.proofs.TestCount.{length-tests}
-use Rattle.checker.specs.Answers.{openingTest, checkAnswer, checkTest}
-use Rattle.checker.proofs.Answers.{Opened, opened, CheckInputs, check-inputs}
-use Rattle.readoff.specs.Answers.{readOffAnswer, readOffLeaves, readOffTest}
-use Rattle.readoff.proofs.Answers.{read-off-inputs}
-use Rattle.edit.specs.Answers.{editAnswer, editLeaves, editTest, alteredTaps}
-use Rattle.unhash.specs.Unhash.{tapsBefore}
-use Rattle.unhash.specs.Answers.{unhashTest, unhashAnswer}
+use Rattle.check_constraints.specs.Constraints as order
+use Rattle.check_constraints.specs.ReadOff.{readTaps}
+use Rattle.check_constraints.proofs.TestCount.{length-tests}
+use Rattle.check_trace.specs.Answers.{openingTest, checkAnswer, checkTest}
+use Rattle.check_trace.proofs.Answers.{Opened, opened, CheckInputs, check-inputs}
+use Rattle.trace_read_off.specs.Answers.{readOffAnswer, readOffLeaves, readOffTest}
+use Rattle.trace_read_off.proofs.Answers.{read-off-inputs}
+use Rattle.trace_edit.specs.Answers.{editAnswer, editLeaves, editTest, alteredTaps}
+use Rattle.hash_undo.specs.Unhash.{tapsBefore}
+use Rattle.hash_undo.specs.Answers.{unhashTest, unhashAnswer}
 use Rattle.board.specs.Board.{packTest, packed, packLeaves, unpackAnswer, unpackTest, tapsIn, claimIn, unpackLeaves}
 use Rattle.board.proofs.Round.{claim-is}
-use Rattle.shortboard.specs.ShortBoard.{packShortTest, packedShort, packShortLeaves, unpackShortAnswer, unpackShortTest}
-use Rattle.shortboard.specs.ShortBoard.{shortTapsIn, shortClaimIn, unpackShortLeaves}
-use Rattle.shortboard.proofs.Round as short
-use Rattle.toshort.specs.ToShort.{toShortTest, toShortLeaves}
-use Rattle.tofull.specs.ToFull.{toFullTest, toFullLeaves}
-use Rattle.handover.specs.Code.{code as code-of, answerCode, digestCode, stateCode, testsCode}
-use Rattle.handover.specs.HandsOver.{written, HandsOver, writtenState, HandsOverState}
-use Rattle.calls.specs.Calls.{PrepareCall, hashCallTest, hashCall}
-use Rattle.calls.specs.Calls.{chainCallTest, chainCall, buildCallTest, buildCall, BuildCall, ReadOffCall}
-use Rattle.calls.specs.Calls.{editCallTest, editCall, EditCall, unhashCallTest, UnhashCall, PackCall}
-use Rattle.calls.specs.Calls.{unpackCallTest, unpackCall, UnpackCall, PackShortCall, unpackShortCallTest}
-use Rattle.calls.specs.Calls.{unpackShortCall, UnpackShortCall, ToShortCall, ToFullCall}
-use Rattle.calls.proofs.Answers.{chain-room, build-room}
-use Rattle.exact.specs.Exact.{IsListFor}
-use Rattle.exact.proofs.Exactness.{reads-that-list}
-use Rattle.handover.proofs.Bits.{RefusalInBits, says, says-accepted, tells-one, tells-apart}
-use Rattle.calls.proofs.Endings as ends
-use Rattle.calls.proofs.Endings.{TableCauses}
-use Rattle.calls.proofs.Theorems as bits
+use Rattle.board_short.specs.ShortBoard.{packShortTest, packedShort, packShortLeaves, unpackShortAnswer, unpackShortTest}
+use Rattle.board_short.specs.ShortBoard.{shortTapsIn, shortClaimIn, unpackShortLeaves}
+use Rattle.board_short.proofs.Round as short
+use Rattle.board_to_short.specs.ToShort.{toShortTest, toShortLeaves}
+use Rattle.board_to_full.specs.ToFull.{toFullTest, toFullLeaves}
+use Rattle.call_results.specs.Code.{code as code-of, answerCode, digestCode, stateCode, testsCode}
+use Rattle.call_results.specs.HandsOver.{written, HandsOver, writtenState, HandsOverState}
+use Rattle.call_answers.specs.Calls.{PrepareCall, hashCallTest, hashCall}
+use Rattle.call_answers.specs.Calls.{chainCallTest, chainCall, buildCallTest, buildCall, BuildCall, ReadOffCall}
+use Rattle.call_answers.specs.Calls.{editCallTest, editCall, EditCall, unhashCallTest, UnhashCall, PackCall}
+use Rattle.call_answers.specs.Calls.{unpackCallTest, unpackCall, UnpackCall, PackShortCall, unpackShortCallTest}
+use Rattle.call_answers.specs.Calls.{unpackShortCall, UnpackShortCall, ToShortCall, ToFullCall}
+use Rattle.call_answers.proofs.Answers.{chain-room, build-room}
+use Rattle.check_exact.specs.Exact.{IsListFor}
+use Rattle.check_exact.proofs.Exactness.{reads-that-list}
+use Rattle.call_results.proofs.Bits.{RefusalInBits, says, says-accepted, tells-one, tells-apart}
+use Rattle.call_answers.proofs.Endings as ends
+use Rattle.call_answers.proofs.Endings.{TableCauses}
+use Rattle.call_answers.proofs.Theorems as bits
 use Rattle.demands.specs.Demand1.{Operation, prepare, hash, chain, build, check, read-off, edit, unhash}
 use Rattle.demands.specs.Demand1.{pack, unpack, pack-short, unpack-short, to-short, to-full}
 use Rattle.demands.specs.Demand1.{numbers, callNumbers, OneOf, Refuses, prepare-refuses, hash-refuses}

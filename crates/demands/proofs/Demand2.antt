@@ -8,8 +8,8 @@ use Prim.Native.Nat.{ℕ, _+_, _*_, _-_, _≤_}
 use native.Mathlib.Omega.{arith}
 use lib.ListN.{length, take, drop}
 use lib.Seq.{take-at, drop-at}
-use Rattle.words.specs.Words.{AllCanonical}
-use Rattle.words.proofs.Laws.{append-canonical}
+use Rattle.field_words.specs.Words.{AllCanonical}
+use Rattle.field_words.proofs.Laws.{append-canonical}
 use Rattle.numbers.specs.Numbers.{IsPermitted, IsPermittedTo, tapWordBatches, traceWordBatches}
 use Rattle.refusals.specs.Refusals.{indexed, digest, digestWords, state, stateWords}
 use Rattle.refusals.specs.Answers.{digestAfter, stateAfter, testsAfter, leaves}
@@ -27,34 +27,34 @@ use Rattle.hash.specs.Answers.{hashAnswer}
 use Rattle.hash.proofs.Answers.{hash-passes}
 use Rattle.hash.proofs.States.{finalState-state}
 use Rattle.hash.proofs.Inputs.{IsTap, output-tap}
-use Rattle.chain.specs.Answers.{chainAnswer}
-use Rattle.chain.proofs.Answers.{ChainInputs, chain-passes}
-use Rattle.chain.proofs.FirstTaps.{chain-first}
+use Rattle.hash_chain.specs.Answers.{chainAnswer}
+use Rattle.hash_chain.proofs.Answers.{ChainInputs, chain-passes}
+use Rattle.hash_chain.proofs.FirstTaps.{chain-first}
 use Rattle.trace.specs.Trace.{traceRow, trace, row}
 use Rattle.trace.specs.Answers.{buildTest, buildAnswer, buildLeaves}
 use Rattle.trace.proofs.Answers.{build-inputs}
 use Rattle.trace.proofs.TraceCells.{length-trace, trace-canonical, last-row-output}
 use Rattle.trace.proofs.Theorems.{build-accepts, build-leaves}
-use Rattle.constraints.specs.Constraints.{tests, constraintTest}
-use Rattle.constraints.specs.ReadOff.{readTaps}
-use Rattle.constraints.proofs.TestCount.{length-tests}
-use Rattle.checker.proofs.Theorems.{check-verdict}
-use Rattle.readoff.specs.Answers.{readOffTest, readOffAnswer, readOffLeaves}
-use Rattle.readoff.proofs.Theorems.{same-for}
-use Rattle.elements.specs.Words.{AllBytes}
+use Rattle.check_constraints.specs.Constraints.{tests, constraintTest}
+use Rattle.check_constraints.specs.ReadOff.{readTaps}
+use Rattle.check_constraints.proofs.TestCount.{length-tests}
+use Rattle.check_trace.proofs.Theorems.{check-verdict}
+use Rattle.trace_read_off.specs.Answers.{readOffTest, readOffAnswer, readOffLeaves}
+use Rattle.trace_read_off.proofs.Theorems.{same-for}
+use Rattle.board_words.specs.Words.{AllBytes}
 use Rattle.board.specs.Board.{mostFileBatches, fileSize}
 use Rattle.board.specs.Board.{packTest, packed, packLeaves, unpackTest, unpackAnswer, tapsIn, claimIn, unpackLeaves}
 use Rattle.board.proofs.Answers.{pack-accepted, pack-complete}
 use Rattle.board.proofs.Round.{taps-length}
 use Rattle.board.proofs.Theorems.{unpack-packed, pack-unpack, accepted-board}
-use Rattle.handover.specs.Code.{answerCode, digestCode, testsCode, Says}
-use Rattle.handover.specs.HandsOver.{written}
-use Rattle.handover.proofs.Bits.{says-accepted, zero-accepts}
-use Rattle.calls.specs.Calls.{BuildCall, ReadOffCall, PackCall, UnpackCall}
-use Rattle.calls.proofs.Answers.{unpack-answer, unpack-left}
-use Rattle.calls.proofs.Theorems.{pack-bits}
-use Rattle.exact.proofs.ReadList.{row-of-trace}
-use Rattle.exact.proofs.Exactness.{accepts-built, reading-off-a-built-trace}
+use Rattle.call_results.specs.Code.{answerCode, digestCode, testsCode, Says}
+use Rattle.call_results.specs.HandsOver.{written}
+use Rattle.call_results.proofs.Bits.{says-accepted, zero-accepts}
+use Rattle.call_answers.specs.Calls.{BuildCall, ReadOffCall, PackCall, UnpackCall}
+use Rattle.call_answers.proofs.Answers.{unpack-answer, unpack-left}
+use Rattle.call_answers.proofs.Theorems.{pack-bits}
+use Rattle.check_exact.proofs.ReadList.{row-of-trace}
+use Rattle.check_exact.proofs.Exactness.{accepts-built, reading-off-a-built-trace}
 use Rattle.demands.specs.Demand2.{Demand2}
 use Rattle.demands.proofs.Called.{built, unpacked}
 use Rattle.refusals.proofs.Returned.{four-words, twelve-words}

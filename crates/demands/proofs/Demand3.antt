@@ -7,7 +7,7 @@ use mathlib.Core.Logic.{_⊎_, ⊎-elim, _↔_, inl, inr}
 use Prim.Native.Nat.{ℕ, _+_, _*_, _≤_}
 use native.Mathlib.Omega.{arith}
 use lib.ListN.{length}
-use Rattle.words.specs.Words.{AllCanonical}
+use Rattle.field_words.specs.Words.{AllCanonical}
 use Rattle.numbers.specs.Numbers.{IsPermitted, traceWordBatches}
 use Rattle.refusals.specs.Refusals.{told, indexed}
 use Rattle.refusals.specs.Answers.{testsAfter, leaves}
@@ -18,20 +18,20 @@ use Rattle.refusals.specs.declared.TestsAnswer.the-variants.{Accepted, Refused}
 use Rattle.refusals.proofs.Laws.{not-accepted, tests-accepted, tests-refused, ends-refusal}
 use Rattle.table.specs.Table.{IsTable}
 use Rattle.table.proofs.Theorems.{test-sound}
-use Rattle.constraints.specs.Constraints.{tests, constraintTest}
-use Rattle.constraints.specs.ReadOff.{readTaps}
-use Rattle.constraints.specs.FirstFailing.{IsFirstFailing}
-use Rattle.constraints.proofs.TestCount.{length-tests}
-use Rattle.checker.specs.Answers.{checkTest, checkAnswer}
-use Rattle.checker.proofs.Theorems.{check-verdict}
-use Rattle.readoff.specs.Answers.{readOffTest, readOffAnswer, readOffLeaves}
-use Rattle.readoff.proofs.Theorems.{same-for}
-use Rattle.exact.specs.Exact.{IsListFor, IsWholeListFor}
-use Rattle.exact.proofs.Exactness as exact
-use Rattle.handover.specs.Code.{testsCode, Says}
-use Rattle.handover.proofs.Bits.{RefusalInBits, says, says-accepted}
-use Rattle.calls.specs.Calls.{ReadOffCall}
-use Rattle.calls.proofs.Theorems.{check-bits}
+use Rattle.check_constraints.specs.Constraints.{tests, constraintTest}
+use Rattle.check_constraints.specs.ReadOff.{readTaps}
+use Rattle.check_constraints.specs.FirstFailing.{IsFirstFailing}
+use Rattle.check_constraints.proofs.TestCount.{length-tests}
+use Rattle.check_trace.specs.Answers.{checkTest, checkAnswer}
+use Rattle.check_trace.proofs.Theorems.{check-verdict}
+use Rattle.trace_read_off.specs.Answers.{readOffTest, readOffAnswer, readOffLeaves}
+use Rattle.trace_read_off.proofs.Theorems.{same-for}
+use Rattle.check_exact.specs.Exact.{IsListFor, IsWholeListFor}
+use Rattle.check_exact.proofs.Exactness as exact
+use Rattle.call_results.specs.Code.{testsCode, Says}
+use Rattle.call_results.proofs.Bits.{RefusalInBits, says, says-accepted}
+use Rattle.call_answers.specs.Calls.{ReadOffCall}
+use Rattle.call_answers.proofs.Theorems.{check-bits}
 use Rattle.demands.specs.Demand3.{Exact, Demand3}
 
 -- what no earlier refusal turns back

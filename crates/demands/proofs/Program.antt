@@ -1,5 +1,5 @@
--- The program: from what its answers mean (crate `clearing`, proofs/Theorems.antt), where the tests of Prepare and of
--- Unpack end (crate `calls`, proofs/Endings.antt), and what reads back from a line (crate `lines`, proofs/Lines.antt).
+-- The program: from what its answers mean (crate `clear_answer`, proofs/Theorems.antt), where the tests of Prepare and of
+-- Unpack end (crate `call_answers`, proofs/Endings.antt), and what reads back from a line (crate `clear_line`, proofs/Lines.antt).
 -- Assumes nothing.
 use mathlib.Core.Path.{_≡_, refl, sym, ap, _∙_, subst}
 use mathlib.Core.Bool.{false}
@@ -19,16 +19,16 @@ use Rattle.refusals.specs.declared.Answer.the-variants as answer
 use Rattle.refusals.specs.declared.Particulars.{Particulars}
 use Rattle.refusals.proofs.Laws.{digest-refused, ends-refusal}
 use Rattle.board.specs.Board.{batchesIn, unpackTest, unpackAnswer}
-use Rattle.clearing.specs.declared.Outcome.{Outcome}
-use Rattle.clearing.specs.declared.Outcome.the-variants.{Accepted, Refused, TooLong}
-use Rattle.clearing.specs.Clearing.{rawWord, rawIn, fileIn, unprepared, Clears, IsUnlike}
-use Rattle.clearing.specs.Clearing.{InputFault, no-table, table-fault, file-fault, other-claim}
-use Rattle.clearing.proofs.Theorems as clearing
-use Rattle.clearing.proofs.Theorems.{Means, means-cleared, means-fault, means-long}
-use Rattle.lines.specs.Line.{ascii, fields, line, numbersOf, textOf}
-use Rattle.lines.proofs.Lines as lines
-use Rattle.lines.proofs.Lines.{read, numbersIn, Fit, line-reads-back}
-use Rattle.calls.proofs.Endings as ends
+use Rattle.clear_answer.specs.declared.Outcome.{Outcome}
+use Rattle.clear_answer.specs.declared.Outcome.the-variants.{Accepted, Refused, TooLong}
+use Rattle.clear_answer.specs.Clearing.{rawWord, rawIn, fileIn, unprepared, Clears, IsUnlike}
+use Rattle.clear_answer.specs.Clearing.{InputFault, no-table, table-fault, file-fault, other-claim}
+use Rattle.clear_answer.proofs.Theorems as clearing
+use Rattle.clear_answer.proofs.Theorems.{Means, means-cleared, means-fault, means-long}
+use Rattle.clear_line.specs.Line.{ascii, fields, line, numbersOf, textOf}
+use Rattle.clear_line.proofs.Lines as lines
+use Rattle.clear_line.proofs.Lines.{read, numbersIn, Fit, line-reads-back}
+use Rattle.call_answers.proofs.Endings as ends
 use Rattle.demands.specs.Demand1.{OneOf}
 use Rattle.demands.specs.Program.{Program}
 use Rattle.demands.proofs.Demand1.{one-of}

@@ -19,16 +19,16 @@ use Rattle.matrix.specs.Matrix.{timesColumn, times}
 use Rattle.table.specs.Table.{matrixOf, constant, initialConstant, firstStepConstant, secondStepConstant}
 use Rattle.hash.specs.Hash.{roots, cubes, plus, mix, firstStep, secondStep, stateAt, finalState, input, hash, tap}
 use Rattle.hash.specs.Hash.{outputAt, chain}
-use Rattle.elements.specs.Words.{wordAt}
-use Rattle.elements.specs.Elements.{elementAt, elementsAt, elementTest, elementsTest}
+use Rattle.board_words.specs.Words.{wordAt}
+use Rattle.board_words.specs.Elements.{elementAt, elementsAt, elementTest, elementsTest}
 use Rattle.board.specs.Board.{batchesIn, claimIn, tapsIn, countTest, unpackTest}
 use Rattle.board.proofs.Answers.{unpack-accepted}
-use Rattle.clearing.specs.declared.Outcome.the-variants.{Accepted, Refused}
-use Rattle.clearing.specs.Clearing.{rawWord, rawIn, fileIn, unprepared, Clears, IsJudged, other-claim}
-use Rattle.clearing.proofs.Theorems.{means-cleared, means-fault, means-clears}
-use Rattle.knowndays.specs.Days.{shifted, rawZ, Z}
-use Rattle.knowndays.specs.Files.{zeroFile}
-use Rattle.knowndays.proofs.Tables.{known-tables}
+use Rattle.clear_answer.specs.declared.Outcome.the-variants.{Accepted, Refused}
+use Rattle.clear_answer.specs.Clearing.{rawWord, rawIn, fileIn, unprepared, Clears, IsJudged, other-claim}
+use Rattle.clear_answer.proofs.Theorems.{means-cleared, means-fault, means-clears}
+use Rattle.known_days.specs.Days.{shifted, rawZ, Z}
+use Rattle.known_days.specs.Files.{zeroFile}
+use Rattle.known_days.proofs.Tables.{known-tables}
 use Rattle.demands.specs.Program.{rawBytes, withZ}
 
 -- ---- a raw table of words below 2^8, as bytes

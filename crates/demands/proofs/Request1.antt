@@ -1,6 +1,6 @@
 -- Request 1: an edit turns the lent trace into that of the altered list, as a fresh build does, and returns the output
 -- of its first 3c + 1 taps. From demand 1's refusals, demand 2's building and reading off, and from the rows that an
--- edit touches (crate `edit`, proofs/Theorems.antt).
+-- edit touches (crate `trace_edit`, proofs/Theorems.antt).
 -- Assumes nothing.
 use mathlib.Core.Path.{_≡_, refl, sym, ap, ap₂, _∙_, subst, subst₂}
 use mathlib.Core.Bool.{Bool, true, false}
@@ -12,8 +12,8 @@ use native.Mathlib.Omega.{arith}
 use borrow.Author.Tests.{eqb-false}
 use lib.Dec.{eqb}
 use lib.ListN.{length}
-use Rattle.words.specs.Words.{AllCanonical, firstBad, IsFirstBad, canonicalWords}
-use Rattle.words.proofs.Laws.{good-test}
+use Rattle.field_words.specs.Words.{AllCanonical, firstBad, IsFirstBad, canonicalWords}
+use Rattle.field_words.proofs.Laws.{good-test}
 use Rattle.numbers.specs.Numbers.{IsPermitted, tapWordBatches, traceWordBatches}
 use Rattle.refusals.specs.Refusals.{told, digest, digestWords}
 use Rattle.refusals.specs.Answers.{unless, digestAfter}
@@ -32,25 +32,25 @@ use Rattle.refusals.proofs.Causes.{Never, never-by, never-index, never-either, 
 use Rattle.table.specs.Table.{IsTable}
 use Rattle.table.proofs.Theorems.{test-sound, test-complete}
 use Rattle.hash.specs.Hash.{outputAt, chain, firstTaps}
-use Rattle.chain.proofs.FirstTaps.{chain-first}
+use Rattle.hash_chain.proofs.FirstTaps.{chain-first}
 use Rattle.trace.specs.Trace.{trace, row}
 use Rattle.trace.specs.Answers.{buildAnswer, buildLeaves}
 use Rattle.trace.proofs.TraceCells.{length-trace, output-is-tap}
-use Rattle.constraints.specs.ReadOff.{readTaps}
-use Rattle.checker.specs.Answers.{checkAnswer}
-use Rattle.checker.proofs.Answers.{Opened, opened, opens, CheckInputs}
-use Rattle.readoff.specs.Answers.{readOffAnswer, readOffLeaves}
-use Rattle.readoff.proofs.Theorems.{same-for}
-use Rattle.exact.specs.Exact.{IsListFor}
-use Rattle.exact.proofs.Exactness.{reads-that-list, only-one}
-use Rattle.rewriting.specs.Edit.{altered, firstTouched}
-use Rattle.edit.specs.Answers.{editTest, alteredTaps, editAnswer, editLeaves}
-use Rattle.rewriting.proofs.Altered.{length-altered, altered-canonical, altered-same, output-before}
-use Rattle.edit.proofs.Answers.{edit-inputs}
-use Rattle.edit.proofs.Theorems.{accepts-exactly, earlier-rows, row-tells-tap}
-use Rattle.handover.specs.Code.{digestCode, Says}
-use Rattle.calls.specs.Calls.{EditCall}
-use Rattle.calls.proofs.Answers.{edit-answer}
+use Rattle.check_constraints.specs.ReadOff.{readTaps}
+use Rattle.check_trace.specs.Answers.{checkAnswer}
+use Rattle.check_trace.proofs.Answers.{Opened, opened, opens, CheckInputs}
+use Rattle.trace_read_off.specs.Answers.{readOffAnswer, readOffLeaves}
+use Rattle.trace_read_off.proofs.Theorems.{same-for}
+use Rattle.check_exact.specs.Exact.{IsListFor}
+use Rattle.check_exact.proofs.Exactness.{reads-that-list, only-one}
+use Rattle.trace_rewrite.specs.Edit.{altered, firstTouched}
+use Rattle.trace_edit.specs.Answers.{editTest, alteredTaps, editAnswer, editLeaves}
+use Rattle.trace_rewrite.proofs.Altered.{length-altered, altered-canonical, altered-same, output-before}
+use Rattle.trace_edit.proofs.Answers.{edit-inputs}
+use Rattle.trace_edit.proofs.Theorems.{accepts-exactly, earlier-rows, row-tells-tap}
+use Rattle.call_results.specs.Code.{digestCode, Says}
+use Rattle.call_answers.specs.Calls.{EditCall}
+use Rattle.call_answers.proofs.Answers.{edit-answer}
 use Rattle.demands.specs.Request1.{Edited, InRange, IsAbove, IsBadTap, Request1}
 use Rattle.demands.specs.TurnedBack.{openingCauses, constraintCauses, editCallCauses}
 use Rattle.demands.proofs.Called as Called

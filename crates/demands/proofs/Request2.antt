@@ -7,7 +7,7 @@ use native.Mathlib.Omega.{arith}
 use Rattle.field.specs.Field.{P}
 use Rattle.field.proofs.Folding as products
 use Rattle.field.proofs.Gathering as forms
-use Rattle.sums.proofs.Words as sums
+use Rattle.field_sums.proofs.Words as sums
 use Rattle.matrix.specs.Matrix.{timesColumn}
 use Rattle.demands.specs.Request2.{Request2}
 

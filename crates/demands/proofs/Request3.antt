@@ -1,5 +1,5 @@
 -- Request 3: Hash returns the whole final state. From demand 2's hashes, the outputs along a chain, and the last row of
--- a batch (crate `exact`, proofs/Built.antt); for an edit from request 1.
+-- a batch (crate `check_exact`, proofs/Built.antt); for an edit from request 1.
 -- Assumes nothing.
 use mathlib.Core.Path.{_≡_, refl, sym, ap, ap₂, _∙_, subst}
 use mathlib.Core.List.{List, _++_}
@@ -8,7 +8,7 @@ use Prim.Native.Nat.{ℕ, _+_, _*_, _-_, _≤_, _<_}
 use native.Mathlib.Omega.{arith}
 use lib.ListN.{length, take, drop}
 use lib.Seq.{take-at, drop-at}
-use Rattle.words.specs.Words.{AllCanonical}
+use Rattle.field_words.specs.Words.{AllCanonical}
 use Rattle.numbers.specs.Numbers.{IsPermitted, tapWordBatches}
 use Rattle.refusals.specs.Refusals.{digest, digestWords, state, stateWords}
 use Rattle.refusals.specs.Answers.{after, stateAfter}
@@ -26,20 +26,20 @@ use Rattle.hash.specs.Hash.{finalState, input, hash, tap, outputAt, chain}
 use Rattle.hash.specs.Answers.{hashTest, hashAnswer}
 use Rattle.hash.proofs.States.{finalState-state}
 use Rattle.hash.proofs.Answers.{hash-inputs, hash-passes}
-use Rattle.chain.specs.Answers.{chainTest, chainAnswer}
-use Rattle.chain.proofs.FirstTaps.{chain-first}
-use Rattle.chain.proofs.Answers.{chain-inputs}
+use Rattle.hash_chain.specs.Answers.{chainTest, chainAnswer}
+use Rattle.hash_chain.proofs.FirstTaps.{chain-first}
+use Rattle.hash_chain.proofs.Answers.{chain-inputs}
 use Rattle.trace.specs.Trace.{hashInput, trace, row}
 use Rattle.trace.specs.Answers.{buildTest, buildAnswer, buildLeaves}
 use Rattle.trace.proofs.Answers.{build-inputs}
 use Rattle.trace.proofs.TraceCells.{next-output, output-is-tap, next-tap-is-tap}
 use Rattle.trace.proofs.Theorems.{build-leaves}
-use Rattle.exact.specs.Exact.{IsListFor}
-use Rattle.exact.proofs.Built.{end-row}
-use Rattle.rewriting.specs.Edit.{altered}
-use Rattle.edit.specs.Answers.{editAnswer, editLeaves}
-use Rattle.calls.specs.Calls.{hashNoRoom, hashCall}
-use Rattle.calls.proofs.Answers.{hash-without, hash-answer}
+use Rattle.check_exact.specs.Exact.{IsListFor}
+use Rattle.check_exact.proofs.Built.{end-row}
+use Rattle.trace_rewrite.specs.Edit.{altered}
+use Rattle.trace_edit.specs.Answers.{editAnswer, editLeaves}
+use Rattle.call_answers.specs.Calls.{hashNoRoom, hashCall}
+use Rattle.call_answers.proofs.Answers.{hash-without, hash-answer}
 use Rattle.demands.specs.Request3.{Hashed, HasState, HasOutput, Ends, Request3}
 use Rattle.refusals.proofs.Returned.{four-words, twelve-words}
 use Rattle.demands.proofs.Demand2.{demand-2}

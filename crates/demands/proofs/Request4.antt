@@ -1,5 +1,5 @@
 -- Request 4: the count in refusal 11 is the failing test's place. From what is known of the lent words where an order
--- of tests ends with 11 (crate `calls`, proofs/Endings.antt), from the walk and the places of the tests (crate
+-- of tests ends with 11 (crate `call_answers`, proofs/Endings.antt), from the walk and the places of the tests (crate
 -- `constraints`, proofs/WalkLaws.antt and TestPlace.antt), and that a word loses nothing of its answer.
 -- Assumes nothing.
 use mathlib.Core.Path.{_≡_, refl, sym, ap, _∙_, subst, subst₃}
@@ -11,7 +11,7 @@ use native.Mathlib.Omega.{arith}
 use borrow.Author.Tests.{eqb-false}
 use lib.Dec.{eqb}
 use lib.ListN.{length}
-use Rattle.words.specs.Words.{AllCanonical}
+use Rattle.field_words.specs.Words.{AllCanonical}
 use Rattle.numbers.specs.Numbers.{tapWords, traceWordBatches}
 use Rattle.numbers.specs.declared.RowNumber.{RowNumber}
 use Rattle.refusals.specs.Refusals.{told}
@@ -26,24 +26,24 @@ use Rattle.refusals.specs.declared.DigestAnswer.the-variants as four
 use Rattle.refusals.specs.declared.TestsAnswer.the-variants.{Refused}
 use Rattle.refusals.proofs.Laws.{AnswerEnds, digest-refused, digest-turned-back, tests-refused}
 use Rattle.table.proofs.Theorems.{test-sound, test-complete}
-use Rattle.constraints.specs.Constraints.{tests}
-use Rattle.constraints.specs.FirstFailing.{IsFirstFailing}
-use Rattle.constraints.proofs.WalkLaws.{first-failing-refused}
-use Rattle.constraints.proofs.TestPlace.{place-of-test}
-use Rattle.checker.specs.Answers.{checkTest, checkAnswer}
-use Rattle.checker.proofs.Answers.{CheckInputs}
-use Rattle.checker.proofs.Theorems.{check-verdict}
-use Rattle.readoff.specs.Answers.{readOffTest, readOffAnswer}
-use Rattle.readoff.proofs.Theorems.{same-answer}
-use Rattle.edit.specs.Answers.{editTest, editAnswer}
-use Rattle.edit.proofs.Answers.{same-test}
-use Rattle.handover.specs.Code.{code as code-of, testsCode, numberIn, constraintIn, rowIn, valueIn, Says}
-use Rattle.calls.specs.Calls.{ReadOffCall, editCallTest, editCall, EditCall}
-use Rattle.calls.proofs.Answers.{edit-room}
-use Rattle.handover.proofs.Bits.{RefusalInBits, says}
-use Rattle.calls.proofs.Endings as ends
-use Rattle.calls.proofs.Endings.{TableCauses}
-use Rattle.calls.proofs.Theorems as bits
+use Rattle.check_constraints.specs.Constraints.{tests}
+use Rattle.check_constraints.specs.FirstFailing.{IsFirstFailing}
+use Rattle.check_constraints.proofs.WalkLaws.{first-failing-refused}
+use Rattle.check_constraints.proofs.TestPlace.{place-of-test}
+use Rattle.check_trace.specs.Answers.{checkTest, checkAnswer}
+use Rattle.check_trace.proofs.Answers.{CheckInputs}
+use Rattle.check_trace.proofs.Theorems.{check-verdict}
+use Rattle.trace_read_off.specs.Answers.{readOffTest, readOffAnswer}
+use Rattle.trace_read_off.proofs.Theorems.{same-answer}
+use Rattle.trace_edit.specs.Answers.{editTest, editAnswer}
+use Rattle.trace_edit.proofs.Answers.{same-test}
+use Rattle.call_results.specs.Code.{code as code-of, testsCode, numberIn, constraintIn, rowIn, valueIn, Says}
+use Rattle.call_answers.specs.Calls.{ReadOffCall, editCallTest, editCall, EditCall}
+use Rattle.call_answers.proofs.Answers.{edit-room}
+use Rattle.call_results.proofs.Bits.{RefusalInBits, says}
+use Rattle.call_answers.proofs.Endings as ends
+use Rattle.call_answers.proofs.Endings.{TableCauses}
+use Rattle.call_answers.proofs.Theorems as bits
 use Rattle.demands.specs.Request4.{eleven, Reached, Counted, Request4}
 use Rattle.demands.proofs.Demand1.{digest-none}
 

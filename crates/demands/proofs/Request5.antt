@@ -1,4 +1,4 @@
--- Request 5: Unhash answers the one pair whose Hash ends in the state. From the hash undone (crate `unhash`,
+-- Request 5: Unhash answers the one pair whose Hash ends in the state. From the hash undone (crate `hash_undo`,
 -- proofs/Theorems.antt); row 31 from request 3's final states, which it shows.
 -- Assumes nothing.
 use mathlib.Core.Path.{_≡_, refl, sym, ap, _∙_, subst, subst₂}
@@ -12,8 +12,8 @@ use lib.Dec.{eqb}
 use lib.ListN.{length, length-append}
 use Rattle.lists.specs.Lists.{cell}
 use Rattle.field.specs.Field.{P}
-use Rattle.words.specs.Words.{CanonicalTo, AllCanonical, firstBad, canonicalWords}
-use Rattle.words.proofs.Laws.{bad-at, good-before, stops, scanned-bad, bad-test}
+use Rattle.field_words.specs.Words.{CanonicalTo, AllCanonical, firstBad, canonicalWords}
+use Rattle.field_words.proofs.Laws.{bad-at, good-before, stops, scanned-bad, bad-test}
 use Rattle.numbers.specs.Numbers.{IsPermitted, tapWordBatches, traceWordBatches}
 use Rattle.refusals.specs.Refusals.{told, state, stateWords, pair, pairWords}
 use Rattle.refusals.specs.Answers.{unless, after, leaves}
@@ -39,20 +39,20 @@ use Rattle.trace.specs.Trace.{row}
 use Rattle.trace.specs.Answers.{buildTest, buildAnswer, buildLeaves}
 use Rattle.trace.proofs.Answers.{build-inputs}
 use Rattle.trace.proofs.TraceCells.{output-is-tap, next-tap-is-tap}
-use Rattle.constraints.specs.ReadOff.{readTaps}
-use Rattle.checker.specs.Answers.{checkTest, checkAnswer}
-use Rattle.checker.proofs.Answers.{check-inputs}
-use Rattle.exact.specs.Exact.{IsListFor}
-use Rattle.exact.proofs.Exactness.{reads-that-list}
-use Rattle.unhash.specs.Unhash.{inputBefore, tapsBefore, endsInZeros}
-use Rattle.unhash.specs.Answers.{unhashTest, unhashAnswer}
-use Rattle.unhash.proofs.Theorems.{taps-size, answered-hash, hash-answered, answered-or-16, other-input}
-use Rattle.handover.specs.Code.{refusalCode, answerCode}
-use Rattle.calls.specs.Calls.{hashNoRoom, unhashCallTest, UnhashCall}
-use Rattle.calls.proofs.Answers.{hash-no-room-refuses, unhash-room, unhash-without}
-use Rattle.handover.proofs.Bits.{zero-accepts}
-use Rattle.calls.proofs.Endings as ends
-use Rattle.calls.proofs.Theorems.{unhash-bits}
+use Rattle.check_constraints.specs.ReadOff.{readTaps}
+use Rattle.check_trace.specs.Answers.{checkTest, checkAnswer}
+use Rattle.check_trace.proofs.Answers.{check-inputs}
+use Rattle.check_exact.specs.Exact.{IsListFor}
+use Rattle.check_exact.proofs.Exactness.{reads-that-list}
+use Rattle.hash_undo.specs.Unhash.{inputBefore, tapsBefore, endsInZeros}
+use Rattle.hash_undo.specs.Answers.{unhashTest, unhashAnswer}
+use Rattle.hash_undo.proofs.Theorems.{taps-size, answered-hash, hash-answered, answered-or-16, other-input}
+use Rattle.call_results.specs.Code.{refusalCode, answerCode}
+use Rattle.call_answers.specs.Calls.{hashNoRoom, unhashCallTest, UnhashCall}
+use Rattle.call_answers.proofs.Answers.{hash-no-room-refuses, unhash-room, unhash-without}
+use Rattle.call_results.proofs.Bits.{zero-accepts}
+use Rattle.call_answers.proofs.Endings as ends
+use Rattle.call_answers.proofs.Theorems.{unhash-bits}
 use Rattle.demands.specs.Request3.{Ends}
 use Rattle.demands.specs.Request5.{EndsIn, GivesBack, Request5}
 use Rattle.demands.proofs.Demand2.{demand-2}

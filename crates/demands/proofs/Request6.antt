@@ -1,5 +1,5 @@
--- Request 6: claims that end before the rows do. From the order of the tests for every c (crate `constraints`,
--- proofs/ClaimRow.antt), what is known where an order of tests ends with 17 (crate `calls`, proofs/Endings.antt), and
+-- Request 6: claims that end before the rows do. From the order of the tests for every c (crate `check_constraints`,
+-- proofs/ClaimRow.antt), what is known where an order of tests ends with 17 (crate `call_answers`, proofs/Endings.antt), and
 -- demands 2 and 3.
 -- Assumes nothing.
 use mathlib.Core.Path.{_≡_, refl, sym, ap, _∙_}
@@ -11,7 +11,7 @@ use native.Mathlib.Omega.{arith}
 use lib.Dec.{eqb}
 use lib.ListN.{length, take}
 use Rattle.lists.specs.Lists.{cell}
-use Rattle.words.specs.Words.{AllCanonical}
+use Rattle.field_words.specs.Words.{AllCanonical}
 use Rattle.numbers.specs.Numbers.{IsPermitted, traceWordBatches}
 use Rattle.refusals.specs.Refusals.{told}
 use Rattle.refusals.specs.Answers.{testsAfter}
@@ -27,27 +27,27 @@ use Rattle.refusals.proofs.Laws.{AnswerEnds, digest-refused, tests-refused, tes
 use Rattle.table.specs.Table.{tableTest}
 use Rattle.table.proofs.Theorems.{test-complete}
 use Rattle.hash.specs.Hash.{chain, firstTaps}
-use Rattle.chain.proofs.FirstTaps.{chain-first}
+use Rattle.hash_chain.proofs.FirstTaps.{chain-first}
 use Rattle.trace.specs.Trace.{row}
-use Rattle.constraints.specs.Constraints.{tests, constraintTest}
-use Rattle.constraints.specs.ReadOff.{readTaps}
-use Rattle.constraints.proofs.TestList.{test-list}
-use Rattle.constraints.proofs.TestCount.{length-tests}
-use Rattle.constraints.proofs.WalkLaws.{accepted-all-hold, first-failing-refused}
-use Rattle.constraints.proofs.ClaimRow.{other-rows, row-31, claim-places, claim-only, other-claim-fails}
-use Rattle.checker.specs.Answers.{openingTest, checkTest, checkAnswer}
-use Rattle.checker.proofs.Answers.{Opened, CheckInputs, check-inputs, unclaimed}
-use Rattle.checker.proofs.Theorems.{check-verdict}
-use Rattle.readoff.specs.Answers.{readOffTest, readOffAnswer}
-use Rattle.edit.specs.Answers.{editTest, editAnswer}
-use Rattle.exact.specs.Exact.{IsListFor}
-use Rattle.exact.proofs.Exactness.{reads-that-list}
-use Rattle.handover.specs.Code.{code as code-of, testsCode, numberIn, Says}
-use Rattle.calls.specs.Calls.{ReadOffCall, editCallTest, editCall, EditCall}
-use Rattle.handover.proofs.Bits.{RefusalInBits, says}
-use Rattle.calls.proofs.Endings as ends
-use Rattle.calls.proofs.Endings.{TableCauses}
-use Rattle.calls.proofs.Theorems as bits
+use Rattle.check_constraints.specs.Constraints.{tests, constraintTest}
+use Rattle.check_constraints.specs.ReadOff.{readTaps}
+use Rattle.check_constraints.proofs.TestList.{test-list}
+use Rattle.check_constraints.proofs.TestCount.{length-tests}
+use Rattle.check_constraints.proofs.WalkLaws.{accepted-all-hold, first-failing-refused}
+use Rattle.check_constraints.proofs.ClaimRow.{other-rows, row-31, claim-places, claim-only, other-claim-fails}
+use Rattle.check_trace.specs.Answers.{openingTest, checkTest, checkAnswer}
+use Rattle.check_trace.proofs.Answers.{Opened, CheckInputs, check-inputs, unclaimed}
+use Rattle.check_trace.proofs.Theorems.{check-verdict}
+use Rattle.trace_read_off.specs.Answers.{readOffTest, readOffAnswer}
+use Rattle.trace_edit.specs.Answers.{editTest, editAnswer}
+use Rattle.check_exact.specs.Exact.{IsListFor}
+use Rattle.check_exact.proofs.Exactness.{reads-that-list}
+use Rattle.call_results.specs.Code.{code as code-of, testsCode, numberIn, Says}
+use Rattle.call_answers.specs.Calls.{ReadOffCall, editCallTest, editCall, EditCall}
+use Rattle.call_results.proofs.Bits.{RefusalInBits, says}
+use Rattle.call_answers.proofs.Endings as ends
+use Rattle.call_answers.proofs.Endings.{TableCauses}
+use Rattle.call_answers.proofs.Theorems as bits
 use Rattle.demands.specs.Request6.{row31, claimPlace, OutOfRange, Request6}
 use Rattle.demands.proofs.Demand1.{digest-none}
 use Rattle.demands.proofs.Demand2.{output-is-tap, shown}

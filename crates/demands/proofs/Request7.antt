@@ -1,5 +1,5 @@
 -- Request 7: the short edition there and back, one file for one meaning, the fault that each refusal names, the
--- lengths, and the same by the words and buffers of the calls. From the theorems of crate `shortboard`.
+-- lengths, and the same by the words and buffers of the calls. From the theorems of crate `board_short`.
 -- Assumes nothing.
 use mathlib.Core.Path.{_≡_, refl, sym, ap, _∙_}
 use mathlib.Core.List.{List}
@@ -18,19 +18,19 @@ use Rattle.refusals.specs.declared.Digest.{Digest}
 use Rattle.refusals.specs.declared.DigestAnswer.the-variants.{Accepted, Refused}
 use Rattle.refusals.proofs.Laws.{not-accepted, refused-same, digest-accepted, digest-refused}
 use Rattle.refusals.proofs.Returned.{four-words}
-use Rattle.elements.specs.Words.{AllBytes}
-use Rattle.shortboard.specs.ShortBoard.{shortFileSize, packShortTest, packedShort, packShortLeaves, shortClaimIn}
-use Rattle.shortboard.specs.ShortBoard.{shortTapsIn, unpackShortTest, unpackShortAnswer, unpackShortLeaves}
-use Rattle.shortboard.specs.ShortBoard.{ThreeForOne, FirstFault}
-use Rattle.shortboard.proofs.Answers.{pack-accepted, pack-complete, unpack-returns, unpack-refuses}
-use Rattle.shortboard.proofs.Theorems as short
-use Rattle.handover.specs.Code.{refusalCode, answerCode, digestCode}
-use Rattle.handover.specs.HandsOver.{written}
-use Rattle.handover.proofs.Bits.{zero-accepts, zero-returns}
-use Rattle.calls.specs.Calls.{PackShortCall, unpackShortCallTest, unpackShortCall, UnpackShortCall}
-use Rattle.calls.proofs.Answers.{unpack-short-room, unpack-short-without, no-short-list-refuses}
-use Rattle.calls.proofs.Answers.{unpack-short-answer, unpack-short-left}
-use Rattle.calls.proofs.Theorems as bits
+use Rattle.board_words.specs.Words.{AllBytes}
+use Rattle.board_short.specs.ShortBoard.{shortFileSize, packShortTest, packedShort, packShortLeaves, shortClaimIn}
+use Rattle.board_short.specs.ShortBoard.{shortTapsIn, unpackShortTest, unpackShortAnswer, unpackShortLeaves}
+use Rattle.board_short.specs.ShortBoard.{ThreeForOne, FirstFault}
+use Rattle.board_short.proofs.Answers.{pack-accepted, pack-complete, unpack-returns, unpack-refuses}
+use Rattle.board_short.proofs.Theorems as short
+use Rattle.call_results.specs.Code.{refusalCode, answerCode, digestCode}
+use Rattle.call_results.specs.HandsOver.{written}
+use Rattle.call_results.proofs.Bits.{zero-accepts, zero-returns}
+use Rattle.call_answers.specs.Calls.{PackShortCall, unpackShortCallTest, unpackShortCall, UnpackShortCall}
+use Rattle.call_answers.proofs.Answers.{unpack-short-room, unpack-short-without, no-short-list-refuses}
+use Rattle.call_answers.proofs.Answers.{unpack-short-answer, unpack-short-left}
+use Rattle.call_answers.proofs.Theorems as bits
 use Rattle.demands.specs.Request7.{IsShortDay, Request7}
 use Rattle.demands.proofs.Called.{had-room}
 

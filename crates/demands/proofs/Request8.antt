@@ -1,5 +1,5 @@
 -- Request 8: what a converter answers and leaves, beside the reader of the one edition and the writer of the other, and
--- the same by the words and buffers of the calls. From the theorems of crates `editions`, `toshort` and `tofull`.
+-- the same by the words and buffers of the calls. From the theorems of crates `board_edition`, `board_to_short` and `board_to_full`.
 -- Assumes nothing.
 use mathlib.Core.Path.{_≡_, refl, sym, ap, ap₂, _∙_}
 use mathlib.Core.Bool.{true, false}
@@ -21,39 +21,39 @@ use Rattle.refusals.specs.declared.Answer.the-variants as answer
 use Rattle.refusals.specs.declared.Digest.{Digest}
 use Rattle.refusals.specs.declared.DigestAnswer.the-variants.{Accepted, Refused}
 use Rattle.refusals.proofs.Laws.{not-accepted, digest-refused}
-use Rattle.elements.specs.Words.{kindOf, wordAt, AllBytes}
-use Rattle.elements.proofs.Round.{length-elements}
+use Rattle.board_words.specs.Words.{kindOf, wordAt, AllBytes}
+use Rattle.board_words.proofs.Round.{length-elements}
 use Rattle.board.specs.Board.{fileSize, packTest, packed, packLeaves, batchesIn, claimIn, tapsIn, countTest, unpackTest}
 use Rattle.board.specs.Board.{unpackAnswer, unpackLeaves}
 use Rattle.board.proofs.Answers as board-answers
 use Rattle.board.proofs.Round as board-round
 use Rattle.board.proofs.Theorems as board
-use Rattle.shortreading.proofs.Round.{length-shorts}
-use Rattle.shortboard.specs.ShortBoard.{shortFileSize, packShortTest, packedShort, packShortLeaves, shortClaimIn}
-use Rattle.shortboard.specs.ShortBoard.{shortTapsIn, shortCountTest, unpackShortTest, unpackShortAnswer}
-use Rattle.shortboard.specs.ShortBoard.{unpackShortLeaves, shortBatchesIn}
-use Rattle.shortboard.proofs.Answers as short-answers
-use Rattle.shortboard.proofs.Round as short-round
-use Rattle.shortboard.proofs.Theorems as short
-use Rattle.editions.specs.Edition.{fullMark, shortMark, HasMark, ConverterFault, ConverterAnswers}
-use Rattle.editions.proofs.Answers as edition
-use Rattle.editions.proofs.Answers.{not-full, not-short}
-use Rattle.editions.proofs.Converters as converters
-use Rattle.editions.proofs.Converters.{Not, Reader}
-use Rattle.toshort.specs.ToShort.{toShortTest, toShortLeaves}
-use Rattle.toshort.proofs.Answers as to-short-tests
-use Rattle.toshort.proofs.Theorems as to-short
-use Rattle.tofull.specs.ToFull.{toFullTest, toFullLeaves, NoFullForm}
-use Rattle.tofull.proofs.Answers as to-full-tests
-use Rattle.tofull.proofs.Theorems as to-full
-use Rattle.handover.specs.Code.{refusalCode, answerCode}
-use Rattle.handover.specs.HandsOver.{written}
-use Rattle.handover.proofs.Bits.{zero-accepts, zero-returns}
-use Rattle.calls.specs.Calls.{PackCall, unpackCallTest, unpackCall, UnpackCall, PackShortCall, UnpackShortCall}
-use Rattle.calls.specs.Calls.{ToShortCall, ToFullCall}
-use Rattle.calls.proofs.Answers.{unpack-room, unpack-without, no-list-refuses, unpack-left}
-use Rattle.calls.proofs.Endings as ends
-use Rattle.calls.proofs.Theorems as bits
+use Rattle.board_short_read.proofs.Round.{length-shorts}
+use Rattle.board_short.specs.ShortBoard.{shortFileSize, packShortTest, packedShort, packShortLeaves, shortClaimIn}
+use Rattle.board_short.specs.ShortBoard.{shortTapsIn, shortCountTest, unpackShortTest, unpackShortAnswer}
+use Rattle.board_short.specs.ShortBoard.{unpackShortLeaves, shortBatchesIn}
+use Rattle.board_short.proofs.Answers as short-answers
+use Rattle.board_short.proofs.Round as short-round
+use Rattle.board_short.proofs.Theorems as short
+use Rattle.board_edition.specs.Edition.{fullMark, shortMark, HasMark, ConverterFault, ConverterAnswers}
+use Rattle.board_edition.proofs.Answers as edition
+use Rattle.board_edition.proofs.Answers.{not-full, not-short}
+use Rattle.board_edition.proofs.Converters as converters
+use Rattle.board_edition.proofs.Converters.{Not, Reader}
+use Rattle.board_to_short.specs.ToShort.{toShortTest, toShortLeaves}
+use Rattle.board_to_short.proofs.Answers as to-short-tests
+use Rattle.board_to_short.proofs.Theorems as to-short
+use Rattle.board_to_full.specs.ToFull.{toFullTest, toFullLeaves, NoFullForm}
+use Rattle.board_to_full.proofs.Answers as to-full-tests
+use Rattle.board_to_full.proofs.Theorems as to-full
+use Rattle.call_results.specs.Code.{refusalCode, answerCode}
+use Rattle.call_results.specs.HandsOver.{written}
+use Rattle.call_results.proofs.Bits.{zero-accepts, zero-returns}
+use Rattle.call_answers.specs.Calls.{PackCall, unpackCallTest, unpackCall, UnpackCall, PackShortCall, UnpackShortCall}
+use Rattle.call_answers.specs.Calls.{ToShortCall, ToFullCall}
+use Rattle.call_answers.proofs.Answers.{unpack-room, unpack-without, no-list-refuses, unpack-left}
+use Rattle.call_answers.proofs.Endings as ends
+use Rattle.call_answers.proofs.Theorems as bits
 use Rattle.demands.specs.Request8.{FitsShort, FitsFull, Request8}
 use Rattle.demands.proofs.Called.{unpacked}
 use Rattle.demands.proofs.Demand2.{demand-2}

@@ -1,5 +1,5 @@
 -- Request 9: which k are permitted; where 5, 7 and 14 come, from what is known where an order of tests ends with them
--- (crate `calls`, proofs/Endings.antt); a list of 24580 words; what has no full form; the short files already stored
+-- (crate `call_answers`, proofs/Endings.antt); a list of 24580 words; what has no full form; the short files already stored
 -- (Stored.antt); and room in the returned word.
 -- Assumes nothing.
 use mathlib.Core.Path.{_≡_, refl, sym, ap, subst, _∙_}
@@ -13,7 +13,7 @@ use borrow.Author.Tests.{le-leb, leb-true}
 use lib.Dec.{eqb, leb, ltb}
 use lib.ListN.{length}
 use Rattle.field.specs.Field.{P}
-use Rattle.words.specs.Words.{AllCanonical}
+use Rattle.field_words.specs.Words.{AllCanonical}
 use Rattle.numbers.specs.Numbers.{tapWords, IsPermittedTo, IsPermitted, mostBatches, permitted}
 use Rattle.numbers.specs.Numbers.{isTapLength, tapWordBatches, isTraceLength, traceWordBatches}
 use Rattle.numbers.proofs.Laws.{permitted-power, power-permitted, permitted-to, tap-length-sound, tap-length-complete}
@@ -33,34 +33,34 @@ use Rattle.refusals.specs.declared.TestsAnswer.the-variants as tests
 use Rattle.refusals.proofs.Laws.{not-accepted, refused-same, digest-refused, tests-refused, AnswerEnds, unless-ends}
 use Rattle.refusals.proofs.Laws.{after-ends, refusal-ends}
 use Rattle.table.specs.Table.{tableTest}
-use Rattle.chain.specs.Answers.{chainTest, chainAnswer}
+use Rattle.hash_chain.specs.Answers.{chainTest, chainAnswer}
 use Rattle.trace.specs.Answers.{buildTest, buildAnswer}
-use Rattle.checker.specs.Answers.{openingTest, checkTest, checkAnswer}
-use Rattle.readoff.specs.Answers.{readOffTest, readOffAnswer}
-use Rattle.edit.specs.Answers.{editTest, editAnswer}
-use Rattle.elements.specs.Words.{kindOf, wordAt}
-use Rattle.elements.specs.Elements.{elementAt, elementTest, elementsTest}
+use Rattle.check_trace.specs.Answers.{openingTest, checkTest, checkAnswer}
+use Rattle.trace_read_off.specs.Answers.{readOffTest, readOffAnswer}
+use Rattle.trace_edit.specs.Answers.{editTest, editAnswer}
+use Rattle.board_words.specs.Words.{kindOf, wordAt}
+use Rattle.board_words.specs.Elements.{elementAt, elementTest, elementsTest}
 use Rattle.board.specs.Board.{mostFileBatches, countWord, elementCount, fileSize, packTest, packed, packLeaves}
 use Rattle.board.specs.Board.{batchesIn, countTest, unpackTest, unpackAnswer, unpackLeaves}
 use Rattle.board.proofs.Answers as board
-use Rattle.shortreading.specs.Reading.{firstWord, ElementFault, no-first, first-kind, no-second, second-kind, no-third}
-use Rattle.shortreading.specs.Reading.{third-kind, too-large, needless}
-use Rattle.shortreading.proofs.Tests.{first-least}
-use Rattle.shortboard.specs.ShortBoard.{shortCountWord, shortFileSize, packShortTest, shortBatchesIn}
-use Rattle.shortboard.specs.ShortBoard.{shortClaimIn, shortTapsIn, unpackShortTest, unpackShortAnswer}
-use Rattle.shortboard.specs.ShortBoard.{unpackShortLeaves, FirstFault, no-count, count-kind, count-value, no-room}
-use Rattle.shortboard.specs.ShortBoard as faults
-use Rattle.shortboard.proofs.Answers as short
-use Rattle.shortboard.proofs.Theorems.{first-fault, fault-first}
-use Rattle.editions.specs.Edition.{fullMark, shortMark, HasMark, ConverterFault, already, no-form, malformed}
-use Rattle.editions.specs.Edition as converter
-use Rattle.editions.proofs.Answers.{not-full}
-use Rattle.tofull.specs.ToFull.{toFullTest, toFullLeaves, NoFullForm}
-use Rattle.tofull.proofs.Answers as to-full
-use Rattle.handover.specs.Code.{refusalCode, answerCode}
-use Rattle.calls.specs.Calls.{PackCall, UnpackShortCall, ToFullCall}
-use Rattle.calls.proofs.Endings as ends
-use Rattle.calls.proofs.Endings.{TableCauses}
+use Rattle.board_short_read.specs.Reading.{firstWord, ElementFault, no-first, first-kind, no-second, second-kind, no-third}
+use Rattle.board_short_read.specs.Reading.{third-kind, too-large, needless}
+use Rattle.board_short_read.proofs.Tests.{first-least}
+use Rattle.board_short.specs.ShortBoard.{shortCountWord, shortFileSize, packShortTest, shortBatchesIn}
+use Rattle.board_short.specs.ShortBoard.{shortClaimIn, shortTapsIn, unpackShortTest, unpackShortAnswer}
+use Rattle.board_short.specs.ShortBoard.{unpackShortLeaves, FirstFault, no-count, count-kind, count-value, no-room}
+use Rattle.board_short.specs.ShortBoard as faults
+use Rattle.board_short.proofs.Answers as short
+use Rattle.board_short.proofs.Theorems.{first-fault, fault-first}
+use Rattle.board_edition.specs.Edition.{fullMark, shortMark, HasMark, ConverterFault, already, no-form, malformed}
+use Rattle.board_edition.specs.Edition as converter
+use Rattle.board_edition.proofs.Answers.{not-full}
+use Rattle.board_to_full.specs.ToFull.{toFullTest, toFullLeaves, NoFullForm}
+use Rattle.board_to_full.proofs.Answers as to-full
+use Rattle.call_results.specs.Code.{refusalCode, answerCode}
+use Rattle.call_answers.specs.Calls.{PackCall, UnpackShortCall, ToFullCall}
+use Rattle.call_answers.proofs.Endings as ends
+use Rattle.call_answers.proofs.Endings.{TableCauses}
 use Rattle.demands.specs.Stored.{storedUnpackAnswer, storedUnpackLeaves}
 use Rattle.demands.specs.Request9.{TapsFit, RowsFit, WrongCount, Request9}
 use Rattle.demands.proofs.Demand2.{demand-2}

@@ -13,7 +13,7 @@ use lib.Count.{ones}
 use lib.Dec.{eqb, leb}
 use lib.ListN.{length}
 use Rattle.lists.specs.Lists.{tab, each, sum, first}
-use Rattle.words.specs.Words.{firstBad}
+use Rattle.field_words.specs.Words.{firstBad}
 use Rattle.numbers.specs.Numbers.{IsPermittedTo, IsPermitted, mostBatches, permitted, tapWordBatches, isTapLength}
 use Rattle.numbers.proofs.Laws.{permitted-to, permitted-sound, permitted-complete, tap-length-sound}
 use Rattle.numbers.proofs.Laws.{tap-length-complete}
@@ -27,17 +27,17 @@ use Rattle.refusals.specs.declared.Digest.{Digest}
 use Rattle.refusals.specs.declared.DigestAnswer.the-variants.{Accepted, Refused}
 use Rattle.refusals.proofs.Laws.{not-accepted, passed, both-accepted, digest-accepted, AnswerEnds, unless-ends}
 use Rattle.refusals.proofs.Laws.{one-cause}
-use Rattle.elements.specs.Words.{kindOf, wordAt}
-use Rattle.elements.specs.Elements.{elementAt}
+use Rattle.board_words.specs.Words.{kindOf, wordAt}
+use Rattle.board_words.specs.Elements.{elementAt}
 use Rattle.board.specs.Board.{mostFileBatches}
-use Rattle.shortwords.specs.Short.{allBytesNeeded}
-use Rattle.shortreading.specs.Reading.{shortAt, nextWord, threeTest, shortTest, firstWord, shortsAt, shortsTest}
-use Rattle.shortboard.specs.ShortBoard.{shortCountWord, shortFileOf, packShortTest, packedShort, packShortLeaves}
-use Rattle.shortboard.specs.ShortBoard.{shortCountIn, markIn, shortBatchesIn, shortClaimIn, shortTapsIn, shortCountTest}
-use Rattle.shortboard.specs.ShortBoard.{unpackShortTest, unpackShortAnswer, unpackShortLeaves}
-use Rattle.shortboard.proofs.Answers.{count-accepted, count-complete, count-fault-refused, kind, value}
-use Rattle.tofull.specs.ToFull.{NoFullForm}
-use Rattle.knowndays.proofs.Files.{left, short-file}
+use Rattle.board_short_words.specs.Short.{allBytesNeeded}
+use Rattle.board_short_read.specs.Reading.{shortAt, nextWord, threeTest, shortTest, firstWord, shortsAt, shortsTest}
+use Rattle.board_short.specs.ShortBoard.{shortCountWord, shortFileOf, packShortTest, packedShort, packShortLeaves}
+use Rattle.board_short.specs.ShortBoard.{shortCountIn, markIn, shortBatchesIn, shortClaimIn, shortTapsIn, shortCountTest}
+use Rattle.board_short.specs.ShortBoard.{unpackShortTest, unpackShortAnswer, unpackShortLeaves}
+use Rattle.board_short.proofs.Answers.{count-accepted, count-complete, count-fault-refused, kind, value}
+use Rattle.board_to_full.specs.ToFull.{NoFullForm}
+use Rattle.known_days.proofs.Files.{left, short-file}
 use Rattle.demands.specs.Stored.{mostStored, storedPackTest, storedPackLeaves, storedCountIn, storedSpareIn}
 use Rattle.demands.specs.Stored.{storedBatchesIn, storedTapsIn, storedCountTest, storedUnpackTest}
 use Rattle.demands.specs.Stored.{storedUnpackAnswer, storedUnpackLeaves, storedClaim, storedTaps, storedFile}

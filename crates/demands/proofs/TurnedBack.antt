@@ -12,8 +12,8 @@ use lib.Dec.{eqb, leb, ltb, lit<}
 use lib.ListN.{length}
 use Rattle.lists.proofs.Bools.{and-both, and-intro}
 use Rattle.field.specs.Field.{P}
-use Rattle.words.specs.Words.{firstBad, IsFirstBad, canonicalWords}
-use Rattle.words.proofs.Laws.{within, first-bad, only-first-bad, good-test}
+use Rattle.field_words.specs.Words.{firstBad, IsFirstBad, canonicalWords}
+use Rattle.field_words.proofs.Laws.{within, first-bad, only-first-bad, good-test}
 use Rattle.numbers.specs.Numbers.{mostBatches, IsPermittedTo, permitted, isTapLength, tapWordBatches, isTraceLength}
 use Rattle.numbers.specs.Numbers.{traceWordBatches}
 use Rattle.numbers.proofs.Laws.{permitted-sound, permitted-complete, tap-length-sound, tap-length-complete}
@@ -39,32 +39,32 @@ use Rattle.table.specs.Table.{firstUnlike, IsFirstUnlike, rawMatrix, rawTest, t
 use Rattle.table.specs.Table.{refuses}
 use Rattle.table.proofs.Theorems.{test-sound, first-cell, only-first-cell}
 use Rattle.hash.specs.Answers.{hashTest}
-use Rattle.chain.specs.Answers.{chainTest}
+use Rattle.hash_chain.specs.Answers.{chainTest}
 use Rattle.trace.specs.Answers.{buildTest}
-use Rattle.constraints.specs.Constraints.{between, constraintTest}
-use Rattle.constraints.proofs.Families.{range, in-range}
-use Rattle.constraints.proofs.WalkLaws.{first-failing-refused, refused-first-failing, else-first-failing}
-use Rattle.checker.specs.Answers.{openingTest, traceTest, checkTest, checkAnswer}
-use Rattle.checker.proofs.Answers.{check-inputs}
-use Rattle.readoff.specs.Answers.{readOffTest, readOffAnswer}
-use Rattle.readoff.proofs.Answers.{read-off-inputs}
-use Rattle.edit.specs.Answers.{editTest}
-use Rattle.unhash.specs.Unhash.{inputBefore, endsInZeros}
-use Rattle.unhash.specs.Answers.{unhashTest, unhashAnswer}
-use Rattle.unhash.proofs.Theorems.{hash-answered, answered-or-16}
-use Rattle.elements.specs.Words.{kindOf, wordAt}
-use Rattle.elements.specs.Elements.{elementAt, elementTest, elementsTest}
-use Rattle.elements.proofs.Tests.{first-refused, found-refused}
+use Rattle.check_constraints.specs.Constraints.{between, constraintTest}
+use Rattle.check_constraints.proofs.Families.{range, in-range}
+use Rattle.check_constraints.proofs.WalkLaws.{first-failing-refused, refused-first-failing, else-first-failing}
+use Rattle.check_trace.specs.Answers.{openingTest, traceTest, checkTest, checkAnswer}
+use Rattle.check_trace.proofs.Answers.{check-inputs}
+use Rattle.trace_read_off.specs.Answers.{readOffTest, readOffAnswer}
+use Rattle.trace_read_off.proofs.Answers.{read-off-inputs}
+use Rattle.trace_edit.specs.Answers.{editTest}
+use Rattle.hash_undo.specs.Unhash.{inputBefore, endsInZeros}
+use Rattle.hash_undo.specs.Answers.{unhashTest, unhashAnswer}
+use Rattle.hash_undo.proofs.Theorems.{hash-answered, answered-or-16}
+use Rattle.board_words.specs.Words.{kindOf, wordAt}
+use Rattle.board_words.specs.Elements.{elementAt, elementTest, elementsTest}
+use Rattle.board_words.proofs.Tests.{first-refused, found-refused}
 use Rattle.board.specs.Board.{mostFileBatches, countWord, fileSize, elementCount, packTest, countIn, spareIn, batchesIn}
 use Rattle.board.specs.Board.{countTest, unpackTest}
-use Rattle.shortboard.specs.ShortBoard.{shortFileSize, packShortTest}
-use Rattle.handover.specs.Code.{answerCode, digestCode, stateCode, testsCode}
-use Rattle.handover.specs.HandsOver.{HandsOver, HandsOverState}
-use Rattle.handover.proofs.Bits.{RefusalInBits, told-exactly, accepted-exactly}
-use Rattle.calls.specs.Calls.{PrepareCall, hashCallTest, hashCall, chainCallTest, chainCall, buildCallTest, buildCall}
-use Rattle.calls.specs.Calls.{BuildCall, ReadOffCall, editCallTest, editCall, EditCall, unhashCallTest, UnhashCall}
-use Rattle.calls.specs.Calls.{PackCall, unpackCallTest, unpackCall, UnpackCall, PackShortCall}
-use Rattle.calls.proofs.Theorems as bits
+use Rattle.board_short.specs.ShortBoard.{shortFileSize, packShortTest}
+use Rattle.call_results.specs.Code.{answerCode, digestCode, stateCode, testsCode}
+use Rattle.call_results.specs.HandsOver.{HandsOver, HandsOverState}
+use Rattle.call_results.proofs.Bits.{RefusalInBits, told-exactly, accepted-exactly}
+use Rattle.call_answers.specs.Calls.{PrepareCall, hashCallTest, hashCall, chainCallTest, chainCall, buildCallTest, buildCall}
+use Rattle.call_answers.specs.Calls.{BuildCall, ReadOffCall, editCallTest, editCall, EditCall, unhashCallTest, UnhashCall}
+use Rattle.call_answers.specs.Calls.{PackCall, unpackCallTest, unpackCall, UnpackCall, PackShortCall}
+use Rattle.call_answers.proofs.Theorems as bits
 use Rattle.demands.specs.TurnedBack.{tableCauses, rawCauses, prepareCauses, hashCauses, hashCallCauses}
 use Rattle.demands.specs.TurnedBack.{NoTapLength, chainCauses, writtenCauses, NoTraceLength, openingCauses, constraintCauses}
 use Rattle.demands.specs.TurnedBack.{checkCauses, readOffCauses, editCauses, editCallCauses, NoTwoTaps}

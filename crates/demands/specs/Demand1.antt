@@ -24,27 +24,27 @@ use Rattle.matrix.specs.Matrix.{Kernel, entry}
 use Rattle.table.specs.Table.{tableTest, rawMatrix, RawInverse, rawTest, Prepares}
 use Rattle.hash.specs.Hash as rescue
 use Rattle.hash.specs.Answers.{hashAnswer}
-use Rattle.chain.specs.Answers.{chainAnswer}
+use Rattle.hash_chain.specs.Answers.{chainAnswer}
 use Rattle.trace.specs.Trace.{trace}
 use Rattle.trace.specs.Answers.{buildAnswer, buildLeaves}
-use Rattle.constraints.specs.ReadOff.{readTaps}
-use Rattle.checker.specs.Answers.{checkTest, checkAnswer}
-use Rattle.readoff.specs.Answers.{readOffTest, readOffAnswer, readOffLeaves}
-use Rattle.edit.specs.Answers.{alteredTaps, editAnswer, editLeaves}
-use Rattle.unhash.specs.Unhash.{tapsBefore}
-use Rattle.unhash.specs.Answers.{unhashAnswer}
+use Rattle.check_constraints.specs.ReadOff.{readTaps}
+use Rattle.check_trace.specs.Answers.{checkTest, checkAnswer}
+use Rattle.trace_read_off.specs.Answers.{readOffTest, readOffAnswer, readOffLeaves}
+use Rattle.trace_edit.specs.Answers.{alteredTaps, editAnswer, editLeaves}
+use Rattle.hash_undo.specs.Unhash.{tapsBefore}
+use Rattle.hash_undo.specs.Answers.{unhashAnswer}
 use Rattle.board.specs.Board.{packTest, packed, packLeaves, unpackAnswer, tapsIn, claimIn, unpackLeaves}
-use Rattle.shortboard.specs.ShortBoard.{packShortTest, packedShort, packShortLeaves, unpackShortAnswer, shortTapsIn}
-use Rattle.shortboard.specs.ShortBoard.{shortClaimIn, unpackShortLeaves}
-use Rattle.toshort.specs.ToShort.{toShortTest, toShortLeaves}
-use Rattle.tofull.specs.ToFull.{toFullTest, toFullLeaves}
-use Rattle.handover.specs.Code.{Says, testsCode}
-use Rattle.handover.specs.HandsOver.{HandsOver, HandsOverState}
-use Rattle.calls.specs.Calls.{PrepareCall, hashCallTest, hashCall, chainCallTest, chainCall, buildCallTest, BuildCall}
-use Rattle.calls.specs.Calls.{ReadOffCall, editCallTest, EditCall, unhashCallTest, UnhashCall, PackCall}
-use Rattle.calls.specs.Calls.{unpackCallTest, UnpackCall, PackShortCall, unpackShortCallTest, UnpackShortCall}
-use Rattle.calls.specs.Calls.{ToShortCall, ToFullCall}
-use Rattle.exact.specs.Exact.{IsListFor}
+use Rattle.board_short.specs.ShortBoard.{packShortTest, packedShort, packShortLeaves, unpackShortAnswer, shortTapsIn}
+use Rattle.board_short.specs.ShortBoard.{shortClaimIn, unpackShortLeaves}
+use Rattle.board_to_short.specs.ToShort.{toShortTest, toShortLeaves}
+use Rattle.board_to_full.specs.ToFull.{toFullTest, toFullLeaves}
+use Rattle.call_results.specs.Code.{Says, testsCode}
+use Rattle.call_results.specs.HandsOver.{HandsOver, HandsOverState}
+use Rattle.call_answers.specs.Calls.{PrepareCall, hashCallTest, hashCall, chainCallTest, chainCall, buildCallTest, BuildCall}
+use Rattle.call_answers.specs.Calls.{ReadOffCall, editCallTest, EditCall, unhashCallTest, UnhashCall, PackCall}
+use Rattle.call_answers.specs.Calls.{unpackCallTest, UnpackCall, PackShortCall, unpackShortCallTest, UnpackShortCall}
+use Rattle.call_answers.specs.Calls.{ToShortCall, ToFullCall}
+use Rattle.check_exact.specs.Exact.{IsListFor}
 
 -- ---- the operations, and the numbers that each can return, in the order of their tests (document 01, "What is
 -- turned back"; document 02 for Edit, Unhash, 17, the short edition and the converters)

@@ -8,7 +8,7 @@ use mathlib.Core.List.{List, _++_}
 use mathlib.Core.Logic.{_↔_}
 use Prim.Native.Nat.{ℕ, _+_, _*_, _-_, _≤_}
 use lib.ListN.{length, take}
-use Rattle.words.specs.Words.{AllCanonical}
+use Rattle.field_words.specs.Words.{AllCanonical}
 use Rattle.numbers.specs.Numbers.{batchRows, tapWords, traceWords, IsPermitted, IsPermittedTo, tapWordBatches}
 use Rattle.refusals.specs.Refusals.{indexed, digest, digestWords, stateWords}
 use Rattle.refusals.specs.declared.Answer.the-variants as answer
@@ -20,14 +20,14 @@ use Rattle.refusals.specs.declared.TestsAnswer.the-variants as tests
 use Rattle.table.specs.Table.{tableTest}
 use Rattle.hash.specs.Hash.{finalState, input, hash, chain, firstTaps}
 use Rattle.hash.specs.Answers.{hashAnswer}
-use Rattle.chain.specs.Answers.{chainAnswer}
+use Rattle.hash_chain.specs.Answers.{chainAnswer}
 use Rattle.trace.specs.Trace.{trace, row}
 use Rattle.trace.specs.Answers.{buildAnswer, buildLeaves}
-use Rattle.readoff.specs.Answers.{readOffAnswer, readOffLeaves}
-use Rattle.elements.specs.Words.{AllBytes}
+use Rattle.trace_read_off.specs.Answers.{readOffAnswer, readOffLeaves}
+use Rattle.board_words.specs.Words.{AllBytes}
 use Rattle.board.specs.Board.{mostFileBatches, fileSize, packTest, packed, packLeaves, unpackAnswer, unpackLeaves}
-use Rattle.handover.specs.Code.{Says}
-use Rattle.calls.specs.Calls.{BuildCall, ReadOffCall, PackCall, UnpackCall}
+use Rattle.call_results.specs.Code.{Says}
+use Rattle.call_answers.specs.Calls.{BuildCall, ReadOffCall, PackCall, UnpackCall}
 
 pub record Demand2 : Type 0 where
   -- for every accepted table and permitted k, hash, chain and trace of canonical words are those of the definitions. Of

@@ -6,7 +6,7 @@ use mathlib.Core.List.{List}
 use mathlib.Core.Logic.{_⊎_, _↔_}
 use Prim.Native.Nat.{ℕ, _*_, _≤_}
 use lib.ListN.{length}
-use Rattle.words.specs.Words.{AllCanonical}
+use Rattle.field_words.specs.Words.{AllCanonical}
 use Rattle.numbers.specs.Numbers.{tapWords, traceWords, IsPermitted}
 use Rattle.refusals.specs.Refusals.{told, indexed}
 use Rattle.refusals.specs.declared.Refusal.the-variants.{Constraint}
@@ -14,13 +14,13 @@ use Rattle.refusals.specs.declared.Answer.the-variants as answer
 use Rattle.refusals.specs.declared.TestsAnswer.the-variants.{Accepted, Refused}
 use Rattle.table.specs.Table.{tableTest}
 use Rattle.trace.specs.Trace.{trace}
-use Rattle.constraints.specs.Constraints.{tests}
-use Rattle.constraints.specs.FirstFailing.{IsFirstFailing}
-use Rattle.checker.specs.Answers.{checkAnswer}
-use Rattle.readoff.specs.Answers.{readOffAnswer, readOffLeaves}
-use Rattle.exact.specs.Exact.{IsListFor, IsWholeListFor}
-use Rattle.handover.specs.Code.{testsCode, Says}
-use Rattle.calls.specs.Calls.{ReadOffCall}
+use Rattle.check_constraints.specs.Constraints.{tests}
+use Rattle.check_constraints.specs.FirstFailing.{IsFirstFailing}
+use Rattle.check_trace.specs.Answers.{checkAnswer}
+use Rattle.trace_read_off.specs.Answers.{readOffAnswer, readOffLeaves}
+use Rattle.check_exact.specs.Exact.{IsListFor, IsWholeListFor}
+use Rattle.call_results.specs.Code.{testsCode, Says}
+use Rattle.call_answers.specs.Calls.{ReadOffCall}
 
 -- what is demanded of one table T, trace t of k batches, claim and c; `Stands` is what it means that the trace stands
 -- for a list

@@ -1,6 +1,6 @@
 -- The program (document 01, "The board file"): it reads a raw table and then a board file of at most 16 batches,
 -- prepares, unpacks, builds, checks against the claim, and prints one line. `Clears` is the contract of
--- `clearing::clear`, `textOf` that of `lines::text`; what an acceptance and each refusal mean stands beside `Clears`.
+-- `clear_answer::clear`, `textOf` that of `clear_line::text`; what an acceptance and each refusal mean stands beside `Clears`.
 -- Assumes nothing.
 use mathlib.Core.Path.{_≡_}
 use mathlib.Core.List.{List, [], _∷_, _++_}
@@ -17,15 +17,15 @@ use Rattle.refusals.specs.declared.Digest.{Digest}
 use Rattle.refusals.specs.declared.DigestAnswer.the-variants as output
 use Rattle.table.specs.Table.{Prepares}
 use Rattle.trace.specs.Answers.{buildLeaves}
-use Rattle.checker.specs.Answers.{checkAnswer}
+use Rattle.check_trace.specs.Answers.{checkAnswer}
 use Rattle.board.specs.Board.{unpackAnswer, unpackLeaves}
-use Rattle.clearing.specs.declared.Outcome.{Outcome}
-use Rattle.clearing.specs.declared.Outcome.the-variants.{Accepted, Refused, TooLong}
-use Rattle.clearing.specs.Clearing.{rawIn, fileIn, reported, unprepared, Clears, IsJudged, IsCleared, IsUnlike}
-use Rattle.clearing.specs.Clearing.{InputFault}
-use Rattle.lines.specs.Line.{ascii, textOf}
-use Rattle.knowndays.specs.Days.{rawZ}
-use Rattle.knowndays.specs.Files.{zeroFile}
+use Rattle.clear_answer.specs.declared.Outcome.{Outcome}
+use Rattle.clear_answer.specs.declared.Outcome.the-variants.{Accepted, Refused, TooLong}
+use Rattle.clear_answer.specs.Clearing.{rawIn, fileIn, reported, unprepared, Clears, IsJudged, IsCleared, IsUnlike}
+use Rattle.clear_answer.specs.Clearing.{InputFault}
+use Rattle.clear_line.specs.Line.{ascii, textOf}
+use Rattle.known_days.specs.Days.{rawZ}
+use Rattle.known_days.specs.Files.{zeroFile}
 use Rattle.demands.specs.Demand1.{OneOf}
 
 -- a word of a raw table, if it is below 2^8: 8 bytes, low byte first

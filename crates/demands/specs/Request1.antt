@@ -7,7 +7,7 @@ use mathlib.Core.List.{List}
 use mathlib.Core.Logic.{_↔_}
 use Prim.Native.Nat.{ℕ, _*_, _≤_, _<_}
 use lib.ListN.{length}
-use Rattle.words.specs.Words.{AllCanonical, IsFirstBad}
+use Rattle.field_words.specs.Words.{AllCanonical, IsFirstBad}
 use Rattle.numbers.specs.Numbers.{tapWords, traceWords, IsPermitted, traceWordBatches}
 use Rattle.refusals.specs.Refusals.{told, digest, digestWords}
 use Rattle.refusals.specs.declared.Refusal.{Refusal}
@@ -20,13 +20,13 @@ use Rattle.table.specs.Table.{tableTest}
 use Rattle.hash.specs.Hash.{chain, firstTaps, tap}
 use Rattle.trace.specs.Trace.{trace, row}
 use Rattle.trace.specs.Answers.{buildAnswer, buildLeaves}
-use Rattle.checker.specs.Answers.{checkAnswer}
-use Rattle.readoff.specs.Answers.{readOffAnswer, readOffLeaves}
-use Rattle.exact.specs.Exact.{IsListFor}
-use Rattle.rewriting.specs.Edit.{altered, firstTouched}
-use Rattle.edit.specs.Answers.{editAnswer, editLeaves}
-use Rattle.handover.specs.Code.{Says}
-use Rattle.calls.specs.Calls.{EditCall}
+use Rattle.check_trace.specs.Answers.{checkAnswer}
+use Rattle.trace_read_off.specs.Answers.{readOffAnswer, readOffLeaves}
+use Rattle.check_exact.specs.Exact.{IsListFor}
+use Rattle.trace_rewrite.specs.Edit.{altered, firstTouched}
+use Rattle.trace_edit.specs.Answers.{editAnswer, editLeaves}
+use Rattle.call_results.specs.Code.{Says}
+use Rattle.call_answers.specs.Calls.{EditCall}
 
 -- what is promised of an accepted edit of tap n to new: t is the lent trace, of k batches, t′ what it is afterwards, d
 -- the output that is returned, w the list that t stands for

@@ -6,7 +6,7 @@ use mathlib.Core.List.{List, _++_}
 use mathlib.Core.Logic.{_↔_}
 use Prim.Native.Nat.{ℕ, _+_, _*_, _-_, _<_}
 use lib.ListN.{length, take}
-use Rattle.words.specs.Words.{AllCanonical}
+use Rattle.field_words.specs.Words.{AllCanonical}
 use Rattle.numbers.specs.Numbers.{width, batchRows, tapWordBatches}
 use Rattle.refusals.specs.Refusals.{digestWords, stateWords}
 use Rattle.refusals.specs.Answers.{after, stateAfter}
@@ -20,13 +20,13 @@ use Rattle.refusals.specs.declared.StateAnswer.the-variants as final
 use Rattle.table.specs.Table.{tableTest}
 use Rattle.hash.specs.Hash.{finalState, input, hash, tap, outputAt}
 use Rattle.hash.specs.Answers.{hashAnswer}
-use Rattle.chain.specs.Answers.{chainAnswer}
+use Rattle.hash_chain.specs.Answers.{chainAnswer}
 use Rattle.trace.specs.Trace.{row}
 use Rattle.trace.specs.Answers.{buildAnswer, buildLeaves}
-use Rattle.exact.specs.Exact.{IsListFor}
-use Rattle.rewriting.specs.Edit.{altered}
-use Rattle.edit.specs.Answers.{editAnswer, editLeaves}
-use Rattle.calls.specs.Calls.{hashCall}
+use Rattle.check_exact.specs.Exact.{IsListFor}
+use Rattle.trace_rewrite.specs.Edit.{altered}
+use Rattle.trace_edit.specs.Answers.{editAnswer, editLeaves}
+use Rattle.call_answers.specs.Calls.{hashCall}
 
 -- what is promised of the state s that Hash returns for the taps a and b
 pub record Hashed (T a b : List ℕ) (s : State) : Type 0 where

@@ -6,7 +6,7 @@ use mathlib.Core.List.{List}
 use mathlib.Core.Logic.{_↔_}
 use Prim.Native.Nat.{ℕ, _*_, _≤_}
 use lib.ListN.{length}
-use Rattle.words.specs.Words.{AllCanonical}
+use Rattle.field_words.specs.Words.{AllCanonical}
 use Rattle.numbers.specs.Numbers.{tapWords, traceWords, IsPermitted, traceWordBatches}
 use Rattle.refusals.specs.Refusals.{told}
 use Rattle.refusals.specs.declared.Refusal.{Refusal}
@@ -15,13 +15,13 @@ use Rattle.refusals.specs.declared.Answer.the-variants as answer
 use Rattle.refusals.specs.declared.DigestAnswer.the-variants as four
 use Rattle.refusals.specs.declared.TestsAnswer.the-variants.{Refused}
 use Rattle.table.specs.Table.{tableTest}
-use Rattle.constraints.specs.Constraints.{tests}
-use Rattle.constraints.specs.FirstFailing.{IsFirstFailing, placeOf}
-use Rattle.checker.specs.Answers.{checkAnswer}
-use Rattle.readoff.specs.Answers.{readOffAnswer}
-use Rattle.edit.specs.Answers.{editAnswer}
-use Rattle.handover.specs.Code.{Says, testsCode}
-use Rattle.calls.specs.Calls.{ReadOffCall, EditCall}
+use Rattle.check_constraints.specs.Constraints.{tests}
+use Rattle.check_constraints.specs.FirstFailing.{IsFirstFailing, placeOf}
+use Rattle.check_trace.specs.Answers.{checkAnswer}
+use Rattle.trace_read_off.specs.Answers.{readOffAnswer}
+use Rattle.trace_edit.specs.Answers.{editAnswer}
+use Rattle.call_results.specs.Code.{Says, testsCode}
+use Rattle.call_answers.specs.Calls.{ReadOffCall, EditCall}
 
 -- refusal 11 with row i, constraint q and the count n
 abbrev pub eleven : ℕ → ℕ → ℕ → Refusal

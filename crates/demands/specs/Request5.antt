@@ -9,7 +9,7 @@ use Prim.Native.Nat.{ℕ, _+_, _*_, _-_, _≤_, _<_}
 use lib.ListN.{length}
 use Rattle.lists.specs.Lists.{cell}
 use Rattle.field.specs.Field.{P}
-use Rattle.words.specs.Words.{CanonicalTo, AllCanonical}
+use Rattle.field_words.specs.Words.{CanonicalTo, AllCanonical}
 use Rattle.numbers.specs.Numbers.{width, batchRows, traceRows, tapWordBatches}
 use Rattle.refusals.specs.Refusals.{state, stateWords, pair, pairWords}
 use Rattle.refusals.specs.Answers.{after}
@@ -28,11 +28,11 @@ use Rattle.hash.specs.Hash.{finalState, tap, outputAt}
 use Rattle.hash.specs.Answers.{hashAnswer}
 use Rattle.trace.specs.Trace.{row}
 use Rattle.trace.specs.Answers.{buildAnswer, buildLeaves}
-use Rattle.checker.specs.Answers.{checkAnswer}
-use Rattle.exact.specs.Exact.{IsListFor}
-use Rattle.unhash.specs.Answers.{unhashAnswer}
-use Rattle.handover.specs.Code.{refusalCode, answerCode}
-use Rattle.calls.specs.Calls.{UnhashCall}
+use Rattle.check_trace.specs.Answers.{checkAnswer}
+use Rattle.check_exact.specs.Exact.{IsListFor}
+use Rattle.hash_undo.specs.Answers.{unhashAnswer}
+use Rattle.call_results.specs.Code.{refusalCode, answerCode}
+use Rattle.call_answers.specs.Calls.{UnhashCall}
 
 -- Hash of these eight words, two taps, ends in the state s, in all twelve cells: so it accepts them, and the taps are
 -- canonical

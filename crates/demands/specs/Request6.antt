@@ -11,7 +11,7 @@ use Prim.Native.Nat.{ℕ, _+_, _*_, _-_, _≤_, _<_}
 use lib.Dec.{eqb}
 use lib.ListN.{length, take}
 use Rattle.lists.specs.Lists.{choose, cell}
-use Rattle.words.specs.Words.{AllCanonical}
+use Rattle.field_words.specs.Words.{AllCanonical}
 use Rattle.numbers.specs.Numbers.{batchRows, traceRows, traceWords, IsPermitted, traceWordBatches, within}
 use Rattle.refusals.specs.Refusals.{told}
 use Rattle.refusals.specs.declared.Refusal.the-variants.{Constraint, ClaimBatches}
@@ -20,13 +20,13 @@ use Rattle.refusals.specs.declared.DigestAnswer.the-variants as four
 use Rattle.refusals.specs.declared.TestsAnswer.the-variants.{Accepted, Refused}
 use Rattle.table.specs.Table.{tableTest}
 use Rattle.trace.specs.Trace.{row}
-use Rattle.constraints.specs.Constraints.{Test, applies, rowTests, tests}
-use Rattle.constraints.specs.FirstFailing.{placeOf, fourTests}
-use Rattle.checker.specs.Answers.{checkAnswer}
-use Rattle.readoff.specs.Answers.{readOffAnswer}
-use Rattle.edit.specs.Answers.{editAnswer}
-use Rattle.handover.specs.Code.{Says, testsCode}
-use Rattle.calls.specs.Calls.{ReadOffCall, EditCall}
+use Rattle.check_constraints.specs.Constraints.{Test, applies, rowTests, tests}
+use Rattle.check_constraints.specs.FirstFailing.{placeOf, fourTests}
+use Rattle.check_trace.specs.Answers.{checkAnswer}
+use Rattle.trace_read_off.specs.Answers.{readOffAnswer}
+use Rattle.trace_edit.specs.Answers.{editAnswer}
+use Rattle.call_results.specs.Code.{Says, testsCode}
+use Rattle.call_answers.specs.Calls.{ReadOffCall, EditCall}
 
 -- row 31 of batch b
 abbrev pub row31 : ℕ → ℕ

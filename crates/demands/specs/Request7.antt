@@ -8,7 +8,7 @@ use mathlib.Core.Logic.{_↔_, _⊎_}
 use Prim.Native.Nat.{ℕ, _+_, _*_, _^_, _≤_, _<_}
 use lib.ListN.{length}
 use Rattle.lists.specs.Lists.{cell}
-use Rattle.words.specs.Words.{AllCanonical}
+use Rattle.field_words.specs.Words.{AllCanonical}
 use Rattle.numbers.specs.Numbers.{tapWords, IsPermitted}
 use Rattle.refusals.specs.Refusals.{digest, digestWords}
 use Rattle.refusals.specs.declared.Refusal.{Refusal}
@@ -16,14 +16,14 @@ use Rattle.refusals.specs.declared.Refusal.the-variants.{WrongValue, LongElemen
 use Rattle.refusals.specs.declared.Answer.the-variants as answer
 use Rattle.refusals.specs.declared.Digest.{Digest}
 use Rattle.refusals.specs.declared.DigestAnswer.the-variants.{Accepted, Refused}
-use Rattle.elements.specs.Words.{kindOf, wordAt, AllBytes}
+use Rattle.board_words.specs.Words.{kindOf, wordAt, AllBytes}
 use Rattle.board.specs.Board.{elementCount, fileSize, unpackAnswer}
-use Rattle.shortwords.specs.Short.{shortWords, spelled}
-use Rattle.shortboard.specs.ShortBoard.{shortFileSize, packShortTest, packedShort, packShortLeaves}
-use Rattle.shortboard.specs.ShortBoard.{markIn, shortSpareIn, unpackShortAnswer, unpackShortLeaves, ThreeForOne}
-use Rattle.shortboard.specs.ShortBoard.{FirstFault}
-use Rattle.handover.specs.Code.{refusalCode, digestCode}
-use Rattle.calls.specs.Calls.{PackShortCall, UnpackShortCall}
+use Rattle.board_short_words.specs.Short.{shortWords, spelled}
+use Rattle.board_short.specs.ShortBoard.{shortFileSize, packShortTest, packedShort, packShortLeaves}
+use Rattle.board_short.specs.ShortBoard.{markIn, shortSpareIn, unpackShortAnswer, unpackShortLeaves, ThreeForOne}
+use Rattle.board_short.specs.ShortBoard.{FirstFault}
+use Rattle.call_results.specs.Code.{refusalCode, digestCode}
+use Rattle.call_answers.specs.Calls.{PackShortCall, UnpackShortCall}
 
 -- taps of k batches, k permitted, and a claim, of words below p: what a short file is of
 pub record IsShortDay (taps claim : List ℕ) (k : ℕ) : Type 0 where

@@ -14,15 +14,15 @@ use Rattle.refusals.specs.declared.Refusal.{Refusal}
 use Rattle.refusals.specs.declared.Answer.the-variants as answer
 use Rattle.refusals.specs.declared.Digest.{Digest}
 use Rattle.refusals.specs.declared.DigestAnswer.the-variants.{Accepted}
-use Rattle.elements.specs.Words.{AllBytes}
+use Rattle.board_words.specs.Words.{AllBytes}
 use Rattle.board.specs.Board.{packTest, packed, packLeaves, batchesIn, claimIn, tapsIn, unpackAnswer, unpackLeaves}
-use Rattle.shortboard.specs.ShortBoard.{packShortTest, packedShort, packShortLeaves, shortBatchesIn, shortClaimIn}
-use Rattle.shortboard.specs.ShortBoard.{shortTapsIn, unpackShortAnswer, unpackShortLeaves}
-use Rattle.editions.specs.Edition.{fullMark, shortMark, ConverterFault, ConverterAnswers}
-use Rattle.toshort.specs.ToShort.{toShortTest, toShortLeaves}
-use Rattle.tofull.specs.ToFull.{toFullTest, toFullLeaves, NoFullForm}
-use Rattle.handover.specs.Code.{refusalCode}
-use Rattle.calls.specs.Calls.{PackCall, UnpackCall, PackShortCall, UnpackShortCall, ToShortCall, ToFullCall}
+use Rattle.board_short.specs.ShortBoard.{packShortTest, packedShort, packShortLeaves, shortBatchesIn, shortClaimIn}
+use Rattle.board_short.specs.ShortBoard.{shortTapsIn, unpackShortAnswer, unpackShortLeaves}
+use Rattle.board_edition.specs.Edition.{fullMark, shortMark, ConverterFault, ConverterAnswers}
+use Rattle.board_to_short.specs.ToShort.{toShortTest, toShortLeaves}
+use Rattle.board_to_full.specs.ToFull.{toFullTest, toFullLeaves, NoFullForm}
+use Rattle.call_results.specs.Code.{refusalCode}
+use Rattle.call_answers.specs.Calls.{PackCall, UnpackCall, PackShortCall, UnpackShortCall, ToShortCall, ToFullCall}
 
 -- the destination has the length of the output
 abbrev pub FitsShort : List ℕ → ℕ → Type 0

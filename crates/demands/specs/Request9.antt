@@ -9,7 +9,7 @@ use mathlib.Core.List.{List}
 use mathlib.Core.Logic.{_↔_, _⊎_}
 use Prim.Native.Nat.{ℕ, _+_, _*_, _^_, _≤_, _<_}
 use lib.ListN.{length}
-use Rattle.words.specs.Words.{AllCanonical}
+use Rattle.field_words.specs.Words.{AllCanonical}
 use Rattle.numbers.specs.Numbers.{traceRows, traceWords, tapWords, IsPermittedTo, IsPermitted, mostBatches}
 use Rattle.refusals.specs.Refusals.{digest, digestWords}
 use Rattle.refusals.specs.declared.Refusal.the-variants.{TapLength, TraceLength, WrongValue}
@@ -19,20 +19,20 @@ use Rattle.refusals.specs.declared.DigestAnswer.the-variants.{Accepted, Refused
 use Rattle.refusals.specs.declared.TestsAnswer.the-variants as tests
 use Rattle.table.specs.Table.{tableTest}
 use Rattle.hash.specs.Hash.{chain}
-use Rattle.chain.specs.Answers.{chainAnswer}
+use Rattle.hash_chain.specs.Answers.{chainAnswer}
 use Rattle.trace.specs.Trace.{trace}
 use Rattle.trace.specs.Answers.{buildAnswer, buildLeaves}
-use Rattle.checker.specs.Answers.{checkAnswer}
-use Rattle.readoff.specs.Answers.{readOffAnswer}
-use Rattle.edit.specs.Answers.{editAnswer}
-use Rattle.elements.specs.Words.{kindOf, wordAt}
+use Rattle.check_trace.specs.Answers.{checkAnswer}
+use Rattle.trace_read_off.specs.Answers.{readOffAnswer}
+use Rattle.trace_edit.specs.Answers.{editAnswer}
+use Rattle.board_words.specs.Words.{kindOf, wordAt}
 use Rattle.board.specs.Board.{mostFileBatches, countWord, elementCount, packTest, unpackAnswer, unpackLeaves}
-use Rattle.shortboard.specs.ShortBoard.{shortCountWord, shortFileSize, packShortTest, packShortLeaves}
-use Rattle.shortboard.specs.ShortBoard.{unpackShortAnswer, unpackShortLeaves}
-use Rattle.editions.specs.Edition.{shortMark, HasMark}
-use Rattle.tofull.specs.ToFull.{toFullTest, toFullLeaves, NoFullForm}
-use Rattle.handover.specs.Code.{refusalCode}
-use Rattle.calls.specs.Calls.{PackCall, UnpackShortCall, ToFullCall}
+use Rattle.board_short.specs.ShortBoard.{shortCountWord, shortFileSize, packShortTest, packShortLeaves}
+use Rattle.board_short.specs.ShortBoard.{unpackShortAnswer, unpackShortLeaves}
+use Rattle.board_edition.specs.Edition.{shortMark, HasMark}
+use Rattle.board_to_full.specs.ToFull.{toFullTest, toFullLeaves, NoFullForm}
+use Rattle.call_results.specs.Code.{refusalCode}
+use Rattle.call_answers.specs.Calls.{PackCall, UnpackShortCall, ToFullCall}
 use Rattle.demands.specs.Stored.{storedPackTest, storedPackLeaves, storedUnpackAnswer, storedUnpackLeaves}
 
 -- there are as many words as the taps of k batches have, k permitted up to the most

@@ -6,7 +6,7 @@ use mathlib.Core.List.{List, [], _∷_, _++_}
 use Prim.Native.Nat.{ℕ, _/_, _%_, _^_}
 use lib.Dec.{eqb, leb}
 use lib.ListN.{length, replicate}
-use Rattle.words.specs.Words.{firstBad, canonicalWords}
+use Rattle.field_words.specs.Words.{firstBad, canonicalWords}
 use Rattle.numbers.specs.Numbers.{tapWords, permitted, isTapLength}
 use Rattle.refusals.specs.Refusals.{digest}
 use Rattle.refusals.specs.Answers.{unless, after, digestAfter, leaves}
@@ -15,11 +15,11 @@ use Rattle.refusals.specs.declared.Refusal.the-variants.{FileLength, WrongKind,
 use Rattle.refusals.specs.declared.Answer.{Answer}
 use Rattle.refusals.specs.declared.Answer.the-variants.{Accepted}
 use Rattle.refusals.specs.declared.DigestAnswer.{DigestAnswer}
-use Rattle.elements.specs.Words.{kindOf, payloadOf, wordAt}
+use Rattle.board_words.specs.Words.{kindOf, payloadOf, wordAt}
 use Rattle.board.specs.Board.{elementCount}
-use Rattle.shortreading.specs.Reading.{firstWord, shortsAt, shortsTest}
-use Rattle.shortboard.specs.ShortBoard.{shortFileSize, packedShort, markIn, shortClaimIn}
-use Rattle.knowndays.specs.Files.{FileOf, ShortFile, repeated}
+use Rattle.board_short_read.specs.Reading.{firstWord, shortsAt, shortsTest}
+use Rattle.board_short.specs.ShortBoard.{shortFileSize, packedShort, markIn, shortClaimIn}
+use Rattle.known_days.specs.Files.{FileOf, ShortFile, repeated}
 
 -- the most batches of a short file
 abbrev pub mostStored : ℕ

@@ -8,7 +8,7 @@ use mathlib.Core.Logic.{_↔_}
 use Prim.Native.Nat.{ℕ, _+_, _*_, _≤_, _<_}
 use lib.ListN.{length}
 use Rattle.field.specs.Field.{P}
-use Rattle.words.specs.Words.{IsFirstBad}
+use Rattle.field_words.specs.Words.{IsFirstBad}
 use Rattle.numbers.specs.Numbers.{width, tapWords, traceWords, mostBatches, IsPermittedTo, IsPermitted}
 use Rattle.numbers.specs.Numbers.{tapWordBatches, traceWordBatches}
 use Rattle.refusals.specs.Refusals.{told}
@@ -22,22 +22,22 @@ use Rattle.refusals.specs.declared.Answer.{Answer}
 use Rattle.matrix.specs.Matrix.{Kernel, entry}
 use Rattle.table.specs.Table.{rawWords, tableWords, IsFirstUnlike, rawMatrix, tableTest, Prepares}
 use Rattle.hash.specs.Answers.{hashTest}
-use Rattle.chain.specs.Answers.{chainTest}
+use Rattle.hash_chain.specs.Answers.{chainTest}
 use Rattle.trace.specs.Answers.{buildTest}
-use Rattle.constraints.specs.Constraints.{tests}
-use Rattle.constraints.specs.FirstFailing.{IsFirstFailing}
-use Rattle.checker.specs.Answers.{checkTest, checkAnswer}
-use Rattle.readoff.specs.Answers.{readOffTest}
-use Rattle.edit.specs.Answers.{editTest}
-use Rattle.unhash.specs.Answers.{unhashTest}
-use Rattle.elements.specs.Words.{kindOf, wordAt}
-use Rattle.elements.specs.Elements.{elementAt, IsElement}
+use Rattle.check_constraints.specs.Constraints.{tests}
+use Rattle.check_constraints.specs.FirstFailing.{IsFirstFailing}
+use Rattle.check_trace.specs.Answers.{checkTest, checkAnswer}
+use Rattle.trace_read_off.specs.Answers.{readOffTest}
+use Rattle.trace_edit.specs.Answers.{editTest}
+use Rattle.hash_undo.specs.Answers.{unhashTest}
+use Rattle.board_words.specs.Words.{kindOf, wordAt}
+use Rattle.board_words.specs.Elements.{elementAt, IsElement}
 use Rattle.board.specs.Board.{mostFileBatches, countWord, fileSize, elementCount, packTest, batchesIn, unpackTest}
-use Rattle.shortboard.specs.ShortBoard.{shortFileSize, packShortTest}
-use Rattle.handover.specs.Code.{testsCode, numberIn, Says}
-use Rattle.handover.specs.HandsOver.{HandsOver, HandsOverState}
-use Rattle.calls.specs.Calls.{PrepareCall, hashCall, chainCall, BuildCall, ReadOffCall, EditCall, UnhashCall, PackCall}
-use Rattle.calls.specs.Calls.{UnpackCall, PackShortCall}
+use Rattle.board_short.specs.ShortBoard.{shortFileSize, packShortTest}
+use Rattle.call_results.specs.Code.{testsCode, numberIn, Says}
+use Rattle.call_results.specs.HandsOver.{HandsOver, HandsOverState}
+use Rattle.call_answers.specs.Calls.{PrepareCall, hashCall, chainCall, BuildCall, ReadOffCall, EditCall, UnhashCall, PackCall}
+use Rattle.call_answers.specs.Calls.{UnpackCall, PackShortCall}
 use Rattle.demands.specs.Request5.{EndsIn}
 
 -- ---- the table: 1, 2, 4

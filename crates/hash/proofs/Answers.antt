@@ -3,8 +3,8 @@
 use mathlib.Core.Path.{_≡_}
 use mathlib.Core.List.{List}
 use Prim.Native.Nat.{ℕ}
-use Rattle.words.specs.Words.{AllCanonical}
-use Rattle.words.proofs.Laws.{good-test, test-good}
+use Rattle.field_words.specs.Words.{AllCanonical}
+use Rattle.field_words.proofs.Laws.{good-test, test-good}
 use Rattle.refusals.specs.declared.Answer.the-variants.{Accepted}
 use Rattle.refusals.proofs.Laws.{passed, both-accepted}
 use Rattle.table.specs.Table.{IsTable, tableTest}

@@ -7,7 +7,7 @@ use native.Mathlib.Omega.{arith}
 use lib.ListN.{length, take, drop, length-drop}
 use Rattle.lists.specs.Lists.{cell, tab}
 use Rattle.lists.proofs.Tab.{tab-cell}
-use Rattle.words.specs.Words.{AllCanonical}
+use Rattle.field_words.specs.Words.{AllCanonical}
 use Rattle.hash.specs.Hash.{input}
 use Rattle.hash.proofs.States.{IsState}
 use Rattle.hash.proofs.Inputs.{take-tap, drop-canonical, input-state}

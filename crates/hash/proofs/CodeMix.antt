@@ -12,10 +12,10 @@ use Rattle.field.specs.MontgomeryHelpers.{unitInverse, unitSquare, divided}
 use Rattle.field.proofs.Forms.{divided-lt}
 use Rattle.field.proofs.Fermat.{root-lt}
 use Rattle.field.proofs.Modular.{mul-mod-l, mul-mod-r, mul-undone}
-use Rattle.words.specs.Words.{CanonicalTo}
-use Rattle.roots.proofs.Scaled.{root-scaled}
+use Rattle.field_words.specs.Words.{CanonicalTo}
+use Rattle.field_roots.proofs.Scaled.{root-scaled}
 use Rattle.matrix.specs.Matrix.{timesColumn}
-use Rattle.mixing.specs.MixingHelpers.{readyEntry}
+use Rattle.matrix_ready.specs.MixingHelpers.{readyEntry}
 use Rattle.table.specs.ReadyHelpers.{matrixReady}
 use Rattle.table.proofs.Ready.{ready-times}
 use Rattle.hash.specs.Hash.{roots, cubes, mix}

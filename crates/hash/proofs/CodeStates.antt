@@ -3,7 +3,7 @@
 use mathlib.Core.Path.{_≡_, sym, subst}
 use mathlib.Core.List.{List}
 use Prim.Native.Nat.{ℕ}
-use Rattle.words.specs.Words.{CanonicalTo}
+use Rattle.field_words.specs.Words.{CanonicalTo}
 use Rattle.hash.proofs.States.{IsState, state-cell}
 
 pub canonical-state : {r s : List ℕ} → r ≡ s → IsState s → CanonicalTo 12 r

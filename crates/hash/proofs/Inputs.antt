@@ -10,7 +10,7 @@ use lib.ListN.{length-replicate, getD-replicate, List·getD-append}
 use lib.Seq.{getD-take, getD-drop, getD-append-add}
 use Rattle.lists.specs.Lists.{cell}
 use Rattle.field.specs.Field.{P}
-use Rattle.words.specs.Words.{AllCanonical}
+use Rattle.field_words.specs.Words.{AllCanonical}
 use Rattle.hash.specs.Hash.{finalState, input, hash, tap, outputAt}
 use Rattle.hash.proofs.States.{IsState, cell-lt, finalState-state}
 

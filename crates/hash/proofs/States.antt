@@ -12,7 +12,7 @@ use Rattle.lists.specs.Lists.{cell, tab}
 use Rattle.lists.proofs.Tab.{length-tab, cell-tab}
 use Rattle.field.specs.Field.{P, add, cube, root}
 use Rattle.field.proofs.Fermat.{root-lt}
-use Rattle.words.specs.Words.{AllCanonical}
+use Rattle.field_words.specs.Words.{AllCanonical}
 use Rattle.matrix.specs.Matrix.{timesColumn, times}
 use Rattle.table.specs.Table.{IsTable, initialConstant, firstStepConstant, secondStepConstant}
 use Rattle.table.proofs.Theorems.{initial-length, initial-canonical, first-step-length, first-step-canonical}

@@ -4,7 +4,7 @@
 use mathlib.Core.List.{List}
 use Prim.Native.Nat.{ℕ}
 use lib.ListN.{take, drop}
-use Rattle.words.specs.Words.{firstBad, canonicalWords}
+use Rattle.field_words.specs.Words.{firstBad, canonicalWords}
 use Rattle.refusals.specs.declared.Refusal.the-variants.{TapWord}
 use Rattle.refusals.specs.declared.Answer.{Answer}
 use Rattle.refusals.specs.declared.Answer.the-variants.{Accepted}

@@ -3,16 +3,16 @@ ghost use mathlib.Core.Path.{_≡_};
 ghost use Prim.Native.Nat.{_<_};
 ghost use lib.ListN.{length};
 ghost use Rattle.lists.specs.Lists.{cell, tab};
-ghost use Rattle.words.specs.Words.{CanonicalTo};
+ghost use Rattle.field_words.specs.Words.{CanonicalTo};
 ghost use Rattle.numbers.specs.Numbers.{width};
-ghost use Rattle.mixing.specs.MixingHelpers.{readyWords};
+ghost use Rattle.matrix_ready.specs.MixingHelpers.{readyWords};
 ghost use Rattle.table.specs.Table.{IsTable, firstStepConstant, secondStepConstant};
 ghost use Rattle.table.specs.ReadyHelpers.{matrixReady, readyLeft};
 ghost use Rattle.hash.specs.Hash.{plus, firstStep, secondStep, stateAt, finalState};
 ghost use Rattle.hash.specs.HashHelpers.{montgomeryCube};
 ghost use Rattle.hash.specs.Answers.{hashTest, hashAnswer};
-use fp::Fp;
-use mixing::READY_WORDS;
+use field_elements::Fp;
+use matrix_ready::READY_WORDS;
 use numbers::WIDTH;
 use refusals::Answer;
 use refusals::Refusal;
@@ -28,11 +28,11 @@ pub fn montgomery_cubes(s: [u64; WIDTH]) -> [u64; WIDTH]
     requires { ⌜ CanonicalTo width s ⌝ }
     ensures { λ r. ⌜ (r ≡ tab width (λ j. montgomeryCube (cell s j))) × CanonicalTo width r ⌝ }
 {
-    let q = montgomery::quotient(s[0]);
+    let q = field_montgomery::quotient(s[0]);
     let mut out = [0u64; WIDTH];
     for j in 0..WIDTH {
         let x = s[j];
-        out[j] = montgomery::times(montgomery::times(x, x, q), x, q);
+        out[j] = field_montgomery::times(field_montgomery::times(x, x, q), x, q);
     }
     out
 }
@@ -83,7 +83,7 @@ pub fn first_step(ready: &[u64], table: &[u64], round: usize, s: [u64; WIDTH]) -
         IsTable (now table) × (round < 10) × CanonicalTo width s × (now ready ≡ matrixReady (now table)) ⌝ }
     ensures { λ r. ⌜ r ≡ firstStep (now (table .entry)) round s ⌝ }
 {
-    let mixed = mixing::mix(ready, roots::scaled_roots(s, ROOT_FACTOR));
+    let mixed = matrix_ready::mix(ready, field_roots::scaled_roots(s, ROOT_FACTOR));
     plus_first_step(table, round, mixed)
 }
 
@@ -93,7 +93,7 @@ pub fn second_step(ready: &[u64], table: &[u64], round: usize, s: [u64; WIDTH]) 
         IsTable (now table) × (round < 10) × CanonicalTo width s × (now ready ≡ matrixReady (now table)) ⌝ }
     ensures { λ r. ⌜ r ≡ secondStep (now (table .entry)) round s ⌝ }
 {
-    let mixed = mixing::mix(ready, montgomery_cubes(s));
+    let mixed = matrix_ready::mix(ready, montgomery_cubes(s));
     plus_second_step(table, round, mixed)
 }
 
@@ -121,7 +121,7 @@ pub fn test_hash(table: &[u64], words: &[u64], ready: &mut [u64; READY_WORDS]) -
     let Answer::Accepted = of_table else {
         return of_table;
     };
-    let bad = words::first_bad(words);
+    let bad = field_words::first_bad(words);
     if bad != words.len() {
         return Answer::Refused(Refusal::TapWord(bad));
     }

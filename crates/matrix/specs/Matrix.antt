@@ -7,7 +7,7 @@ use lib.Dec.{eqb}
 use lib.ListN.{length}
 use Rattle.lists.specs.Lists.{choose, cell, tab, sum}
 use Rattle.field.specs.Field.{P, Canonical}
-use Rattle.words.specs.Words.{AllCanonical}
+use Rattle.field_words.specs.Words.{AllCanonical}
 use Rattle.numbers.specs.Numbers.{width}
 
 -- cell i of a matrix of n columns times a column

@@ -12,9 +12,9 @@ use Rattle.field.specs.MontgomeryHelpers.{unitSquare}
 use Rattle.field.proofs.Modular.{mul-undone}
 use Rattle.matrix.specs.Matrix.{entry, product, timesColumn, times}
 use Rattle.matrix.proofs.Linear.{product-column}
-use Rattle.mixing.specs.MixingHelpers.{IsReady, readyEntry}
-use Rattle.mixing.proofs.ReadyWords.{is-ready}
-use Rattle.mixing.proofs.Scaled.{column-scaled, column-restored}
+use Rattle.matrix_ready.specs.MixingHelpers.{IsReady, readyEntry}
+use Rattle.matrix_ready.proofs.ReadyWords.{is-ready}
+use Rattle.matrix_ready.proofs.Scaled.{column-scaled, column-restored}
 use Rattle.table.specs.Table.{matrixOf}
 use Rattle.table.specs.ReadyHelpers.{matrixScale, matrixReady}
 

@@ -16,10 +16,10 @@ use Rattle.lists.proofs.Tab.{cell-tab}
 use Rattle.lists.proofs.First.{IsFirst, is-first, first-none, found-at}
 use Rattle.field.specs.Field.{P}
 use Rattle.field.specs.MontgomeryHelpers.{unitSquare}
-use Rattle.words.specs.Words.{CanonicalTo, AllCanonical, firstBad}
+use Rattle.field_words.specs.Words.{CanonicalTo, AllCanonical, firstBad}
 use Rattle.matrix.specs.Matrix.{product, identity, entry, timesColumn}
 use Rattle.matrix.proofs.Linear.{times-ext, product-column}
-use Rattle.mixing.specs.MixingHelpers.{readyEntry}
+use Rattle.matrix_ready.specs.MixingHelpers.{readyEntry}
 use Rattle.refusals.specs.declared.Answer.the-variants.{Accepted, Refused}
 use Rattle.refusals.specs.declared.Refusal.the-variants.{TableLength, TableWord, WrongInverse}
 use Rattle.table.specs.Table.{tableWords, matrixOf, inverseOf, unlike, firstUnlike, tableTest}

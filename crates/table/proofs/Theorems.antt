@@ -11,12 +11,12 @@ use lib.ListN.{length}
 use Rattle.lists.specs.Lists.{cell, first}
 use Rattle.lists.proofs.First.{IsFirst, is-first, none-first, found-at}
 use Rattle.field.specs.Field.{Canonical}
-use Rattle.words.specs.Words.{AllCanonical, firstBad, IsFirstBad}
-use Rattle.words.proofs.Laws.{within, first-bad, all-good, good-all}
+use Rattle.field_words.specs.Words.{AllCanonical, firstBad, IsFirstBad}
+use Rattle.field_words.proofs.Laws.{within, first-bad, all-good, good-all}
 use Rattle.matrix.specs.Matrix.{product, identity, Inverse, entry, times}
 use Rattle.matrix.proofs.Dichotomy.{other-side}
 use Rattle.matrix.proofs.States.{times-undo, times-redo}
-use Rattle.mixing.specs.MixingHelpers.{readyWords}
+use Rattle.matrix_ready.specs.MixingHelpers.{readyWords}
 use Rattle.refusals.specs.declared.Refusal.{Refusal}
 use Rattle.refusals.specs.declared.Refusal.the-variants.{TableLength, TableWord, NoInverse, WrongInverse}
 use Rattle.refusals.specs.declared.Answer.{Answer}

@@ -7,9 +7,9 @@ use lib.Dec.{eqb}
 use lib.ListN.{length}
 use Rattle.lists.specs.Lists.{choose, cell, first}
 use Rattle.field.specs.MontgomeryHelpers.{unitSquare}
-use Rattle.words.specs.Words.{firstBad}
+use Rattle.field_words.specs.Words.{firstBad}
 use Rattle.numbers.specs.Numbers.{width}
-use Rattle.mixing.specs.MixingHelpers.{ready}
+use Rattle.matrix_ready.specs.MixingHelpers.{ready}
 use Rattle.refusals.specs.declared.Refusal.the-variants.{TableLength, TableWord}
 use Rattle.refusals.specs.declared.Answer.the-variants.{Accepted}
 use Rattle.refusals.specs.Answers.{unless, leaves}

@@ -7,7 +7,7 @@ use Prim.Native.Nat.{ℕ, _+_, _*_, _/_, _%_, _<_}
 use lib.Dec.{eqb}
 use lib.ListN.{length, take, drop}
 use Rattle.lists.specs.Lists.{first}
-use Rattle.words.specs.Words.{AllCanonical, firstBad}
+use Rattle.field_words.specs.Words.{AllCanonical, firstBad}
 use Rattle.numbers.specs.Numbers.{width}
 use Rattle.matrix.specs.Matrix.{matrixWords, entry, product, identity, Inverse, Kernel, IsInverse}
 use Rattle.refusals.specs.declared.Refusal.{Refusal}

@@ -6,16 +6,16 @@ ghost use lib.ListN.{length};
 ghost use Rattle.lists.specs.Lists.{choose, cell, tab};
 ghost use Rattle.field.specs.Field.{Canonical};
 ghost use Rattle.field.specs.MontgomeryHelpers.{unitSquare};
-ghost use Rattle.words.specs.Words.{AllCanonical};
+ghost use Rattle.field_words.specs.Words.{AllCanonical};
 ghost use Rattle.numbers.specs.Numbers.{width};
 ghost use Rattle.matrix.specs.Matrix.{matrixWords, entry, product};
-ghost use Rattle.mixing.specs.MixingHelpers.{readyWords, IsReady, readyEntry};
+ghost use Rattle.matrix_ready.specs.MixingHelpers.{readyWords, IsReady, readyEntry};
 ghost use Rattle.table.specs.Table.{tableWords, matrixOf, inverseOf};
 ghost use Rattle.table.specs.Table.{constant, initialConstant, firstStepConstant, secondStepConstant};
 ghost use Rattle.table.specs.Table.{firstUnlike, tableTest, IsTable};
 ghost use Rattle.table.specs.ReadyHelpers.{matrixReady, unlikeInRow, readyLeft};
 use matrix::MATRIX_WORDS;
-use mixing::READY_WORDS;
+use matrix_ready::READY_WORDS;
 use numbers::WIDTH;
 use refusals::Answer;
 use refusals::Refusal;
@@ -98,7 +98,7 @@ fn make_ready(table: &[u64], ready: &mut [u64; READY_WORDS])
         (length (now table) ≡ tableWords) × AllCanonical (now table) × (length (now ready) ≡ readyWords) ⌝ }
     ensures { λ r. ⌜ now (ready .exit) ≡ matrixReady (now (table .entry)) ⌝ }
 {
-    mixing::make_ready(matrix(table), SCALE, ready);
+    matrix_ready::make_ready(matrix(table), SCALE, ready);
 }
 
 // The matrix that was made ready times n, column by column: cell (i, k) stands at 12 * k + i.
@@ -110,7 +110,7 @@ fn product_columns(ready: &[u64], n: &[u64]) -> [u64; MATRIX_WORDS]
 {
     let mut out = [0u64; MATRIX_WORDS];
     for k in 0..WIDTH {
-        let x = mixing::mix(ready, column(n, k));
+        let x = matrix_ready::mix(ready, column(n, k));
         for i in 0..WIDTH {
             out[WIDTH * k + i] = x[i];
         }
@@ -122,7 +122,7 @@ fn product_columns(ready: &[u64], n: &[u64]) -> [u64; MATRIX_WORDS]
 fn identity(i: usize, k: usize) -> u64
     ensures { λ r. ⌜ r ≡ choose (eqb i k) unitSquare 0 ⌝ }
 {
-    if i == k { montgomery::SQUARE } else { 0 }
+    if i == k { field_montgomery::SQUARE } else { 0 }
 }
 
 // The first column in which a row of the product is unlike the identity's, or 12: both times 2^128.
@@ -165,7 +165,7 @@ pub fn test_and_ready(table: &[u64], ready: &mut [u64; READY_WORDS]) -> Answer
     if table.len() != WORDS {
         return Answer::Refused(Refusal::TableLength);
     }
-    let bad = words::first_bad(table);
+    let bad = field_words::first_bad(table);
     if bad != WORDS {
         return Answer::Refused(Refusal::TableWord(bad));
     }

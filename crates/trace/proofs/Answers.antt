@@ -5,8 +5,8 @@ use mathlib.Core.List.{List}
 use Prim.Native.Nat.{ℕ, _+_, _*_}
 use borrow.Author.Tests.{eqb-true, eq-eqb}
 use lib.ListN.{length}
-use Rattle.words.specs.Words.{AllCanonical}
-use Rattle.words.proofs.Laws.{good-test, test-good}
+use Rattle.field_words.specs.Words.{AllCanonical}
+use Rattle.field_words.proofs.Laws.{good-test, test-good}
 use Rattle.numbers.specs.Numbers.{IsPermitted, mostBatches, tapWordBatches}
 use Rattle.numbers.proofs.Laws.{tap-length-sound, tap-length-complete}
 use Rattle.refusals.specs.declared.Answer.the-variants.{Accepted}

@@ -6,7 +6,7 @@ use mathlib.Core.List.{List}
 use Prim.Native.Nat.{ℕ, _+_, _*_}
 use native.Mathlib.Omega.{arith}
 use lib.ListN.{length}
-use Rattle.words.specs.Words.{AllCanonical}
+use Rattle.field_words.specs.Words.{AllCanonical}
 use Rattle.numbers.specs.Numbers.{IsPermitted, tapWordBatches}
 use Rattle.refusals.specs.declared.DigestAnswer.the-variants.{Accepted}
 use Rattle.refusals.specs.Refusals.{digest}

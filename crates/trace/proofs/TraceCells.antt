@@ -10,7 +10,7 @@ use lib.ListN.{length, take}
 use Rattle.lists.specs.Lists.{cell}
 use Rattle.lists.proofs.Tab.{length-tab, cell-tab}
 use Rattle.field.specs.Field.{P}
-use Rattle.words.specs.Words.{AllCanonical}
+use Rattle.field_words.specs.Words.{AllCanonical}
 use Rattle.hash.specs.Hash.{input, tap, outputAt, chain, finalState}
 use Rattle.hash.proofs.States.{IsState, state-cell, middleState-state, finalState-state}
 use Rattle.hash.proofs.Inputs.{IsTap, tap-is-tap, cell-input-left, cell-input-right, cell-input-zeros}

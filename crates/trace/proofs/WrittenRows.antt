@@ -9,8 +9,8 @@ use lib.Seq.{length-take-le, take-at, drop-at, drop-append-add, drop-drop, getD-
 use Rattle.lists.specs.Lists.{cell, tab}
 use Rattle.lists.proofs.Tab.{length-tab, cell-tab, tab-ext, tab-add, tab-cell}
 use Rattle.field.specs.Field.{P}
-use Rattle.words.specs.Words.{AllCanonical}
-use Rattle.words.proofs.Laws.{append-canonical}
+use Rattle.field_words.specs.Words.{AllCanonical}
+use Rattle.field_words.proofs.Laws.{append-canonical}
 use Rattle.hash.proofs.States.{IsState, cell-lt, state-cell}
 use Rattle.trace.specs.Trace.{row}
 use Rattle.trace.specs.RowHelpers.{withRows}

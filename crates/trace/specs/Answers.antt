@@ -6,7 +6,7 @@ use mathlib.Core.List.{List}
 use Prim.Native.Nat.{ℕ, _*_}
 use lib.Dec.{eqb}
 use lib.ListN.{length}
-use Rattle.words.specs.Words.{firstBad, canonicalWords}
+use Rattle.field_words.specs.Words.{firstBad, canonicalWords}
 use Rattle.numbers.specs.Numbers.{traceWords, mostBatches, isTapLength, tapWordBatches}
 use Rattle.refusals.specs.declared.Refusal.the-variants.{TapLength, TapWord, DestinationLength}
 use Rattle.refusals.specs.declared.Answer.{Answer}

@@ -2,16 +2,16 @@
 ghost use mathlib.Core.Path.{_≡_};
 ghost use Prim.Native.Nat.{_+_, _*_, _-_, _≤_, _<_, _^_};
 ghost use lib.ListN.{length, take};
-ghost use Rattle.words.specs.Words.{AllCanonical, CanonicalTo};
+ghost use Rattle.field_words.specs.Words.{AllCanonical, CanonicalTo};
 ghost use Rattle.numbers.specs.Numbers.{firstRow, tapWords, traceWords, width};
-ghost use Rattle.mixing.specs.MixingHelpers.{readyWords};
+ghost use Rattle.matrix_ready.specs.MixingHelpers.{readyWords};
 ghost use Rattle.table.specs.Table.{IsTable};
 ghost use Rattle.table.specs.ReadyHelpers.{matrixReady, readyLeft};
 ghost use Rattle.hash.specs.Hash.{middleState, finalState, chain};
 ghost use Rattle.trace.specs.Trace.{trace};
 ghost use Rattle.trace.specs.RowHelpers.{withRows, rowsBefore, hashRow};
 ghost use Rattle.trace.specs.Answers.{buildTest, buildAnswer, buildLeaves};
-use mixing::READY_WORDS;
+use matrix_ready::READY_WORDS;
 use numbers::BATCH_TAP_WORDS;
 use numbers::BATCH_WORDS;
 use numbers::BatchCount;
@@ -142,10 +142,10 @@ fn write_hashes(
         × (now (destination .exit) ≡ trace (now (table .entry)) (now (taps .entry)) k) ⌝ }
 {
     let hashes = 3 * k;
-    let mut state = chain::chain_start(taps);
+    let mut state = hash_chain::chain_start(taps);
     for h in 0..hashes {
         let hash = HashNumber(h);
-        let input = chain::input_of(hash, state, taps);
+        let input = hash_chain::input_of(hash, state, taps);
         let next = write_hash(ready, table, hash, input, destination);
         state = next;
     }
@@ -169,7 +169,7 @@ fn test_build(table: &[u64], taps: &[u64], size: usize, ready: &mut [u64; READY_
     if size != BATCH_WORDS * k {
         return Answer::Refused(Refusal::DestinationLength);
     }
-    let bad = words::first_bad(taps);
+    let bad = field_words::first_bad(taps);
     if bad != taps.len() {
         return Answer::Refused(Refusal::TapWord(bad));
     }

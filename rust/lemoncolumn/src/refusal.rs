@@ -1,5 +1,5 @@
 //! The refusals (document 01, "What is turned back"; document 02), read out of
-//! the number that a call returns (crates/handover/specs/Code.antt).
+//! the number that a call returns (crates/call_results/specs/Code.antt).
 
 use std::fmt;
 

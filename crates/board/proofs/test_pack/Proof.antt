@@ -7,8 +7,8 @@ use borrow.Author.Needs.{needs}
 use borrow.Author.Tests.{eq-eqb, ne-eqb}
 use lib.Dec.{eqb}
 use lib.ListN.{length}
-use Rattle.words.specs.Words.{firstBad, canonicalWords}
-use Rattle.words.proofs.Laws.{scanned-good, scanned-bad}
+use Rattle.field_words.specs.Words.{firstBad, canonicalWords}
+use Rattle.field_words.proofs.Laws.{scanned-good, scanned-bad}
 use Rattle.numbers.specs.Numbers.{tapWordBatches}
 use Rattle.numbers.proofs.Laws.{tap-length-sound, tap-permitted, tap-refused}
 use Rattle.refusals.specs.Answers.{unless}

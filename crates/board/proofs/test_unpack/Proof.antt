@@ -11,8 +11,8 @@ use Rattle.refusals.specs.Answers.{unless, after}
 use Rattle.refusals.specs.declared.Refusal.the-variants.{DestinationLength, FileLength}
 use Rattle.refusals.specs.declared.Answer.{Answer}
 use Rattle.refusals.proofs.Laws.{unless-refused, unless-passed, after-refused, after-accepted}
-use Rattle.elements.specs.Words.{wordAt}
-use Rattle.elements.specs.Elements.{elementsTest}
+use Rattle.board_words.specs.Words.{wordAt}
+use Rattle.board_words.specs.Elements.{elementsTest}
 use Rattle.board.specs.Board.{fileSize, countIn, batchesIn, countTest, unpackTest}
 use Rattle.board.proofs.test_unpack.Statement.{statement}
 use Rattle.board.proofs.test_unpack.Tie as tie

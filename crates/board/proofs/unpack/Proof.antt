@@ -7,7 +7,7 @@ use lib.Dec.{lit<}
 use lib.ListN.{length}
 use Rattle.lists.specs.Lists.{tab}
 use Rattle.field.specs.Field.{P}
-use Rattle.elements.specs.Elements.{elementAt, elementsAt}
+use Rattle.board_words.specs.Elements.{elementAt, elementsAt}
 use Rattle.refusals.proofs.Laws.{digest-turned-back, digest-returned, leaves-old, leaves-new}
 use Rattle.board.specs.Board.{batchesIn, claimIn, tapsIn, unpackAnswer, unpackLeaves, IsBoard}
 use Rattle.board.proofs.Answers.{unpack-accepted}

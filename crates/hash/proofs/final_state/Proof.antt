@@ -6,7 +6,7 @@ use Prim.Native.Nat.{ℕ, _-_, _≤_}
 use native.Mathlib.Numerals.{add-one}
 use native.Mathlib.Omega.{arith}
 use borrow.Author.Needs.{needs}
-use Rattle.words.specs.Words.{CanonicalTo}
+use Rattle.field_words.specs.Words.{CanonicalTo}
 use Rattle.hash.specs.Hash.{firstStep, secondStep, stateAt, finalState}
 use Rattle.hash.proofs.States.{firstStep-state, secondStep-state, stateAt-state}
 use Rattle.hash.proofs.CodeStates.{canonical-state}

@@ -1,7 +1,7 @@
 -- `hash::test_hash`: each return is the case of the definition that the tests before it left.
 -- Assumes nothing.
 use mathlib.Core.Path.{refl, ap}
-use Rattle.words.proofs.Laws.{scanned-good, scanned-bad}
+use Rattle.field_words.proofs.Laws.{scanned-good, scanned-bad}
 use Rattle.refusals.specs.declared.Refusal.the-variants.{TapWord}
 use Rattle.refusals.specs.declared.Answer.the-variants.{Refused}
 use Rattle.refusals.proofs.Laws.{unless-refused, unless-passed, after-refused, after-accepted}

@@ -7,7 +7,7 @@ use native.Mathlib.Omega.{arith}
 use lib.ListN.{length}
 use Rattle.lists.specs.Lists.{tab}
 use Rattle.lists.proofs.Tab.{length-tab}
-use Rattle.words.specs.Words.{AllCanonical}
+use Rattle.field_words.specs.Words.{AllCanonical}
 use Rattle.matrix.specs.Matrix.{matrixWords}
 use Rattle.table.specs.Table.{inverseOf, unlike}
 use Rattle.table.proofs.Parts.{length-inverse, inverse-canonical}

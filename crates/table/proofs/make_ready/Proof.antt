@@ -4,8 +4,8 @@ use mathlib.Core.Path.{sym, ap, _∙_, subst}
 use native.Mathlib.Omega.{arith}
 use borrow.Author.Needs.{needs}
 use lib.ListN.{length}
-use Rattle.words.specs.Words.{AllCanonical}
-use Rattle.mixing.specs.MixingHelpers.{ready}
+use Rattle.field_words.specs.Words.{AllCanonical}
+use Rattle.matrix_ready.specs.MixingHelpers.{ready}
 use Rattle.table.specs.ReadyHelpers.{matrixScale, matrixReady}
 use Rattle.table.proofs.Parts.{length-matrix, matrix-canonical}
 use Rattle.table.proofs.make_ready.Statement.{statement}

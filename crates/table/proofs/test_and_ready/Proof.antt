@@ -3,8 +3,8 @@
 -- Assumes nothing.
 use mathlib.Core.Path.{_≡_, sym, _∙_}
 use lib.ListN.{length}
-use Rattle.words.specs.Words.{AllCanonical, firstBad}
-use Rattle.words.proofs.Laws.{good-all}
+use Rattle.field_words.specs.Words.{AllCanonical, firstBad}
+use Rattle.field_words.proofs.Laws.{good-all}
 use Rattle.table.specs.Table.{tableWords}
 use Rattle.table.proofs.Tested.{kept-at-1, kept-at-2, made-ready}
 use Rattle.table.proofs.Tested.{wrong-length, wrong-word, wrong-cell, accepted}

@@ -8,7 +8,7 @@ use Rattle.numbers.specs.Numbers.{tapWordBatches}
 use Rattle.refusals.specs.Refusals.{digest}
 use Rattle.refusals.proofs.Laws.{digest-turned-back, digest-returned, leaves-old, leaves-new}
 use Rattle.table.proofs.Theorems.{ready-left, left-size}
-use Rattle.chain.proofs.Answers.{digest-take}
+use Rattle.hash_chain.proofs.Answers.{digest-take}
 use Rattle.trace.specs.Answers.{buildAnswer, buildLeaves}
 use Rattle.trace.proofs.Answers.{BuildInputs, build-inputs}
 use borrow.Author.Needs.{needs}

@@ -6,7 +6,7 @@ use native.Mathlib.Omega.{arith}
 use borrow.Author.Needs.{needs}
 use lib.ListN.{length, take}
 use Rattle.hash.specs.Hash.{outputAt, chain}
-use Rattle.chain.proofs.CodeChain.{starts, input-canonical, goes-on}
+use Rattle.hash_chain.proofs.CodeChain.{starts, input-canonical, goes-on}
 use Rattle.trace.specs.Trace.{traceRow}
 use Rattle.trace.specs.RowHelpers.{withRows, rowsBefore}
 use Rattle.trace.proofs.WrittenRows.{rows-none}

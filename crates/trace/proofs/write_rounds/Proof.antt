@@ -8,7 +8,7 @@ use native.Mathlib.Numerals.{add-one}
 use native.Mathlib.Omega.{arith}
 use borrow.Author.Needs.{needs}
 use lib.ListN.{length}
-use Rattle.words.specs.Words.{CanonicalTo}
+use Rattle.field_words.specs.Words.{CanonicalTo}
 use Rattle.hash.specs.Hash.{firstStep, secondStep, stateAt, middleState, finalState}
 use Rattle.hash.proofs.States.{firstStep-state, secondStep-state, stateAt-state, stateAt-suc}
 use Rattle.hash.proofs.CodeStates.{canonical-state}
