@@ -1,7 +1,7 @@
 #!/bin/sh
-# Reads what the gate's `rt ci` and `rt staticlib` left under target/: that every crate has a verdict of this kit which
-# rests on nothing but the two axioms that docs/REVIEW.md names, and that every must-fail edit was refused because a
-# fact no longer holds, and not for its shape. Prints what is wrong, and fails if anything is.
+# Reads what the gate's `rt ci` and `rt staticlib` left under target/: that every crate has a verdict of the installed
+# kit which rests on nothing but the two axioms that docs/REVIEW.md names, and that every must-fail edit was refused
+# because a fact no longer holds, and not for its shape. Prints what is wrong, and fails if anything is.
 set -eu
 cd "$(dirname "$0")/.."
 
@@ -9,8 +9,11 @@ work=$(mktemp -d)
 trap 'rm -rf "$work"' EXIT
 : >"$work/wrong"
 
-# ---- verdicts: one to a file, and no word in it (`cache=`, `incremental=`, `foreign=`, `pinned=`) beyond those below
-sum=$(sed -n 's/.* logic //p' kit.txt)
+# ---- verdicts: one to a file, and no word in it (`cache=`, `incremental=`, `foreign=`, `pinned=`) beyond those below.
+# The sum is the installed kit's own, so that what another kit left is refused
+found=$(rt version)
+sum=$(echo "$found" | sed -n 's/.* logic //p')
+[ -n "$sum" ] || { echo "tests/evidence.sh: the kit '$found' names no logic" >&2 && exit 1; }
 trusted="sum=$sum native=nat,char,string logic-built=trusted libraries-built=trusted"
 
 verdict() { # FILE WORDS-AFTER-THE-FUNCTIONS AXIOMS
@@ -97,6 +100,9 @@ done
 
 if [ -s "$work/wrong" ]; then
     sed 's|^|tests/evidence.sh: |' "$work/wrong" >&2
+    # another kit may word a verdict or a message otherwise
+    [ "$found" = "$(cat kit.txt)" ] ||
+        echo "tests/evidence.sh: this is the kit '$found'; the words known here are those of '$(cat kit.txt)'" >&2
     exit 1
 fi
 echo "tests/evidence.sh: $(echo "$crates" | wc -l) verdicts, two axioms in the program and none in the libraries;" \
