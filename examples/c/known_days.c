@@ -1,19 +1,21 @@
-/* The known days of document 01, their hashes with all twelve cells, edits of them, the two taps found again from the last row of a
- * day, a day that closes before its rows end, a day in the short edition of the board file, converted to the full one and back, and a
- * season of 2048 batches, through the library for C. Prints one line for each; known_days.expected has what they must be. */
+/* The known days of document 01, their hashes with all twelve cells, edits of them, the two taps found again from the
+ * last row of a day, a day that closes before its rows end, a day in the short edition of the board file, converted to
+ * the full one and back, and a season of 2048 batches, through the library for C. Prints one line for each;
+ * known_days.expected has what they must be. */
 #include "lemoncolumn.h"
 
 #include <inttypes.h>
 #include <stdio.h>
 #include <string.h>
 
-/* The refusal, then what is returned with it: for 11 row, constraint and the failing test's place in the order; else an index, if
- * there is one. */
+/* The refusal, then what is returned with it: for 11 row, constraint and the failing test's place in the order; else an
+ * index, if there is one. */
 static void show_refusal(lemoncolumn_code code)
 {
     printf("refused %d", (int)lemoncolumn_number(code));
     if (lemoncolumn_number(code) == LEMONCOLUMN_CONSTRAINT)
-        printf(" %" PRIu64 " %" PRIu64 ", test %" PRIu64, lemoncolumn_row(code), lemoncolumn_constraint(code), lemoncolumn_tests(code));
+        printf(" %" PRIu64 " %" PRIu64 ", test %" PRIu64, lemoncolumn_row(code), lemoncolumn_constraint(code),
+               lemoncolumn_tests(code));
     else if (lemoncolumn_has_index(code))
         printf(" %" PRIu64, lemoncolumn_index(code));
     printf("\n");
@@ -79,10 +81,10 @@ static void hashes(const uint64_t *z, const uint64_t *a, const uint64_t *s)
     show_state("A, zeros", state);
     lemoncolumn_hash(s, LEMONCOLUMN_TABLE_WORDS, 1, 2, 3, 4, 5, 6, 7, 9, state, LEMONCOLUMN_STATE_WORDS);
     show_state("S, (1,2,3,4) and (5,6,7,9)", state);
-    show("p among the words",
-         lemoncolumn_hash(z, LEMONCOLUMN_TABLE_WORDS, 0, 0, 0, 0, 0, LEMONCOLUMN_P, 0, 0, state, LEMONCOLUMN_STATE_WORDS));
-    show("a hash into four words",
-         lemoncolumn_hash(z, LEMONCOLUMN_TABLE_WORDS, 0, 0, 0, 0, 0, LEMONCOLUMN_P, 0, 0, state, LEMONCOLUMN_DIGEST_WORDS));
+    show("p among the words", lemoncolumn_hash(z, LEMONCOLUMN_TABLE_WORDS, 0, 0, 0, 0, 0, LEMONCOLUMN_P, 0, 0, state,
+                                               LEMONCOLUMN_STATE_WORDS));
+    show("a hash into four words", lemoncolumn_hash(z, LEMONCOLUMN_TABLE_WORDS, 0, 0, 0, 0, 0, LEMONCOLUMN_P, 0, 0,
+                                                    state, LEMONCOLUMN_DIGEST_WORDS));
 }
 
 /* A chain hands out cells 0 to 3 of its last final state. */
@@ -98,14 +100,15 @@ static void chains(const uint64_t *a)
          lemoncolumn_chain(a, LEMONCOLUMN_TABLE_WORDS, taps, LEMONCOLUMN_TAP_WORDS(1), state, LEMONCOLUMN_STATE_WORDS));
 }
 
-static lemoncolumn_code edit(const uint64_t *z, uint64_t *trace, size_t tap, uint64_t w0, uint64_t w1, uint64_t w2, uint64_t w3, uint64_t *out)
+static lemoncolumn_code edit(const uint64_t *z, uint64_t *trace, size_t tap, uint64_t w0, uint64_t w1, uint64_t w2,
+                             uint64_t w3, uint64_t *out)
 {
-    return lemoncolumn_edit(z, LEMONCOLUMN_TABLE_WORDS, trace, LEMONCOLUMN_TRACE_WORDS(1), 0, 0, 0, 0, 1, tap, w0, w1, w2, w3, out,
-                            LEMONCOLUMN_DIGEST_WORDS);
+    return lemoncolumn_edit(z, LEMONCOLUMN_TABLE_WORDS, trace, LEMONCOLUMN_TRACE_WORDS(1), 0, 0, 0, 0, 1, tap, w0, w1,
+                            w2, w3, out, LEMONCOLUMN_DIGEST_WORDS);
 }
 
-/* Of the trace whose taps are zeros but w_2, under the claim (0,0,0,0). Under Z the final state of a hash is its input, so that
- * its first tap goes on, and its rows hold the roots of its input. */
+/* Of the trace whose taps are zeros but w_2, under the claim (0,0,0,0). Under Z the final state of a hash is its input,
+ * so that its first tap goes on, and its rows hold the roots of its input. */
 static void edits(const uint64_t *z, uint64_t *trace)
 {
     uint64_t out[LEMONCOLUMN_DIGEST_WORDS];
@@ -123,16 +126,19 @@ static void traces(const uint64_t *z)
     uint64_t trace[LEMONCOLUMN_TRACE_WORDS(1)];
     uint64_t taps[LEMONCOLUMN_TAP_WORDS(1)] = {0};
     uint64_t out[LEMONCOLUMN_DIGEST_WORDS];
-    show("zero taps built",
-         lemoncolumn_build(z, LEMONCOLUMN_TABLE_WORDS, taps, LEMONCOLUMN_TAP_WORDS(1), trace, LEMONCOLUMN_TRACE_WORDS(1), out,
-                           LEMONCOLUMN_DIGEST_WORDS));
-    show_tests("checked", lemoncolumn_check(z, LEMONCOLUMN_TABLE_WORDS, trace, LEMONCOLUMN_TRACE_WORDS(1), 0, 0, 0, 0, 1));
-    show_tests("claim (1,0,0,0)", lemoncolumn_check(z, LEMONCOLUMN_TABLE_WORDS, trace, LEMONCOLUMN_TRACE_WORDS(1), 1, 0, 0, 0, 1));
+    show("zero taps built", lemoncolumn_build(z, LEMONCOLUMN_TABLE_WORDS, taps, LEMONCOLUMN_TAP_WORDS(1), trace,
+                                              LEMONCOLUMN_TRACE_WORDS(1), out, LEMONCOLUMN_DIGEST_WORDS));
+    show_tests("checked",
+               lemoncolumn_check(z, LEMONCOLUMN_TABLE_WORDS, trace, LEMONCOLUMN_TRACE_WORDS(1), 0, 0, 0, 0, 1));
+    show_tests("claim (1,0,0,0)",
+               lemoncolumn_check(z, LEMONCOLUMN_TABLE_WORDS, trace, LEMONCOLUMN_TRACE_WORDS(1), 1, 0, 0, 0, 1));
     trace[12 * 31 + 5] = 1;
-    show_tests("row 31 column 5", lemoncolumn_check(z, LEMONCOLUMN_TABLE_WORDS, trace, LEMONCOLUMN_TRACE_WORDS(1), 0, 0, 0, 0, 1));
+    show_tests("row 31 column 5",
+               lemoncolumn_check(z, LEMONCOLUMN_TABLE_WORDS, trace, LEMONCOLUMN_TRACE_WORDS(1), 0, 0, 0, 0, 1));
     trace[12 * 31 + 5] = 0;
     trace[12 * 11 + 5] = 1;
-    show_tests("row 11 column 5", lemoncolumn_check(z, LEMONCOLUMN_TABLE_WORDS, trace, LEMONCOLUMN_TRACE_WORDS(1), 0, 0, 0, 0, 1));
+    show_tests("row 11 column 5",
+               lemoncolumn_check(z, LEMONCOLUMN_TABLE_WORDS, trace, LEMONCOLUMN_TRACE_WORDS(1), 0, 0, 0, 0, 1));
     for (int row = 11; row <= 20; row++)
         trace[12 * row + 5] = 1;
     show_tests("column 5 of rows 11 to 20",
@@ -144,11 +150,12 @@ static void traces(const uint64_t *z)
 
 static lemoncolumn_code unhash(const uint64_t *table, const uint64_t *s, uint64_t *pair, size_t pair_words)
 {
-    return lemoncolumn_unhash(table, LEMONCOLUMN_TABLE_WORDS, s[0], s[1], s[2], s[3], s[4], s[5], s[6], s[7], s[8], s[9], s[10], s[11], pair,
-                              pair_words);
+    return lemoncolumn_unhash(table, LEMONCOLUMN_TABLE_WORDS, s[0], s[1], s[2], s[3], s[4], s[5], s[6], s[7], s[8],
+                              s[9], s[10], s[11], pair, pair_words);
 }
 
-/* A depot that has kept row 31 of a day and lost the rest. Under A each hash adds 1 to cell 0 of its first tap, which goes on. */
+/* A depot that has kept row 31 of a day and lost the rest. Under A each hash adds 1 to cell 0 of its first tap, which
+ * goes on. */
 static void archive(const uint64_t *a)
 {
     uint64_t trace[LEMONCOLUMN_TRACE_WORDS(1)] = {0};
@@ -157,8 +164,8 @@ static void archive(const uint64_t *a)
     uint64_t pair[LEMONCOLUMN_PAIR_WORDS] = {0};
     for (uint64_t i = 0; i < LEMONCOLUMN_TAP_WORDS(1); i++)
         taps[i] = i + 1;
-    lemoncolumn_build(a, LEMONCOLUMN_TABLE_WORDS, taps, LEMONCOLUMN_TAP_WORDS(1), trace, LEMONCOLUMN_TRACE_WORDS(1), out,
-                      LEMONCOLUMN_DIGEST_WORDS);
+    lemoncolumn_build(a, LEMONCOLUMN_TABLE_WORDS, taps, LEMONCOLUMN_TAP_WORDS(1), trace, LEMONCOLUMN_TRACE_WORDS(1),
+                      out, LEMONCOLUMN_DIGEST_WORDS);
     uint64_t *row_31 = trace + 12 * 31;
     show_state("row 31 of taps 1 to 16", row_31);
     show("unhashed", unhash(a, row_31, pair, LEMONCOLUMN_PAIR_WORDS));
@@ -174,19 +181,20 @@ static void archive(const uint64_t *a)
 /* Check of a trace of two batches. */
 static lemoncolumn_code check_two(const uint64_t *table, const uint64_t *trace, const uint64_t *claim, size_t c)
 {
-    return lemoncolumn_check(table, LEMONCOLUMN_TABLE_WORDS, trace, LEMONCOLUMN_TRACE_WORDS(2), claim[0], claim[1], claim[2], claim[3], c);
+    return lemoncolumn_check(table, LEMONCOLUMN_TABLE_WORDS, trace, LEMONCOLUMN_TRACE_WORDS(2), claim[0], claim[1],
+                             claim[2], claim[3], c);
 }
 
 /* Edit of a trace of two batches under a claim about the first, which becomes that of the altered list. */
-static lemoncolumn_code edit_two(const uint64_t *table, uint64_t *trace, uint64_t *claim, size_t tap, uint64_t w0, uint64_t w1, uint64_t w2,
-                                 uint64_t w3)
+static lemoncolumn_code edit_two(const uint64_t *table, uint64_t *trace, uint64_t *claim, size_t tap, uint64_t w0,
+                                 uint64_t w1, uint64_t w2, uint64_t w3)
 {
-    return lemoncolumn_edit(table, LEMONCOLUMN_TABLE_WORDS, trace, LEMONCOLUMN_TRACE_WORDS(2), claim[0], claim[1], claim[2], claim[3], 1, tap,
-                            w0, w1, w2, w3, claim, LEMONCOLUMN_DIGEST_WORDS);
+    return lemoncolumn_edit(table, LEMONCOLUMN_TABLE_WORDS, trace, LEMONCOLUMN_TRACE_WORDS(2), claim[0], claim[1],
+                            claim[2], claim[3], 1, tap, w0, w1, w2, w3, claim, LEMONCOLUMN_DIGEST_WORDS);
 }
 
-/* A day that closes after one batch and has a filler batch, so that its claim is about its first four taps: c is 1, and k is 2. Under S
- * the output is the last tap. */
+/* A day that closes after one batch and has a filler batch, so that its claim is about its first four taps: c is 1, and
+ * k is 2. Under S the output is the last tap. */
 static void closed_early(const uint64_t *s)
 {
     uint64_t trace[LEMONCOLUMN_TRACE_WORDS(2)];
@@ -194,11 +202,12 @@ static void closed_early(const uint64_t *s)
     uint64_t all[LEMONCOLUMN_DIGEST_WORDS];
     for (uint64_t i = 0; i < LEMONCOLUMN_TAP_WORDS(2); i++)
         taps[i] = i + 1;
-    lemoncolumn_build(s, LEMONCOLUMN_TABLE_WORDS, taps, LEMONCOLUMN_TAP_WORDS(2), trace, LEMONCOLUMN_TRACE_WORDS(2), all,
-                      LEMONCOLUMN_DIGEST_WORDS);
+    lemoncolumn_build(s, LEMONCOLUMN_TABLE_WORDS, taps, LEMONCOLUMN_TAP_WORDS(2), trace, LEMONCOLUMN_TRACE_WORDS(2),
+                      all, LEMONCOLUMN_DIGEST_WORDS);
     show_words("taps 1 to 28, output", all);
     /* cells 0 to 3 of row 31 of batch c - 1 */
-    uint64_t claim[LEMONCOLUMN_DIGEST_WORDS] = {trace[12 * 31], trace[12 * 31 + 1], trace[12 * 31 + 2], trace[12 * 31 + 3]};
+    uint64_t claim[LEMONCOLUMN_DIGEST_WORDS] = {trace[12 * 31], trace[12 * 31 + 1], trace[12 * 31 + 2],
+                                                trace[12 * 31 + 3]};
     show_words("of the first four taps", claim);
     show_tests("claimed after one batch", check_two(s, trace, claim, 1));
     show_tests("claimed after two", check_two(s, trace, claim, 2));
@@ -209,9 +218,8 @@ static void closed_early(const uint64_t *s)
     show_words("the claim", claim);
     show("the day's last tap edited", edit_two(s, trace, claim, 3, 1, 1, 1, 1));
     show_words("the claim", claim);
-    show_tests("read off",
-               lemoncolumn_read_off(s, LEMONCOLUMN_TABLE_WORDS, trace, LEMONCOLUMN_TRACE_WORDS(2), claim[0], claim[1], claim[2], claim[3], 1, taps,
-                                    LEMONCOLUMN_TAP_WORDS(2)));
+    show_tests("read off", lemoncolumn_read_off(s, LEMONCOLUMN_TABLE_WORDS, trace, LEMONCOLUMN_TRACE_WORDS(2), claim[0],
+                                                claim[1], claim[2], claim[3], 1, taps, LEMONCOLUMN_TAP_WORDS(2)));
     show_words("its w_3", taps + 12);
     show_words("its w_6", taps + 24);
 }
@@ -231,9 +239,11 @@ static void files(void)
     uint8_t file[LEMONCOLUMN_FILE_BYTES(1)];
     show("packed", lemoncolumn_pack(taps, LEMONCOLUMN_TAP_WORDS(1), 0, 0, 0, 0, file, sizeof file));
     show_first_bytes(file, 16);
-    show("unpacked", lemoncolumn_unpack(file, sizeof file, taps, LEMONCOLUMN_TAP_WORDS(1), claim, LEMONCOLUMN_DIGEST_WORDS));
+    show("unpacked",
+         lemoncolumn_unpack(file, sizeof file, taps, LEMONCOLUMN_TAP_WORDS(1), claim, LEMONCOLUMN_DIGEST_WORDS));
     file[4 * 7 + 3] = 0;
-    show("word 7 of kind 0", lemoncolumn_unpack(file, sizeof file, taps, LEMONCOLUMN_TAP_WORDS(1), claim, LEMONCOLUMN_DIGEST_WORDS));
+    show("word 7 of kind 0",
+         lemoncolumn_unpack(file, sizeof file, taps, LEMONCOLUMN_TAP_WORDS(1), claim, LEMONCOLUMN_DIGEST_WORDS));
 }
 
 /* Unpack of a short file into the taps of `k` batches. */
@@ -256,8 +266,8 @@ static void refused_on_the_radio_link(uint8_t *file, size_t bytes, const uint8_t
     show("word 6 of kind 0", unpack_short(file, bytes, 1));
 }
 
-/* What the office does for a depot with older cradles, which read only full files: it converts the short file of `radio`, and back. `full`
- * is the day as its depot would have packed it. */
+/* What the office does for a depot with older cradles, which read only full files: it converts the short file of
+ * `radio`, and back. `full` is the day as its depot would have packed it. */
 static void converted(const uint8_t *file, size_t bytes, const uint8_t *full)
 {
     uint8_t cradle[LEMONCOLUMN_FILE_BYTES(1)];
@@ -276,7 +286,8 @@ static void converted(const uint8_t *file, size_t bytes, const uint8_t *full)
     show("word 60 of kind 0, into no room", lemoncolumn_to_short(cradle, cradle_bytes, back, 0));
 }
 
-/* The lengths of the short files of zeros in so many bytes, 0 where no full file has them, then of bytes without a 0. */
+/* The lengths of the short files of zeros in so many bytes, 0 where no full file has them, then of bytes without
+ * a 0. */
 static void show_converted_lengths(void)
 {
     static const size_t lengths[] = {100, 243, 244, 245, 388, 532, 676, 147556, 295012};
@@ -309,8 +320,8 @@ static void show_batches(void)
     printf("\n");
 }
 
-/* A day for the radio link: each tap has stop, fare, minute and card, and only the card, from 2^32 on, needs three words. Its claim is the
- * last tap, as under S. */
+/* A day for the radio link: each tap has stop, fare, minute and card, and only the card, from 2^32 on, needs three
+ * words. Its claim is the last tap, as under S. */
 static void radio(void)
 {
     uint64_t taps[LEMONCOLUMN_TAP_WORDS(1)];
@@ -329,14 +340,17 @@ static void radio(void)
          lemoncolumn_pack(taps, LEMONCOLUMN_TAP_WORDS(1), last[0], last[1], last[2], last[3], full, sizeof full));
     show("packed in the short edition",
          lemoncolumn_pack_short(taps, LEMONCOLUMN_TAP_WORDS(1), last[0], last[1], last[2], last[3], file, bytes));
-    printf("bytes, full and short, and where all is small: %zu %zu %zu\n", sizeof full, bytes, LEMONCOLUMN_SHORTEST_FILE_BYTES(1));
+    printf("bytes, full and short, and where all is small: %zu %zu %zu\n", sizeof full, bytes,
+           LEMONCOLUMN_SHORTEST_FILE_BYTES(1));
     show_first_bytes(file, 28);
     size_t k = lemoncolumn_short_batches(file, bytes);
     printf("its k: %zu\n", k);
-    show("unpacked", lemoncolumn_unpack_short(file, bytes, read, LEMONCOLUMN_TAP_WORDS(k), claim, LEMONCOLUMN_DIGEST_WORDS));
+    show("unpacked",
+         lemoncolumn_unpack_short(file, bytes, read, LEMONCOLUMN_TAP_WORDS(k), claim, LEMONCOLUMN_DIGEST_WORDS));
     show_words("its claim", claim);
     show_words("its w_0", read);
-    show("read as a full file", lemoncolumn_unpack(file, bytes, read, LEMONCOLUMN_TAP_WORDS(1), claim, LEMONCOLUMN_DIGEST_WORDS));
+    show("read as a full file",
+         lemoncolumn_unpack(file, bytes, read, LEMONCOLUMN_TAP_WORDS(1), claim, LEMONCOLUMN_DIGEST_WORDS));
     converted(file, bytes, full);
     refused_on_the_radio_link(file, bytes, full);
     show_batches();
@@ -353,9 +367,11 @@ static void files_of_a_season(const uint64_t *taps, const uint64_t *claim)
     static uint64_t read[LEMONCOLUMN_TAP_WORDS(SEASON)];
     uint64_t read_claim[LEMONCOLUMN_DIGEST_WORDS];
     size_t tap_words = LEMONCOLUMN_TAP_WORDS(SEASON);
-    show("packed in the full edition", lemoncolumn_pack(taps, tap_words, claim[0], claim[1], claim[2], claim[3], full, sizeof full));
+    show("packed in the full edition",
+         lemoncolumn_pack(taps, tap_words, claim[0], claim[1], claim[2], claim[3], full, sizeof full));
     size_t bytes = lemoncolumn_short_file_bytes(taps, tap_words, claim[0], claim[1], claim[2], claim[3]);
-    show("packed in the short edition", lemoncolumn_pack_short(taps, tap_words, claim[0], claim[1], claim[2], claim[3], file, bytes));
+    show("packed in the short edition",
+         lemoncolumn_pack_short(taps, tap_words, claim[0], claim[1], claim[2], claim[3], file, bytes));
     printf("its bytes and its k: %zu %zu\n", bytes, lemoncolumn_short_batches(file, bytes));
     show_first_bytes(file, 8);
     show("unpacked", lemoncolumn_unpack_short(file, bytes, read, tap_words, read_claim, LEMONCOLUMN_DIGEST_WORDS));
@@ -365,22 +381,25 @@ static void files_of_a_season(const uint64_t *taps, const uint64_t *claim)
     show("converted to the full edition", lemoncolumn_to_full(file, bytes, full, sizeof full));
 }
 
-/* A season in one chain: 2048 batches of zero taps. Under A each hash adds 1 to cell 0 of the first tap, and a batch has three. */
+/* A season in one chain: 2048 batches of zero taps. Under A each hash adds 1 to cell 0 of the first tap, and a batch
+ * has three. */
 static void season(const uint64_t *a)
 {
     static uint64_t taps[LEMONCOLUMN_TAP_WORDS(SEASON)];
     static uint64_t trace[LEMONCOLUMN_TRACE_WORDS(SEASON)];
     uint64_t out[LEMONCOLUMN_DIGEST_WORDS];
     show("a season of 2048 batches built",
-         lemoncolumn_build(a, LEMONCOLUMN_TABLE_WORDS, taps, LEMONCOLUMN_TAP_WORDS(SEASON), trace, LEMONCOLUMN_TRACE_WORDS(SEASON), out,
-                           LEMONCOLUMN_DIGEST_WORDS));
+         lemoncolumn_build(a, LEMONCOLUMN_TABLE_WORDS, taps, LEMONCOLUMN_TAP_WORDS(SEASON), trace,
+                           LEMONCOLUMN_TRACE_WORDS(SEASON), out, LEMONCOLUMN_DIGEST_WORDS));
     show_words("its output", out);
-    show_tests("checked", lemoncolumn_check(a, LEMONCOLUMN_TABLE_WORDS, trace, LEMONCOLUMN_TRACE_WORDS(SEASON), out[0], out[1], out[2], out[3],
-                                            SEASON));
+    show_tests("checked", lemoncolumn_check(a, LEMONCOLUMN_TABLE_WORDS, trace, LEMONCOLUMN_TRACE_WORDS(SEASON), out[0],
+                                            out[1], out[2], out[3], SEASON));
     files_of_a_season(taps, out);
     const int most = LEMONCOLUMN_MOST_BATCHES;
-    printf("words of the longest list and trace: %zu %zu\n", LEMONCOLUMN_TAP_WORDS(most), LEMONCOLUMN_TRACE_WORDS(most));
-    printf("bytes of its short file: %zu to %zu\n", LEMONCOLUMN_SHORTEST_FILE_BYTES(most), LEMONCOLUMN_FILE_BYTES(most));
+    printf("words of the longest list and trace: %zu %zu\n", LEMONCOLUMN_TAP_WORDS(most),
+           LEMONCOLUMN_TRACE_WORDS(most));
+    printf("bytes of its short file: %zu to %zu\n", LEMONCOLUMN_SHORTEST_FILE_BYTES(most),
+           LEMONCOLUMN_FILE_BYTES(most));
 }
 
 /* The refusals of documents 01 and 02, as the header decodes them. */

@@ -1,6 +1,6 @@
-/* What include/lemoncolumn.h says and computes by itself, without a call of the library: prints every constant, then answers questions
- * from standard input, one on a line: `word`, `count`, `list` or `file`, and numbers. Each is printed again with its answers.
- * tests/header.sh asks, and knows what must come. */
+/* What include/lemoncolumn.h says and computes by itself, without a call of the library: prints every constant, then
+ * answers questions from standard input, one on a line: `word`, `count`, `list` or `file`, and numbers. Each is printed
+ * again with its answers. tests/header.sh asks, and knows what must come. */
 #include "lemoncolumn.h"
 
 #include <inttypes.h>
@@ -78,13 +78,14 @@ static void *room(size_t bytes)
 static void of_word(void)
 {
     lemoncolumn_code code = next();
-    printf(": number %d, constraint %" PRIu64 ", row %" PRIu64, (int)lemoncolumn_number(code), lemoncolumn_constraint(code),
-           lemoncolumn_row(code));
+    printf(": number %d, constraint %" PRIu64 ", row %" PRIu64, (int)lemoncolumn_number(code),
+           lemoncolumn_constraint(code), lemoncolumn_row(code));
     printf(", index? %d %" PRIu64 ", tests %" PRIu64 "\n", lemoncolumn_has_index(code) != 0, lemoncolumn_index(code),
            lemoncolumn_tests(code));
 }
 
-/* Of k batches, which are lent as a sum, since this is a macro, and in 32 bits where they fit; twice and halved as above. */
+/* Of k batches, which are lent as a sum, since this is a macro, and in 32 bits where they fit; twice and halved as
+ * above. */
 #define OF(name) (k >> 32 == 0 ? 2 * name(0 + (uint32_t)k) / 2 : 2 * name(0 + k) / 2)
 
 static void of_count(void)
@@ -94,8 +95,8 @@ static void of_count(void)
     printf(", file %zu, shortest %zu\n", OF(LEMONCOLUMN_FILE_BYTES), OF(LEMONCOLUMN_SHORTEST_FILE_BYTES));
 }
 
-/* A claim, then a list of taps: its length, the word that it is full of, how many others it has, and place and word of each. The word
- * after its end would count too. */
+/* A claim, then a list of taps: its length, the word that it is full of, how many others it has, and place and word of
+ * each. The word after its end would count too. */
 static void of_list(void)
 {
     uint64_t claim[4];
@@ -115,8 +116,8 @@ static void of_list(void)
     free(taps);
 }
 
-/* A file: its length, the byte that it is full of, how many 32-bit words are others, and place and word of each. The bytes after its end
- * would count too, also those of such a word. */
+/* A file: its length, the byte that it is full of, how many 32-bit words are others, and place and word of each. The
+ * bytes after its end would count too, also those of such a word. */
 static void of_file(void)
 {
     size_t length = next();
@@ -130,8 +131,10 @@ static void of_file(void)
         for (int i = 0; i < 4; i++)
             bytes[i] = word >> 8 * i & 0xff;
     }
-    printf(": word 0 %" PRIu32 ", k %zu", length < 4 ? 0 : lemoncolumn_file_word(file), lemoncolumn_short_batches(file, length));
-    printf(", to short %zu, to full %zu\n", lemoncolumn_to_short_bytes(file, length), lemoncolumn_to_full_bytes(file, length));
+    printf(": word 0 %" PRIu32 ", k %zu", length < 4 ? 0 : lemoncolumn_file_word(file),
+           lemoncolumn_short_batches(file, length));
+    printf(", to short %zu, to full %zu\n", lemoncolumn_to_short_bytes(file, length),
+           lemoncolumn_to_full_bytes(file, length));
     free(file);
 }
 
