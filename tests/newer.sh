@@ -59,7 +59,8 @@ diff "$work/lines" examples/c/known_days.expected || fail "examples/c/known_days
 # ---- Rust: the known days, and the differential tests but for `edits` and `counts`, which take as long as all of these
 # together and make no call that `operations` does not, and `program`, which makes none. In a target folder of their
 # own, so that the tests of the plain library need not be built again.
-set -- known_days calls converters larger operations short_files states traces unhash
+set -- known_days calls_board calls_convert calls_hash calls_trace converters larger operations short_files states \
+    traces unhash
 count=$#
 for test; do set -- "$@" --test "$test"; done
 shift "$count"
@@ -80,9 +81,12 @@ sed -n 's|^ *Running tests/[a-z_]*\.rs (\(.*\))$|\1|p' "$work/out" >"$work/binar
     fail "not every Rust test ran"
 }
 # The tests pass with either library, and would with the plain one where the build script overlooks the variable. That
-# it was this one is seen in the code that ran. Two of them make no product, so that the linker leaves out the loops.
+# it was this one is seen in the code that ran. Four of them make no product, so that the linker leaves out the loops.
 while read -r binary; do
-    case $binary in */converters-* | */short_files-*) ;; *) wide "rust/$binary" ;; esac
+    case $binary in
+    */calls_board-* | */calls_convert-* | */converters-* | */short_files-*) ;;
+    *) wide "rust/$binary" ;;
+    esac
 done <"$work/binaries"
 
 echo "tests/newer.sh: with the library for x86-64-v3 the example for C is as expected, and" \

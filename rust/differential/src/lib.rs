@@ -1,6 +1,7 @@
 //! What the comparisons share: seeds, guarded buffers, one enum of refusals for
 //! both implementations, and board files with something wrong.
 
+pub mod calls;
 pub mod files;
 
 use std::collections::BTreeSet;

@@ -1,6 +1,10 @@
 //! What the tests share: document 01's tables and a small generator.
 #![allow(dead_code)] // each test file uses its own part
 
+pub mod algorithm;
+pub mod faults;
+pub mod files;
+
 use second::field::P;
 use second::Refusal;
 
