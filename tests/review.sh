@@ -145,7 +145,7 @@ awk -F '\t' -v operations=" $operations " -v named="$named" -v structs="$work/st
     }
     BEGIN { while ((getline line < structs) > 0) { type = line; sub(/ .*/, "", type); fields[type] = line } }
     FNR == NR { head[$1] = $2; next }
-    /^\| `[a-z]+::/ {
+    /^\| `[a-z_]+::/ {
         split($0, part, / \| /)
         name = part[1]; gsub(/[`| ]/, "", name)
         row[name]++
@@ -240,7 +240,7 @@ done
 # ---- section 4, a line for each edit: the edit, the fact and where it stands, then the theorems. What the prover said
 # of an edit is there after `rt must-fail` or the gate has tried it
 awk '/^## / { on = /^## 4/ }
-    on && /^\|.*`[a-z]+\/[a-z0-9_]+`/ {
+    on && /^\|.*`[a-z_]+\/[a-z0-9_]+`/ {
         split($0, part, / \| /); split(part[3], word, "`")
         print part[2], word[2], word[4], part[4]
     }' "$page" |
