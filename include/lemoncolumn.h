@@ -55,8 +55,8 @@ uint64_t lemoncolumn_interface(void);
 /* What a call returns: one word, read by the functions at the end of this file. */
 typedef uint64_t lemoncolumn_code;
 
-/* Writes the prepared table, which is another buffer than the raw one: it is not prepared in place. Refusals, in the order
- * in which they are tested: 1, 8, 2, 3. */
+/* Writes the prepared table, which is another buffer than the raw one: it is not prepared in place. Refusals, in the
+ * order in which they are tested: 1, 8, 2, 3. */
 lemoncolumn_code lemoncolumn_prepare(const uint64_t *raw, size_t raw_words, uint64_t *table, size_t table_words);
 
 /* Hashes the taps (w0 .. w3) and (w4 .. w7), and writes the final state, twelve words: 1, 2, 4, 8, 6. Its first four are the hash,
