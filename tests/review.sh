@@ -90,9 +90,10 @@ find crates/*/src -name '*.rt' | sort | xargs awk '
 
 # ---- the table of section 6 beside them. Entry points are the operations of documents 01 and 02, the table test, and
 # whatever other languages link
-operations="table::test table_prepare::prepare hash::hash hash_chain::chain trace::build check_trace::check trace_read_off::read_off"
-operations="$operations trace_edit::edit hash_undo::unhash board::pack board::unpack board_short::pack_short"
-operations="$operations board_short::unpack_short board_to_short::to_short board_to_full::to_full clear_answer::clear"
+operations="table::test table_prepare::prepare hash::hash hash_chain::chain trace::build check_trace::check"
+operations="$operations trace_read_off::read_off trace_edit::edit hash_undo::unhash board::pack board::unpack"
+operations="$operations board_short::pack_short board_short::unpack_short board_to_short::to_short"
+operations="$operations board_to_full::to_full clear_answer::clear"
 awk -F '\t' -v operations=" $operations " -v named="$named" -v structs="$work/structs" '
     function bad(text) { print "tests/review.sh: " name ": " text }
     function apart(text) { text = " " text " "; gsub(/[() ]+/, " ", text); return text }
@@ -286,6 +287,14 @@ done <"$work/listed"
 grep -nF '.proofs.' crates/*/src/*.rt crates/*/specs/*.antt >>"$work/wrong" || :
 grep -nE '^[a-z ]*(_[^ ]*_|length|take|drop|getD|replicate|ones|eqb|leb|ltb|now) :' crates/*/specs/*.antt \
     >>"$work/wrong" || :
+
+# ---- the index of the decisions has each entry, and no other
+awk '/^## / { on = /^## Index/ } on && /^\| .* \| [0-9, ]+ \|$/ { sub(/ \|$/, ""); sub(/.*\| /, ""); print }' \
+    docs/DECISIONS.md | tr -d ' ' | tr ',' '\n' | sort -u >"$work/indexed"
+sed -n 's/^\([0-9][0-9]*\)\. \*\*.*/\1/p' docs/DECISIONS.md | sort >"$work/decided"
+[ -s "$work/decided" ] || wrong "docs/DECISIONS.md has no entry"
+diff "$work/indexed" "$work/decided" | sed -n 's|^< |tests/review.sh: the index has an entry that is not there: |p
+    s|^> |tests/review.sh: the index of docs/DECISIONS.md lacks |p' >>"$work/wrong"
 
 if [ -s "$work/wrong" ]; then
     cat "$work/wrong" >&2
