@@ -7,6 +7,10 @@
  * is lent to it, and that lent memory does not change during a call: no other thread writes to it, nor reads what the
  * call writes. Calls at the same time may share what they only read. A refused call leaves every lent buffer as it was.
  *
+ * In C++ data() of an empty vector or span may be null. With length 0 too a call is lent another pointer then, to any
+ * word or byte; the inline functions below take null with length 0. docs/LINKING.md, "Rules for callers", has all of
+ * this, and the stack that a call takes.
+ *
  * A word is an unsigned 64-bit number, canonical when below LEMONCOLUMN_P. k is a permitted batch count: 1, 2, 4, ..,
  * 262144; in the full edition of the board file 1, 2, 4, .., 1024. */
 #ifndef LEMONCOLUMN_H
@@ -53,7 +57,8 @@ uint64_t lemoncolumn_interface(void);
 /* What a call returns: one word, read by the functions at the end of this file. */
 typedef uint64_t lemoncolumn_code;
 
-/* Writes the prepared table. Refusals, in the order in which they are tested: 1, 8, 2, 3. */
+/* Writes the prepared table, which is another buffer than the raw one: it is not prepared in place. Refusals, in the
+ * order in which they are tested: 1, 8, 2, 3. */
 lemoncolumn_code lemoncolumn_prepare(const uint64_t *raw, size_t raw_words, uint64_t *table, size_t table_words);
 
 /* Hashes the taps (w0 .. w3) and (w4 .. w7), and writes the final state, twelve words: 1, 2, 4, 8, 6. Its first four

@@ -1,7 +1,7 @@
 #!/bin/sh
-# Clears folders of boards made here in the two ways of the README, "Many boards": with examples/rust/folder.rs, and
-# with the program under xargs, by the README's own command. Each line must be document 01's, so that both say the same
-# of each board. Also sums, exit statuses, and what is said where something cannot be read. Stops at the first
+# Clears folders of boards made here in the two ways of docs/OPERATING.md, "Many boards": with examples/rust/folder.rs,
+# and with the program under xargs, by that page's own command. Each line must be document 01's, so that both say the
+# same of each board. Also sums, exit statuses, and what is said where something cannot be read. Stops at the first
 # difference. Needs the static library, which tests/library.sh builds, and the program.
 set -eu
 cd "$(dirname "$0")/.."
@@ -16,11 +16,11 @@ fail() {
     exit 1
 }
 
-# the README's block of commands that has the text $1
-readme() {
+# the page's block of commands that has the text $1
+page() {
     awk -v text="$1" '
         /^```/ { if (index(block, text)) printf "%s", block; block = ""; next }
-        { block = block $0 "\n" }' "$root/README.md"
+        { block = block $0 "\n" }' "$root/docs/OPERATING.md"
 }
 
 folder() {
@@ -54,15 +54,15 @@ says() {
     [ "$status" -eq 2 ] && [ ! -s output ] || fail "folder $*: exit status $status, or something was printed"
 }
 
-# ---- the README, from its first command on, as in a fresh clone
+# ---- the page, from its first command on, as in a fresh clone
 mkdir "$work/fresh" && cd "$work/fresh"
 ln -s "$root/crates" "$root/target" .
-readme 'mkdir boards' >try.sh
-readme xargs >many.sh
+page 'mkdir boards' >try.sh
+page xargs >many.sh
 sh -eu try.sh
 sh -eu many.sh
 echo 'boards/duty 7: accepted 1 372' | diff - lines ||
-    fail 'the command of the README printed another line for its board'
+    fail 'the command of docs/OPERATING.md printed another line for its board'
 
 # ---- boards of all kinds, the last entries none. The order is that of the names.
 mkdir "$work/all" && cd "$work/all"
@@ -108,28 +108,28 @@ says 'zero.raw: refused 3' zero.raw boards
 { Z; zeros 1; } >long.raw
 says 'long.raw: refused 1' long.raw boards
 
-# ---- the same folder by the README's command, whose lines must be those of $1; $2 says what is tried
-by_readme() {
+# ---- the same folder by the page's command, whose lines must be those of $1; $2 says what is tried
+by_page() {
     sh -eu "$work/fresh/many.sh" 2>errors
-    sort "$1" | diff - lines || fail "$2: the lines of the README's command are not those expected"
+    sort "$1" | diff - lines || fail "$2: the lines of the page's command are not those expected"
 }
 
 mkdir -p target/bin
 cp "$root/target/bin/clear" target/bin/clear
-by_readme boards.program 'all boards'
-[ ! -s errors ] || fail "the README's command, on standard error: $(cat errors)"
+by_page boards.program 'all boards'
+[ ! -s errors ] || fail "the page's command, on standard error: $(cat errors)"
 
 # Every board has its line, also where there is no verdict on it: the table is not there, the board cannot be read (a
 # cat that fails after the table stands for that, since every file can be read as root), or the program is stopped.
 sed 's/: .*/: no answer/' boards.program >boards.unanswered
 mv table.raw away.raw
-by_readme boards.unanswered 'no table'
+by_page boards.unanswered 'no table'
 mv away.raw table.raw
 mkdir failing
 printf '#!/bin/sh\n%s\nexit 1\n' "$(command -v cat)" >failing/cat
 chmod +x failing/cat
-(PATH=$PWD/failing:$PATH by_readme boards.unanswered 'boards that cannot be read')
+(PATH=$PWD/failing:$PATH by_page boards.unanswered 'boards that cannot be read')
 printf '#!/bin/sh\nkill -9 $$\n' >target/bin/clear
-by_readme boards.unanswered 'a program that is stopped'
+by_page boards.unanswered 'a program that is stopped'
 
 echo "tests/folder.sh: $(($(wc -l <boards.program))) boards, of which the example and the program say what they must"

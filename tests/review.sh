@@ -1,11 +1,13 @@
 #!/bin/sh
-# Holds docs/REVIEW.md to the repository: that its table of public functions is complete, that each of them has a
-# contract which equates its result and what it writes with a definition, and asks nothing at an entry point; that what
-# it and the other documents name exists; that its counts are right. Prints what is wrong, and fails if anything is.
+# Holds docs/REVIEW.md and docs/THEOREMS.md to the repository: that the table of public functions is complete, that each
+# of them has a contract which equates its result and what it writes with a definition, and asks nothing at an entry
+# point; that both have every statement; that what they and the other documents name exists; that the counts are right,
+# and that the index of docs/DECISIONS.md has each entry. Prints what is wrong, and fails if anything is.
 set -eu
 cd "$(dirname "$0")/.."
 
 page=docs/REVIEW.md
+theorems=docs/THEOREMS.md
 work=$(mktemp -d)
 trap 'rm -rf "$work"' EXIT
 
@@ -88,9 +90,10 @@ find crates/*/src -name '*.rt' | sort | xargs awk '
 
 # ---- the table of section 6 beside them. Entry points are the operations of documents 01 and 02, the table test, and
 # whatever other languages link
-operations="table::test table_prepare::prepare hash::hash hash_chain::chain trace::build check_trace::check trace_read_off::read_off"
-operations="$operations trace_edit::edit hash_undo::unhash board::pack board::unpack board_short::pack_short"
-operations="$operations board_short::unpack_short board_to_short::to_short board_to_full::to_full clear_answer::clear"
+operations="table::test table_prepare::prepare hash::hash hash_chain::chain trace::build check_trace::check"
+operations="$operations trace_read_off::read_off trace_edit::edit hash_undo::unhash board::pack board::unpack"
+operations="$operations board_short::pack_short board_short::unpack_short board_to_short::to_short"
+operations="$operations board_to_full::to_full clear_answer::clear"
 awk -F '\t' -v operations=" $operations " -v named="$named" -v structs="$work/structs" '
     function bad(text) { print "tests/review.sh: " name ": " text }
     function apart(text) { text = " " text " "; gsub(/[() ]+/, " ", text); return text }
@@ -196,12 +199,12 @@ awk 'FNR == 1 { fence = 0 } /^```/ { fence = !fence; next }
         [ "$found" = yes ] || wrong "$where names $name, which is no file and no edit"
     done
 
-# ---- theorems: those of section 1, and where a row of a table ends in the file that has them
+# ---- theorems: the fields that section 1 names, and where a row of a table ends in the file that has them
 declared='^ *(pub )?(unfoldable |abbrev )?'
 awk 'function each(file, cell) { m = split(cell, word, "`"); for (i = 2; i <= m; i += 2) print file, word[i] }
-    /^\| (U?[0-9]+|TurnedBack|Program) \| .* \| .* \| / {
+    /^\| (U?[0-9]+(, U[0-9]+)*|TurnedBack|Program|Stored) \| .* \| .* \| / {
         split($0, part, / \| /)
-        stated = part[1]; sub(/^\| /, "", stated)
+        stated = part[1]; sub(/^\| /, "", stated); sub(/,.*/, "", stated)
         sub(/^U/, "Request", stated); sub(/^[0-9]/, "Demand&", stated)
         each("crates/demands/specs/" stated ".antt", part[3])
     }
@@ -209,7 +212,7 @@ awk 'function each(file, cell) { m = split(cell, word, "`"); for (i = 2; i <= m;
         n = split($0, part, / \| /)
         file = part[n]; gsub(/[`| ]/, "", file)
         each(file, part[n - 1])
-    }' README.md "$page" |
+    }' "$theorems" "$page" |
     while read -r file name; do
         [ ! -e "$file" ] || grep -qE "$declared$name :" "$file" || wrong "$file has no $name"
     done
@@ -232,9 +235,9 @@ for statement in $statements; do
         wrong "$proved does not take $statement from $stated"
     ! grep -nE "^ *(pub |abbrev |unfoldable |record |data )*$statement( |\$)" "$proved" ||
         wrong "$proved declares a $statement of its own"
-    for document in README.md "$page"; do
-        grep -qF "\`$theorem" "$document" || wrong "$document does not name $theorem"
-    done
+    grep -qF "| \`$theorem\` | \`$proved\` |" "$theorems" || wrong "$theorems has no row for $theorem of $proved"
+    row=$(echo "$statement" | sed 's/^Demand//; s/^Request/U/')
+    grep -qE "^\| $row(, U[0-9]+)* \| " "$page" || wrong "section 1 has no row for $statement"
 done
 
 # ---- section 4, a line for each edit: the edit, the fact and where it stands, then the theorems. What the prover said
@@ -246,8 +249,8 @@ awk '/^## / { on = /^## 4/ }
     }' "$page" |
     tr -d '`,|' >"$work/edits"
 [ -s "$work/edits" ] || wrong "section 4 has no edits"
-while read -r edit need name theorems; do
-    for theorem in $theorems; do
+while read -r edit need name ruling; do
+    for theorem in $ruling; do
         grep -rqE "$declared$theorem :" crates/*/specs crates/*/proofs ||
             wrong "section 4 names the theorem $theorem, which nothing declares"
     done
@@ -284,6 +287,14 @@ done <"$work/listed"
 grep -nF '.proofs.' crates/*/src/*.rt crates/*/specs/*.antt >>"$work/wrong" || :
 grep -nE '^[a-z ]*(_[^ ]*_|length|take|drop|getD|replicate|ones|eqb|leb|ltb|now) :' crates/*/specs/*.antt \
     >>"$work/wrong" || :
+
+# ---- the index of the decisions has each entry, and no other
+awk '/^## / { on = /^## Index/ } on && /^\| .* \| [0-9, ]+ \|$/ { sub(/ \|$/, ""); sub(/.*\| /, ""); print }' \
+    docs/DECISIONS.md | tr -d ' ' | tr ',' '\n' | sort -u >"$work/indexed"
+sed -n 's/^\([0-9][0-9]*\)\. \*\*.*/\1/p' docs/DECISIONS.md | sort >"$work/decided"
+[ -s "$work/decided" ] || wrong "docs/DECISIONS.md has no entry"
+diff "$work/indexed" "$work/decided" | sed -n 's|^< |tests/review.sh: the index has an entry that is not there: |p
+    s|^> |tests/review.sh: the index of docs/DECISIONS.md lacks |p' >>"$work/wrong"
 
 if [ -s "$work/wrong" ]; then
     cat "$work/wrong" >&2

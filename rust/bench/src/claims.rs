@@ -18,7 +18,7 @@ struct Row {
     whole: f64,
 }
 
-/// The fourth table of README.md, "Speed".
+/// The fourth table of docs/SPEED.md.
 pub struct Table(Vec<Row>);
 
 /// The first batch alone, and one past the middle, which is no power of two.

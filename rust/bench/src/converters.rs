@@ -26,7 +26,7 @@ impl Days {
     }
 }
 
-/// The sixth table of README.md, "Speed".
+/// The sixth table of docs/SPEED.md.
 pub fn measure(editions: &Editions) -> Table {
     let mut table = Table::new("unpacking and packing");
     table.measure(

@@ -161,7 +161,7 @@ struct Row {
     goal: Option<Goal>,
 }
 
-/// The fifth and the sixth table of README.md, "Speed".
+/// The fifth and the sixth table of docs/SPEED.md.
 pub struct Table {
     /// Whose times they go by.
     of: &'static str,

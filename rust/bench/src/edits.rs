@@ -21,7 +21,7 @@ struct Row {
     goal: Goal,
 }
 
-/// The second table of README.md, "Speed".
+/// The second table of docs/SPEED.md.
 pub struct Table(Vec<Row>);
 
 /// The last tap, after which nothing is built but its own hash, and tap 0, after

@@ -4,7 +4,7 @@
 //!     rt staticlib lemoncolumn && rt staticlib speed_probes && tools/staticlib-for x86-64-v3
 //!     cd rust && cargo run --release --offline -p bench
 //!
-//! prints the tables of README.md, "Speed". The last of the three archives, linked by
+//! prints the tables of docs/SPEED.md. The last of the three archives, linked by
 //! `newer`, is for the columns of the first table that have its name; without it, or on a
 //! processor of a lower level, they are empty.
 //!

@@ -258,7 +258,7 @@ struct Row {
     stack: usize,
 }
 
-/// The seventh table of README.md, "Speed".
+/// The seventh table of docs/SPEED.md.
 pub struct Table {
     rows: Vec<Row>,
     stack: Stack,

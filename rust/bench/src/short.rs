@@ -13,7 +13,7 @@ fn goal(days: &str) -> Option<Goal> {
     (days != MIX).then_some(GOAL)
 }
 
-/// The fifth table of README.md, "Speed".
+/// The fifth table of docs/SPEED.md.
 pub fn measure(editions: &Editions) -> Table {
     let mut table = Table::new("the full edition's");
     table.measure(

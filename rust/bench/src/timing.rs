@@ -256,7 +256,7 @@ pub fn nanoseconds(time: f64) -> String {
     spaced
 }
 
-/// The first table of README.md, "Speed".
+/// The first table of docs/SPEED.md.
 pub struct Table(Vec<Row>);
 
 impl Table {

@@ -19,7 +19,7 @@ struct Row {
     yardstick: f64,
 }
 
-/// The third table of README.md, "Speed".
+/// The third table of docs/SPEED.md.
 pub struct Table(Vec<Row>);
 
 /// A state that has a pair, and one that has none, which only the end shows.
