@@ -3,10 +3,10 @@
 -- Assumes nothing.
 use mathlib.Core.Path.{_≡_, sym, ap, _∙_}
 use mathlib.Core.List.{List}
-use Prim.Native.Nat.{ℕ, _+_, _*_, _^_, _<_, _≤_}
+use Prim.Native.Nat.{ℕ, _+_, _*_, _^_, _≤_}
 use native.Mathlib.Omega.{arith}
 use lib.ListN.{length}
-use Rattle.field.specs.Field.{P, Canonical}
+use Rattle.field.specs.Field.{P}
 use Rattle.field_words.specs.Words.{AllCanonical}
 use Rattle.numbers.specs.Numbers.{IsPermittedTo, tapWordBatches}
 use Rattle.refusals.specs.Refusals.{digest, digestWords}
@@ -14,9 +14,8 @@ use Rattle.refusals.specs.declared.Digest.{Digest}
 use Rattle.refusals.specs.declared.Refusal.the-variants.{WrongValue}
 use Rattle.refusals.specs.declared.Answer.the-variants as answer
 use Rattle.refusals.specs.declared.DigestAnswer.the-variants.{Accepted, Refused}
-use Rattle.board_words.specs.Words.{payloadOf, wordAt, AllBytes}
+use Rattle.board_words.specs.Words.{AllBytes}
 use Rattle.board_words.specs.Elements.{elementAt}
-use Rattle.board_words.proofs.Laws.{no-word}
 use Rattle.board_words.proofs.Tests.{too-large, first-refused}
 use Rattle.board.specs.Board.{mostFileBatches, fileOf, packTest, packed, batchesIn, claimIn, tapsIn, unpackAnswer}
 use Rattle.board.specs.Board.{IsBoard, ReadTo}
@@ -89,15 +88,6 @@ accepted-board file size d e =
     let h = unpack-accepted file size (r .0) in
     (h .0, h .1, claim-is file d (r .1))
 
-pub board-accepted : (file : List ℕ) (k : ℕ) → IsBoard file k
-    → unpackAnswer file (12 * k + 4) ≡ Accepted (digest (claimIn file))
-board-accepted file k h = unpack-returns file (12 * k + 4) (unpack-complete file k h)
-
--- so every element of an accepted file is below p
-pub accepted-canonical : (file : List ℕ) (size : ℕ) (d : Digest) → unpackAnswer file size ≡ Accepted d → (i : ℕ)
-    → i < 12 * batchesIn file + 8 → Canonical (elementAt file (1 + 3 * i))
-accepted-canonical file size d e i h = accepted-board file size d e .0 .elements i h .value
-
 -- an element from p on is refused at its first word, however large the number that its payloads spell
 pub no-wrap : (file : List ℕ) (size i : ℕ) → ReadTo file size i → P ≤ elementAt file (1 + 3 * i)
     → unpackAnswer file size ≡ Refused (WrongValue (1 + 3 * i))
@@ -106,10 +96,3 @@ no-wrap file size i h large =
     (unpack-elements file size (h .four) (h .count) (h .bytes) (h .room)
     ∙ first-refused file 1 (12 * batchesIn file + 8) i (WrongValue (1 + 3 * i)) (h .within) (h .before)
     (too-large file (1 + 3 * i) (h .high) (h .middle) (h .low) large))
-
--- in particular one of 2^64 or more, which a first payload above 15 makes
-pub no-wrap-64 : (file : List ℕ) (size i : ℕ) → ReadTo file size i → 15 < payloadOf (wordAt file (1 + 3 * i))
-    → (2 ^ 64 ≤ elementAt file (1 + 3 * i)) × (unpackAnswer file size ≡ Refused (WrongValue (1 + 3 * i)))
-no-wrap-64 file size i h above =
-    let large = no-word file (1 + 3 * i) above in
-    (large, no-wrap file size i h (omega (arith, large)))

@@ -14,7 +14,7 @@ use lib.ListN.{length, length-append, take, drop, take-append-drop}
 use lib.Seq.{sets, take-length}
 use Rattle.lists.specs.Lists.{choose, cell, each, sum}
 use Rattle.lists.proofs.Each.{each-append, each-next}
-use Rattle.lists.proofs.Sum.{sum-zero, sum-suc, all-0}
+use Rattle.lists.proofs.Sum.{sum-zero, sum-suc, all-0, each-0}
 use Rattle.field.specs.Field.{P}
 use Rattle.field_words.specs.Words.{canonicalWords}
 use Rattle.field_words.proofs.Laws.{test-good, good-test}
@@ -193,17 +193,6 @@ bad-canonical x e = go (decLe P x)
 canonical-bad : (x : ℕ) → x < P → isBad x ≡ 0
 canonical-bad x h = rw (lt-leb P x h)
 
-each-0 : (f : ℕ → ℕ) (n : ℕ) → sum n f ≡ 0 → (i : ℕ) → i < n → f i ≡ 0
-each-0 f zero e i h = absurd (omega arith)
-each-0 f (suc n) e i h = go (λ z l. each-0 f n z i l) (ℕ-discrete i n)
-  where
-    parts : sum n f + f n ≡ 0
-    parts = sym (sum-suc n f) ∙ e
-
-    go : (sum n f ≡ 0 → i < n → f i ≡ 0) → Dec (i ≡ n) → f i ≡ 0
-    go before (yes q) = ap f q ∙ omega (arith, parts)
-    go before (no q) = before (omega (arith, parts)) (omega arith)
-
 pub none-bad : (xs : List ℕ) → eqb (badCount xs) 0 ≡ canonicalWords xs
 unfolding badCount
 none-bad xs = go (ℕ-discrete (badCount xs) 0)
@@ -220,7 +209,7 @@ none-bad xs = go (ℕ-discrete (badCount xs) 0)
 
     go : Dec (badCount xs ≡ 0) → eqb (badCount xs) 0 ≡ canonicalWords xs
     go (yes z) =
-        let good = test-good xs (λ n h. bad-canonical (cell xs n) (each-0 f (length xs) z n h)) in
+        let good = test-good xs (λ n h. bad-canonical (cell xs n) (each-0 (length xs) f z n h)) in
         eq-eqb (badCount xs) 0 z ∙ sym good
     go (no n) = ne-eqb (badCount xs) 0 n ∙ sym (some n (canonicalWords xs) refl)
 

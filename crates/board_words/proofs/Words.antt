@@ -11,18 +11,9 @@ use lib.Pow.{shr-shr}
 use lib.Seq.{ext-getD}
 use Rattle.lists.specs.Lists.{cell}
 use Rattle.lists.proofs.Each.{length-each, cell-each}
-use Rattle.board_words.specs.Words.{joined, kindOf, payloadOf, wordBytes, wordAt, AllBytes, bytesOf}
+use Rattle.board_words.specs.Words.{wordBytes, wordAt, AllBytes, bytesOf}
 
 -- ---- kind and payload
-pub kind-joined : (kind payload : ℕ) → payload < 2 ^ 30 → kindOf (joined kind payload) ≡ kind
-kind-joined kind payload h = omega arith
-
-pub payload-joined : (kind payload : ℕ) → payload < 2 ^ 30 → payloadOf (joined kind payload) ≡ payload
-payload-joined kind payload h = omega arith
-
-pub joined-split : (w : ℕ) → joined (kindOf w) (payloadOf w) ≡ w
-joined-split w = omega arith
-
 -- ---- bytes
 four-bytes : (w : ℕ) → length (wordBytes w) ≡ 4
 four-bytes w = refl

@@ -26,6 +26,7 @@ use Rattle.refusals.specs.declared.Answer.{Answer}
 use Rattle.refusals.specs.declared.Answer.the-variants.{Accepted}
 use Rattle.refusals.specs.Answers.{unless, after}
 use Rattle.refusals.proofs.Laws.{AnswerEnds, unless-ends, after-ends, refusal-ends}
+use Rattle.table.specs.Table.{rawWords, tableWords}
 use Rattle.table.specs.Table.{tableTest, rawTest, Prepares, accepts, no-inverse, refuses}
 use Rattle.table.proofs.Theorems as table
 use Rattle.hash.specs.Answers.{hashTest}
@@ -58,27 +59,27 @@ use Rattle.call_answers.specs.Calls.{hashCallTest, chainCallTest, buildC
 use Rattle.call_answers.specs.Calls.{unpackCallTest, unpackShortCallTest}
 
 -- ---- Prepare: 1, 8, 2, 3
-pub prepare-ends : (Q : Refusal → Type 0) (raw old : List ℕ) → ((length raw ≡ 396 → ⊥) → Q TableLength)
-    → ((length old ≡ 540 → ⊥) → Q DestinationLength) → ((i : ℕ) → i < 396 → Q (TableWord i)) → Q NoInverse
+pub prepare-ends : (Q : Refusal → Type 0) (raw old : List ℕ) → ((length raw ≡ rawWords → ⊥) → Q TableLength)
+    → ((length old ≡ tableWords → ⊥) → Q DestinationLength) → ((i : ℕ) → i < rawWords → Q (TableWord i)) → Q NoInverse
     → (new : List ℕ) (a : Answer) → Prepares raw old a new → AnswerEnds Q a
 unfolding rawTest
 prepare-ends Q raw old q1 q8 q2 q3 new a (accepts n e h) = tt
 prepare-ends Q raw old q1 q8 q2 q3 new a (no-inverse e k) = q3
 prepare-ends Q raw old q1 q8 q2 q3 new a (refuses r e) = subst (AnswerEnds Q) e raw-ends
   where
-    bad : eqb (length raw) 396 ≡ true → eqb (firstBad raw) 396 ≡ false → firstBad raw < 396
-    bad e g = omega (arith, within raw, eqb-true (length raw) 396 e, eqb-false (firstBad raw) 396 g)
+    bad : eqb (length raw) rawWords ≡ true → eqb (firstBad raw) rawWords ≡ false → firstBad raw < rawWords
+    bad e g = omega (arith, within raw, eqb-true (length raw) rawWords e, eqb-false (firstBad raw) rawWords g)
 
     raw-ends : AnswerEnds Q (rawTest raw (length old))
     raw-ends =
-        unless-ends Q (eqb (length raw) 396) TableLength _ (λ e. q1 (eqb-false _ _ e)) λ e.
-        unless-ends Q (eqb (length old) 540) DestinationLength _ (λ f. q8 (eqb-false _ _ f)) λ f.
-        unless-ends Q (eqb (firstBad raw) 396) (TableWord (firstBad raw)) _ (λ g. q2 (firstBad raw) (bad e g)) λ g. tt
+        unless-ends Q (eqb (length raw) rawWords) TableLength _ (λ e. q1 (eqb-false _ _ e)) λ e.
+        unless-ends Q (eqb (length old) tableWords) DestinationLength _ (λ f. q8 (eqb-false _ _ f)) λ f.
+        unless-ends Q (eqb (firstBad raw) rawWords) (TableWord (firstBad raw)) _ (λ g. q2 (firstBad raw) (bad e g)) λ g. tt
 
 -- ---- the table test: 1, 2, 4
 pub record TableCauses (Q : Refusal → Type 0) : Type 0 where
   pub by-length : Q TableLength
-  pub by-word : (i : ℕ) → i < 540 → Q (TableWord i)
+  pub by-word : (i : ℕ) → i < tableWords → Q (TableWord i)
   pub by-cell : (c : ℕ) → c < 144 → Q (WrongInverse c)
 
 module _ (Q : Refusal → Type 0) (causes : TableCauses Q) where

@@ -7,14 +7,10 @@ use native.Mathlib.Nat.{mod-lt}
 use native.Mathlib.Omega.{arith}
 use lib.ListN.{length}
 use Rattle.lists.specs.Lists.{cell}
-use Rattle.lists.proofs.Tab.{length-tab, cell-tab}
+use Rattle.lists.proofs.Tab.{cell-tab}
 use Rattle.field.specs.Field.{Canonical, sub}
 use Rattle.field_words.specs.Words.{CanonicalTo}
 use Rattle.check_constraints.specs.Constraints.{minus}
-
-pub length-minus : (s k : List ℕ) → length (minus s k) ≡ 12
-unfolding minus
-length-minus s k = length-tab 12 (λ j. sub (cell s j) (cell k j))
 
 pub minus-canonical : (s k : List ℕ) {l : List ℕ} → l ≡ minus s k → CanonicalTo 12 l
 unfolding minus

@@ -11,6 +11,7 @@ use lib.Dec.{eqb, lit<}
 use lib.ListN.{length}
 use Rattle.lists.specs.Lists.{choose}
 use Rattle.lists.proofs.Tab.{length-tab}
+use Rattle.table.specs.Table.{rawWords}
 use Rattle.refusals.specs.Refusals.{told}
 use Rattle.refusals.specs.declared.Refusal.{Refusal}
 use Rattle.refusals.specs.declared.Refusal.the-variants.{TableLength, TableWord, NoInverse, Constraint, FileLength}
@@ -42,12 +43,12 @@ abbrev eleven : ℕ → ℕ → Refusal
 eleven k j = Constraint (record { 0 = 32 * k - 1 }) (49 + j) (372 * k - 3 + j)
 
 module _ (input : List ℕ) (Q : Refusal → Type 0) (q1 : length input < 3168 → Q TableLength)
-    (q2 : (i : ℕ) → i < 396 → Q (TableWord i)) (q3 : Q NoInverse) (q12 : Q FileLength)
+    (q2 : (i : ℕ) → i < rawWords → Q (TableWord i)) (q3 : Q NoInverse) (q12 : Q FileLength)
     (q13 : (i : ℕ) → i < 2 ^ 22 → Q (WrongKind i)) (q14 : (i : ℕ) → i < 2 ^ 22 → Q (WrongValue i))
     (q11 : (k j : ℕ) → IsUnlike input k j → Q (eleven k j)) where
-  raw-length : length (rawIn input) ≡ 396
+  raw-length : length (rawIn input) ≡ rawWords
   unfolding rawIn
-  raw-length = length-tab 396 (rawWord input)
+  raw-length = length-tab rawWords (rawWord input)
 
   few : (i : ℕ) → i < 36 * batchesIn (fileIn input) + 25 → i < 2 ^ 22
   unfolding batchesIn

@@ -16,6 +16,7 @@ use Rattle.field.specs.Field.{halving, power, root}
 use Rattle.refusals.specs.declared.Refusal.the-variants.{Constraint}
 use Rattle.refusals.specs.declared.Answer.the-variants as answer
 use Rattle.matrix.specs.Matrix.{timesColumn, times}
+use Rattle.table.specs.Table.{rawWords}
 use Rattle.table.specs.Table.{matrixOf, constant, initialConstant, firstStepConstant, secondStepConstant}
 use Rattle.hash.specs.Hash.{roots, cubes, plus, mix, firstStep, secondStep, stateAt, finalState, input, hash, tap}
 use Rattle.hash.specs.Hash.{outputAt, chain}
@@ -53,7 +54,7 @@ raw-bytes raw file j h =
 module _ (file : List ℕ) where
   raw-is : rawIn (withZ file) ≡ rawZ
   unfolding rawIn withZ tab shifted rawZ
-  raw-is = tab-ext 396 _ (cell rawZ) (raw-bytes rawZ file) ∙ tab-cell 396 rawZ refl
+  raw-is = tab-ext rawWords _ (cell rawZ) (raw-bytes rawZ file) ∙ tab-cell rawWords rawZ refl
 
   table-size : length (each rawBytes rawZ) ≡ 3168
   unfolding tab shifted rawZ

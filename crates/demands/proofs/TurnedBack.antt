@@ -35,6 +35,7 @@ use Rattle.refusals.proofs.Laws.{not-accepted, refused-same, pair-accepted, pai
 use Rattle.refusals.proofs.Causes.{decided, one, one-index, tests-after, test-before}
 use Rattle.matrix.specs.Matrix.{Inverse, Kernel, entry}
 use Rattle.matrix.proofs.Dichotomy.{Invertible, dichotomy, not-both}
+use Rattle.table.specs.Table.{rawWords, tableWords}
 use Rattle.table.specs.Table.{firstUnlike, IsFirstUnlike, rawMatrix, rawTest, tableTest, Prepares, accepts, no-inverse}
 use Rattle.table.specs.Table.{refuses}
 use Rattle.table.proofs.Theorems.{test-sound, first-cell, only-first-cell}
@@ -122,9 +123,9 @@ trace-length t =
 table : (T : List ℕ) → DecidedBy (tableCauses T) (tableTest T)
 unfolding tableTest
 table T =
-    test-before _ _ (eqb (length T) 540) TableLength _ (equal TableLength (length T) 540) λ e.
-    test-before _ _ (eqb (firstBad T) 540) (TableWord (firstBad T)) _
-    (words-to TableWord T 540 (eqb-true (length T) 540 e)) λ f.
+    test-before _ _ (eqb (length T) tableWords) TableLength _ (equal TableLength (length T) tableWords) λ e.
+    test-before _ _ (eqb (firstBad T) tableWords) (TableWord (firstBad T)) _
+    (words-to TableWord T tableWords (eqb-true (length T) tableWords e)) λ f.
     one-index (eqb (firstUnlike T) 144) WrongInverse (firstUnlike T) (IsFirstUnlike T)
     (λ g. first-cell T (eqb-false (firstUnlike T) 144 g))
     (λ g c h. omega (arith, only-first-cell T c h, h .within, eqb-true (firstUnlike T) 144 g)) (only-first-cell T)
@@ -137,9 +138,9 @@ tested T next rest = tests-after (tableCauses T) next (tableTest T) rest (table 
 raw-table : (raw : List ℕ) (size : ℕ) → DecidedBy (rawCauses raw size) (rawTest raw size)
 unfolding rawTest
 raw-table raw size =
-    test-before _ _ (eqb (length raw) 396) TableLength _ (equal TableLength (length raw) 396) λ e.
-    test-before _ _ (eqb size 540) DestinationLength _ (equal DestinationLength size 540) λ f.
-    words-to TableWord raw 396 (eqb-true (length raw) 396 e)
+    test-before _ _ (eqb (length raw) rawWords) TableLength _ (equal TableLength (length raw) rawWords) λ e.
+    test-before _ _ (eqb size tableWords) DestinationLength _ (equal DestinationLength size tableWords) λ f.
+    words-to TableWord raw rawWords (eqb-true (length raw) rawWords e)
 
 prepare : (raw old new : List ℕ) (a : Answer) → Prepares raw old a new → DecidedBy (prepareCauses raw (length old)) a
 prepare raw old new a h = go a new h

@@ -28,6 +28,15 @@ sum-0 (suc n) = omega (arith, sum-0 n)
 pub all-0 : (n : ℕ) (f : ℕ → ℕ) → ((i : ℕ) → i < n → f i ≡ 0) → sum n f ≡ 0
 all-0 n f h = sum-ext n f (λ i. 0) h ∙ sum-0 n
 
+pub each-0 : (n : ℕ) (f : ℕ → ℕ) → sum n f ≡ 0 → (i : ℕ) → i < n → f i ≡ 0
+unfolding sum
+each-0 zero f e i h = absurd (omega arith)
+each-0 (suc n) f e i h = go (λ z l. each-0 n f z i l) (ℕ-discrete i n)
+  where
+    go : (sum n f ≡ 0 → i < n → f i ≡ 0) → Dec (i ≡ n) → f i ≡ 0
+    go before (yes q) = ap f q ∙ omega arith
+    go before (no q) = before (omega arith) (omega arith)
+
 pub sum-add : (n : ℕ) (f g : ℕ → ℕ) → sum n (λ i. f i + g i) ≡ sum n f + sum n g
 unfolding sum
 sum-add zero f g = refl
@@ -48,12 +57,6 @@ unfolding sum
 sum-swap zero k f = sym (sum-0 k)
 sum-swap (suc n) k f =
     ap (λ y. y + sum k (λ j. f n j)) (sum-swap n k f) ∙ sym (sum-add k (λ j. sum n (λ i. f i j)) (λ j. f n j))
-
--- a bound on each term bounds the sum
-pub sum-le : (n b : ℕ) (f : ℕ → ℕ) → ((i : ℕ) → i < n → f i ≤ b) → sum n f ≤ n * b
-unfolding sum
-sum-le zero b f h = omega arith
-sum-le (suc n) b f h = omega (arith, sum-le n b f (λ i l. h i (omega arith)), h n (omega arith))
 
 -- the sum over n + k splits
 pub sum-split : (n k : ℕ) (f : ℕ → ℕ) → sum (n + k) f ≡ sum n f + sum k (λ i. f (n + i))

@@ -6,7 +6,7 @@ use Prim.Native.Nat.{ℕ, zero, suc, _+_, _-_, _<_, _≤_}
 use native.Mathlib.Nat.{zero-add, suc-add, add-zero, le-of-suc-le-suc}
 use native.Mathlib.Numerals.{add-one}
 use native.Mathlib.Omega.{arith}
-use lib.ListN.{length, getD, take, drop, set, take-append-drop, length-append}
+use lib.ListN.{length, getD, take, drop, set, length-append}
 use lib.ListN.{length-drop, length-set, drop-of-length-le, List·getD-append}
 use lib.Seq.{drop-cons, append-snoc, set-append-seam, getD-append-add, ext-getD, getD-drop, getD-take, length-take-le}
 use Rattle.lists.specs.Lists.{tab, cell}
@@ -140,14 +140,6 @@ module _ {n : ℕ} {f : ℕ → ℕ} {s : List ℕ} {j : ℕ} {l : List ℕ} (h 
   fills-all b =
       let e : j ≡ n = omega (arith, h .within) in
       h .so-far ∙ ap (λ k. filled k f s) e ∙ filled-whole n f s (omega (arith, left, h .within))
-
--- a list whose first cells are right already
-pub filled-same : (n : ℕ) (f : ℕ → ℕ) (s : List ℕ) → n ≤ length s → ((i : ℕ) → i < n → cell s i ≡ f i)
-    → s ≡ filled n f s
-unfolding filled
-filled-same n f s h e =
-    sym (take-append-drop n s)
-    ∙ ap (λ l. l ++ drop n s) (tab-unique n (take n s) f (length-take-le n s h) (λ i l. getD-take n s i 0 l ∙ e i l))
 
 -- ---- a part of a list
 pub length-part : (l : List ℕ) (base size : ℕ) → base + size ≤ length l → length (take size (drop base l)) ≡ size

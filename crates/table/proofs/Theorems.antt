@@ -1,6 +1,6 @@
 -- What the table test promises (document 01, "The table"): each answer says what is wrong, and where.
 -- Assumes nothing.
-use Prim.Native.Nat.{ℕ, _+_, _*_, _/_, _%_, _≤_, _<_}
+use Prim.Native.Nat.{ℕ, _+_, _*_, _/_, _%_, _<_}
 use mathlib.Core.Path.{_≡_, refl, sym, ap₂, _∙_, subst}
 use mathlib.Core.Bool.{false}
 use mathlib.Core.List.{List}
@@ -14,11 +14,10 @@ use Rattle.field.specs.Field.{Canonical}
 use Rattle.field_words.specs.Words.{AllCanonical, firstBad, IsFirstBad}
 use Rattle.field_words.proofs.Laws.{within, first-bad, all-good, good-all}
 use Rattle.matrix.specs.Matrix.{product, identity, Inverse, entry, times}
-use Rattle.matrix.proofs.Dichotomy.{other-side}
 use Rattle.matrix.proofs.States.{times-undo, times-redo}
 use Rattle.matrix_ready.specs.MixingHelpers.{readyWords}
 use Rattle.refusals.specs.declared.Refusal.{Refusal}
-use Rattle.refusals.specs.declared.Refusal.the-variants.{TableLength, TableWord, NoInverse, WrongInverse}
+use Rattle.refusals.specs.declared.Refusal.the-variants.{TableLength, TableWord, WrongInverse}
 use Rattle.refusals.specs.declared.Answer.{Answer}
 use Rattle.refusals.specs.declared.Answer.the-variants.{Accepted, Refused}
 use Rattle.table.specs.Table.{tableWords, matrixOf, inverseOf, initialConstant}
@@ -128,16 +127,6 @@ test-sound t = go (tableTest t) (test-answers t)
     go a (word-refused i s h) e = absurd (not-refused _ e)
     go a (cell-refused c s w h) e = absurd (not-refused _ e)
 
--- only Prepare returns 3
-pub test-never-3 : (t : List ℕ) → tableTest t ≡ Refused NoInverse → ⊥
-test-never-3 t = go (tableTest t) (test-answers t)
-  where
-    go : (a : Answer) → Answers t a → a ≡ Refused NoInverse → ⊥
-    go a (accepted h) e = let q : _≡_ {A = ℕ} 0 1 = cc in omega arith
-    go a (length-refused h) e = let q : _≡_ {A = ℕ} 0 1 = cc in omega arith
-    go a (word-refused i s h) e = let q : _≡_ {A = ℕ} 0 1 = cc in omega arith
-    go a (cell-refused c s w h) e = let q : _≡_ {A = ℕ} 0 1 = cc in omega arith
-
 -- ---- what an accepted table holds
 module _ (t : List ℕ) (h : IsTable t) where
   pub inverse-length : length (inverseOf t) ≡ 144
@@ -170,10 +159,6 @@ module _ (t : List ℕ) (h : IsTable t) where
   pub second-step-canonical : (r : ℕ) → r < 10 → AllCanonical (secondStepConstant t r)
   unfolding secondStepConstant
   second-step-canonical r l = parts.constant-canonical t (h .size) (h .canonical) (2 * r + 2) (omega arith)
-
-  -- the stored inverse times M is the identity too, which the test does not compute
-  pub inverse-left : Inverse 12 (entry (inverseOf t)) (entry (matrixOf t))
-  inverse-left = other-side 12 (entry (matrixOf t)) (entry (inverseOf t)) (h .inverse)
 
   pub mix-undo : (s : List ℕ) → length s ≡ 12 → ((i : ℕ) → i < 12 → Canonical (cell s i))
       → times (matrixOf t) (times (inverseOf t) s) ≡ s

@@ -12,7 +12,7 @@ use lib.Dec.{eqb}
 use lib.ListN.{length}
 use Rattle.lists.specs.Lists.{choose}
 use Rattle.field_words.specs.Words.{AllCanonical, firstBad}
-use Rattle.field_words.proofs.Laws.{all-good, good-all}
+use Rattle.field_words.proofs.Laws.{good-all}
 use Rattle.matrix.specs.Matrix.{Inverse, Kernel, entry}
 use Rattle.matrix.proofs.Dichotomy.{Invertible, dichotomy, not-both}
 use Rattle.matrix_inverse.proofs.Inversion.{inverse-only, listed, listed-inverse}
@@ -72,9 +72,6 @@ raw-sound raw room e = with-size (ℕ-discrete (length raw) rawWords)
     with-size : Dec (length raw ≡ rawWords) → RawTable raw room
     with-size (yes s) = with-room s (ℕ-discrete room tableWords)
     with-size (no s) = absurd (not-refused _ (sym (prep.wrong-length raw room s) ∙ e))
-
-pub raw-complete : (raw : List ℕ) (room : ℕ) → RawTable raw room → rawTest raw room ≡ Accepted
-raw-complete raw room h = prep.raw-accepted raw room (h .size) (h .room-fits) (all-good raw (h .canonical) ∙ h .size)
 
 prepared-table : (raw n : List ℕ) (room : ℕ) → RawTable raw room → RawInverse raw n → IsTable (prepared raw n)
 prepared-table raw n room r h =
