@@ -1,6 +1,6 @@
 -- Request 4: the count in refusal 11 is the failing test's place. From what is known of the lent words where an order
 -- of tests ends with 11 (crate `call_answers`, proofs/Endings.antt), from the walk and the places of the tests (crate
--- `constraints`, proofs/WalkLaws.antt and TestPlace.antt), and that a word loses nothing of its answer.
+-- `check_constraints`, proofs/WalkLaws.antt and TestPlace.antt), and that a word loses nothing of its answer.
 -- Assumes nothing.
 use mathlib.Core.Path.{_≡_, refl, sym, ap, _∙_, subst, subst₃}
 use mathlib.Core.Bool.{false}
