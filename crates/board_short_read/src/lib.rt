@@ -61,7 +61,7 @@ fn test(file: &[u8], index: usize) -> Answer
 }
 
 // An element that was read, and the word after it.
-#[derive(Drop)]
+#[derive(Clone, Copy)]
 pub struct Element {
     pub value: u64,
     pub next: usize,

@@ -45,7 +45,7 @@ fn not_canonical(word: u64) -> u64
 }
 
 // What is measured of elements: the bytes that they need, and how many are not canonical.
-#[derive(Drop)]
+#[derive(Clone, Copy)]
 pub struct Measured {
     pub bytes: usize,
     pub bad: u64,

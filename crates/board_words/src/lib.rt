@@ -7,7 +7,7 @@ ghost use Rattle.board_words.specs.Elements.{element_words, words_of};
 ghost use Rattle.board_words.specs.ElementHelpers.{upper_words};
 
 // A word of the file.
-#[derive(Drop)]
+#[derive(Clone, Copy)]
 pub struct Word(pub u32);
 
 impl Word {

@@ -98,7 +98,7 @@ pub fn applies(k: usize, c: usize, row: RowNumber, constraint: usize) -> bool
 
 // The lowest constraint that can apply at a row, and one more than the highest, so that a row of twelve tests takes
 // twelve steps.
-#[derive(Drop)]
+#[derive(Clone, Copy)]
 pub struct Span(pub usize, pub usize);
 
 pub fn span_of(row: RowNumber) -> Span

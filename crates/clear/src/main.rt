@@ -7,7 +7,7 @@ ghost use Rattle.clear.specs.Reading.{ended_by, Within};
 
 use libc::{STDERR_FILENO, STDIN_FILENO, STDOUT_FILENO};
 
-#[derive(Drop)]
+#[derive(Clone, Copy)]
 enum Input {
     // So many bytes, at the start of the buffer: the input ended there, or the buffer is full.
     Whole(usize),

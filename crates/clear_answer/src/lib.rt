@@ -12,7 +12,7 @@ use numbers::{BATCH_TAP_WORDS, BATCH_WORDS, TAP_WORDS};
 use refusals::{Answer, Digest, DigestAnswer, Refusal, TestsAnswer};
 
 // The program's answer.
-#[derive(Drop)]
+#[derive(Clone, Copy)]
 pub enum Outcome {
     Accepted { batches: usize, tests: usize },
     Refused(Refusal),

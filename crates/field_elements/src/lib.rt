@@ -6,7 +6,7 @@ ghost use Rattle.field.specs.Field.{P, Canonical, add, sub, neg, mul, square, po
 ghost use Rattle.field.specs.Gathering.{appended};
 
 // An element, by its canonical word.
-#[derive(Drop)]
+#[derive(Clone, Copy)]
 pub struct Fp(pub u64);
 
 impl Fp {

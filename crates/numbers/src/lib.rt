@@ -24,27 +24,27 @@ pub const PAIR_WORDS: usize = 2 * TAP_WORDS;
 pub const BATCH_TAP_WORDS: usize = 3 * TAP_WORDS;
 
 // A batch of three hashes, counted from 0.
-#[derive(Drop)]
+#[derive(Clone, Copy)]
 pub struct BatchNumber(pub usize);
 
 // A row of the whole trace, counted from 0.
-#[derive(Drop)]
+#[derive(Clone, Copy)]
 pub struct RowNumber(pub usize);
 
 // A row of a batch, counted from 0.
-#[derive(Drop)]
+#[derive(Clone, Copy)]
 pub struct BatchRow(pub usize);
 
 // A hash of the chain, counted from 0.
-#[derive(Drop)]
+#[derive(Clone, Copy)]
 pub struct HashNumber(pub usize);
 
 // A tap of the list, counted from 0.
-#[derive(Drop)]
+#[derive(Clone, Copy)]
 pub struct TapNumber(pub usize);
 
 // How many batches a length stands for.
-#[derive(Drop)]
+#[derive(Clone, Copy)]
 pub enum BatchCount {
     Permitted(usize),
     Refused,

@@ -7,7 +7,7 @@ use numbers::{RowNumber, WIDTH};
 
 // A cause, with what is returned with its number. `told` lists number and values for each. `tests` of `Constraint` is
 // the failing test's place in their order (document 02, U4).
-#[derive(Drop)]
+#[derive(Clone, Copy)]
 pub enum Refusal {
     TableLength,
     TableWord(usize),
@@ -36,7 +36,7 @@ pub enum Refusal {
 
 // What is told of a refusal: its number, and how many values come with it: none, an index (`value`), or row, constraint
 // and tests (`value`).
-#[derive(Drop)]
+#[derive(Clone, Copy)]
 pub struct Particulars {
     pub number: usize,
     pub values: usize,
@@ -108,7 +108,7 @@ pub fn told(refusal: Refusal) -> Particulars
 }
 
 // The answer of the tests that an operation begins with, and of Prepare, the writers of board files and the converters.
-#[derive(Drop)]
+#[derive(Clone, Copy)]
 pub enum Answer {
     Accepted,
     Refused(Refusal),
@@ -128,18 +128,18 @@ impl Answer {
 }
 
 // Four words: an output of the chain, a claim, or a tap.
-#[derive(Drop)]
+#[derive(Clone, Copy)]
 pub struct Digest(pub u64, pub u64, pub u64, pub u64);
 
 // The answer of Chain, Build, Edit, and of the readers of board files: four words.
-#[derive(Drop)]
+#[derive(Clone, Copy)]
 pub enum DigestAnswer {
     Accepted(Digest),
     Refused(Refusal),
 }
 
 // Twelve words: the cells of a state.
-#[derive(Drop)]
+#[derive(Clone, Copy)]
 pub struct State(
     pub u64,
     pub u64,
@@ -176,14 +176,14 @@ impl State {
 }
 
 // The answer of Hash: the final state.
-#[derive(Drop)]
+#[derive(Clone, Copy)]
 pub enum StateAnswer {
     Accepted(State),
     Refused(Refusal),
 }
 
 // Eight words: the two taps of a hash.
-#[derive(Drop)]
+#[derive(Clone, Copy)]
 pub struct Pair {
     pub first: Digest,
     pub second: Digest,
@@ -202,14 +202,14 @@ impl Pair {
 }
 
 // The answer of Unhash: the two taps.
-#[derive(Drop)]
+#[derive(Clone, Copy)]
 pub enum PairAnswer {
     Accepted(Pair),
     Refused(Refusal),
 }
 
 // The answer of Check and Read-off: the number of tests walked.
-#[derive(Drop)]
+#[derive(Clone, Copy)]
 pub enum TestsAnswer {
     Accepted(usize),
     Refused(Refusal),

@@ -8,7 +8,7 @@ ghost use Rattle.trace_rows.specs.RowHelpers.{LentRow};
 use numbers::{BatchNumber, BatchRow, RowNumber, WIDTH};
 
 // The lent trace, at one of its batches.
-#[derive(Drop)]
+#[derive(Clone, Copy)]
 pub struct Batch<'a> {
     pub trace: &'a [u64],
     pub batch: BatchNumber,
