@@ -1,5 +1,7 @@
 // Pack and Unpack (document 01, "The board file"). Neither hashes.
 // The claim's four elements begin at words 1, 4, 7 and 10, the taps' at word 13.
+#![tactic(auto)]
+
 ghost use Rattle.std.specs.Prelude.{◌≡◌, ◌+◌, ◌*◌, ◌≤◌, length};
 ghost use Rattle.numbers.specs.Numbers.{tap_words};
 ghost use Rattle.board.specs.Board.{most_file_batches, count_word, file_of, file_size, pack_test, pack_leaves};

@@ -1,4 +1,6 @@
 // Of which edition a file is, which a converter tests first (document 02, U8).
+#![tactic(auto)]
+
 ghost use Rattle.std.specs.Prelude.{◌≡◌};
 ghost use Rattle.board_edition.specs.Edition.{edition_test};
 

@@ -1,5 +1,7 @@
 // The board file's elements, as they are read (document 01, "The board file"). An index counts words of the file, from
 // word 0.
+#![tactic(auto)]
+
 ghost use Rattle.std.specs.Prelude.{◌≡◌, ℕ, ◌+◌, ◌*◌, ◌≤◌, ◌<◌, length};
 ghost use Rattle.field.specs.Field.{P};
 ghost use Rattle.board_words.specs.Words.{payload_of};

@@ -1,4 +1,6 @@
 // The short edition's writer and reader (document 02, U7 and U9). Neither hashes.
+#![tactic(auto)]
+
 ghost use Rattle.std.specs.Prelude.{◌≡◌, ◌≤◌, length};
 ghost use Rattle.numbers.specs.Numbers.{most_batches};
 ghost use Rattle.board_short.specs.ShortBoard.{short_count_word, short_file_of, short_file_size, short_count_in};

@@ -1,4 +1,6 @@
 // Elements of the short edition, as they are read (document 02, U7). An index counts words of the file, from word 0.
+#![tactic(auto)]
+
 ghost use Rattle.std.specs.Prelude.{◌≡◌, false, ℕ, ◌+◌, ◌*◌, ◌≤◌, ◌<◌, eqb, length};
 ghost use Rattle.refusals.specs.declared.Answer.TheVariants as answer;
 ghost use Rattle.board_words.specs.Words.{kind_of, word_at};

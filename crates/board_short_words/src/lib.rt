@@ -1,5 +1,7 @@
 // Elements of the short edition, as they are written (document 02, U7): one word of kind 3 below 2^30, else the three
 // of the full edition. An index counts words of the file, from word 0.
+#![tactic(auto)]
+
 ghost use Rattle.std.specs.Prelude.{◌≡◌, [], ◌+◌, ◌*◌, ◌^◌, ◌≤◌, ◌<◌, leb, length};
 ghost use Rattle.std.proofs.lemmas.List.Edits.{sets};
 ghost use Rattle.lists.specs.Lists.{choose};

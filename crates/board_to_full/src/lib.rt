@@ -1,5 +1,7 @@
 // From the short edition of the board file to the full one (document 02, U8 and U9): one pass over the elements tests
 // them, and one writes the output, whose length k says. There is no list of taps in between.
+#![tactic(auto)]
+
 ghost use Rattle.std.specs.Prelude.{◌≡◌, ℕ, ◌+◌, ◌*◌, ◌≤◌, ◌<◌, length};
 ghost use Rattle.std.proofs.lemmas.List.Edits.{sets};
 ghost use Rattle.refusals.specs.declared.Answer.TheVariants as answer;

@@ -1,5 +1,7 @@
 // From the full edition of the board file to the short one (document 02, U8): one pass over the elements tests them and
 // counts the output's length, and one writes it. There is no list of taps in between.
+#![tactic(auto)]
+
 ghost use Rattle.std.specs.Prelude.{◌≡◌, ℕ, ◌+◌, ◌*◌, ◌≤◌, ◌<◌, eqb, length};
 ghost use Rattle.std.proofs.lemmas.List.Edits.{sets};
 ghost use Rattle.field.specs.Field.{P};

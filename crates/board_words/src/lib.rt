@@ -1,5 +1,7 @@
 // The board file's words, and its elements as they are written (document 01, "The board file"): 32-bit words, low byte
 // first, the top two bits of each its kind; an element is three of them. An index counts the file's words, from word 0.
+#![tactic(auto)]
+
 ghost use Rattle.std.specs.Prelude.{◌≡◌, [], ◌∷◌, ◌+◌, ◌*◌, ◌%◌, ◌^◌, ◌≤◌, ◌<◌, length};
 ghost use Rattle.std.proofs.lemmas.List.Edits.{sets};
 ghost use Rattle.board_words.specs.Words.{joined, kind_of, payload_of, word_bytes, word_at, bytes_of};

@@ -1,5 +1,7 @@
 // What the calls from other languages answer and leave (specs/Calls.antt), and what is left of the tests of those that
 // return words where these find no room.
+#![tactic(auto)]
+
 ghost use Rattle.std.specs.Prelude.{◌≡◌};
 ghost use Rattle.call_answers.specs.Calls.{hash_no_room, chain_no_room, edit_no_room};
 

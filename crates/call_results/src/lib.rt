@@ -1,5 +1,7 @@
 // What is handed over to another language: an answer in one returned number (specs/Code.antt), and four, eight or
 // twelve words in a destination (specs/HandsOver.antt).
+#![tactic(auto)]
+
 ghost use Rattle.std.specs.Prelude.{◌≡◌, length};
 ghost use Rattle.numbers.specs.Numbers.{width};
 ghost use Rattle.refusals.specs.Refusals.{digest_words, pair_words};

@@ -1,4 +1,6 @@
 // Which constraints apply at a row (document 01, "The 52 constraints"; document 02, U6).
+#![tactic(auto)]
+
 ghost use Rattle.std.specs.Prelude.{◌≡◌, ◌&&◌, ◌||◌, not, ◌≤◌, ◌<◌, ◌^◌, ltb};
 ghost use Rattle.numbers.specs.Numbers.{within};
 ghost use Rattle.check_constraints.specs.Constraints.{between, entering, last_row, claim_row, applies};

@@ -1,5 +1,7 @@
 // The tests of one row: what the constraints that apply there compare, and whether they hold (document 01, "The 52
 // constraints").
+#![tactic(auto)]
+
 ghost use Rattle.std.specs.Prelude.{◌≡◌};
 ghost use Rattle.table.specs.Table.{IsTable};
 ghost use Rattle.table.specs.ReadyHelpers.{ready_matrix};

@@ -1,6 +1,8 @@
 // The second step of a round, and the first step undone, over matrices made ready once a call (document 01, "The 52
 // constraints"). Cubes come out divided by 2^128, as two products in Montgomery's form leave them; the matrices'
 // scales make up for that.
+#![tactic(auto)]
+
 ghost use Rattle.std.specs.Prelude.{◌≡◌, ◌<◌, ◌≤◌, length};
 ghost use Rattle.field_words.specs.Words.{CanonicalTo};
 ghost use Rattle.numbers.specs.Numbers.{width};

@@ -1,4 +1,6 @@
 // Check: the tests before the walk, and the walk (document 01, "The 52 constraints"; document 02, U6).
+#![tactic(auto)]
+
 ghost use Rattle.std.specs.Prelude.{◌≡◌, ◌≤◌, ◌<◌, ◌^◌, length};
 ghost use Rattle.field_words.specs.Words.{canonical_words, first_bad};
 ghost use Rattle.numbers.specs.Numbers.{trace_words};

@@ -1,4 +1,6 @@
 // The walk through the tests of a trace (document 01, "The 52 constraints"; document 02, U6).
+#![tactic(auto)]
+
 ghost use Rattle.std.specs.Prelude.{◌≡◌, ◌*◌, ◌≤◌, ◌<◌, ◌^◌, length};
 ghost use Rattle.field_words.specs.Words.{AllCanonical};
 ghost use Rattle.numbers.specs.Numbers.{trace_words};

@@ -1,6 +1,8 @@
 // The one program (document 01, "The board file"): a raw table and a board file on standard input, one line on standard
 // output. Where the input cannot be read or the line not written, a line on standard error says so: the language has no
 // exit status.
+#![tactic(auto)]
+
 ghost use Rattle.std.specs.Prelude.{◌≡◌, ◌-◌, ◌≤◌, length, take};
 ghost use Rattle.libc.specs.Io.{Moved};
 ghost use Rattle.clear.specs.Reading.{ended_by, Within};

@@ -1,4 +1,6 @@
 // What the program does, from the bytes on its standard input to its answer (document 01, "The board file").
+#![tactic(auto)]
+
 ghost use Rattle.std.specs.Prelude.{◌≡◌, ◌+◌, ◌*◌, ◌/◌, ◌-◌, ◌≤◌, length};
 ghost use Rattle.field_words.specs.Words.{AllCanonical};
 ghost use Rattle.numbers.specs.Numbers.{tap_word_batches};

@@ -1,4 +1,6 @@
 // The one line that tells the program's answer (document 01, "The board file").
+#![tactic(auto)]
+
 ghost use Rattle.std.specs.Prelude.{◌≡◌, ◌++◌, ◌+◌, ◌≤◌, length, drop};
 ghost use Rattle.std.proofs.lemmas.List.Edits.{sets};
 ghost use Rattle.clear_line.specs.Line.{ascii, decimal, fields, line, numbers_of, text_of};

@@ -1,6 +1,8 @@
 // The elements of the field and their operations (document 01, "The field"). The product of two is gathered from three
 // digits of the second, the top one first, with one word below p after each (document 02, U2); powers are computed in
 // Montgomery's form.
+#![tactic(auto)]
+
 ghost use Rattle.std.specs.Prelude.{◌≡◌, ◌^◌, ◌<◌, ltb};
 ghost use Rattle.field.specs.Field.{P, Canonical, add, sub, neg, mul, square, power, root, inverse};
 ghost use Rattle.field.specs.Gathering.{appended};

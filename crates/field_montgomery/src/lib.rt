@@ -2,6 +2,8 @@
 // for the element v / 2^64. A product is gathered from the two digits of 32 bits of the second factor, the lower one
 // first, with one word below p after each (document 02, U2). A step divides by 2^32, which is cheap, since p - 1 is a
 // multiple of it; so do the steps of sums of products, which are not in this form (`field_sums`).
+#![tactic(auto)]
+
 ghost use Rattle.std.specs.Prelude.{◌≡◌, ◌+◌, ◌*◌, ◌/◌, ◌%◌, ◌^◌, ◌<◌};
 ghost use Rattle.field.specs.Field.{P, Canonical, mul, power};
 ghost use Rattle.field.specs.Gathering.{lowered, gathered};

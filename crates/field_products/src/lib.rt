@@ -1,5 +1,7 @@
 // Twelve products at a time, in Montgomery's form. Each loop is one that the compiler makes vector code of: it takes
 // the second factor by value or from the same array (tests/vectors.sh).
+#![tactic(auto)]
+
 ghost use Rattle.std.specs.Prelude.{◌≡◌, length};
 ghost use Rattle.field.specs.MontgomeryHelpers.{quotient};
 ghost use Rattle.field_words.specs.Words.{CanonicalTo};

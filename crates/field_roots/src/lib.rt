@@ -1,4 +1,6 @@
 // Twelve cube roots at a time, by powers in Montgomery's form.
+#![tactic(auto)]
+
 ghost use Rattle.std.specs.Prelude.{◌≡◌, length};
 ghost use Rattle.lists.specs.Lists.{cell, tab};
 ghost use Rattle.field_words.specs.Words.{CanonicalTo};

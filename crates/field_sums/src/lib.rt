@@ -1,5 +1,7 @@
 // Sums of twelve products, gathered in one word. A term is added and the sum divided by 2^32; what this takes from a
 // term is given to it beforehand, as its weight. A step takes two terms, and after it there is one word below p.
+#![tactic(auto)]
+
 ghost use Rattle.std.specs.Prelude.{◌≡◌, ◌*◌, ◌%◌, ◌^◌};
 ghost use Rattle.lists.specs.Lists.{cell, tab};
 ghost use Rattle.field.specs.Field.{P, Canonical};

@@ -1,4 +1,6 @@
 // The test that every lent word is canonical.
+#![tactic(auto)]
+
 ghost use Rattle.std.specs.Prelude.{◌≡◌};
 ghost use Rattle.field_words.specs.Words.{first_bad};
 

@@ -1,4 +1,6 @@
 // The Rescue hash (document 01, "Hash and chain").
+#![tactic(auto)]
+
 ghost use Rattle.std.specs.Prelude.{◌≡◌, ◌<◌, length};
 ghost use Rattle.lists.specs.Lists.{cell, tab};
 ghost use Rattle.field_words.specs.Words.{CanonicalTo};

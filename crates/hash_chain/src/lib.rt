@@ -1,4 +1,6 @@
 // The chain (document 01, "Hash and chain").
+#![tactic(auto)]
+
 ghost use Rattle.std.specs.Prelude.{◌≡◌, ◌++◌, ◌+◌, ◌*◌, ◌<◌, ◌≤◌, ◌^◌, length, take, replicate};
 ghost use Rattle.field_words.specs.Words.{AllCanonical};
 ghost use Rattle.matrix_ready.specs.MixingHelpers.{ready_words};

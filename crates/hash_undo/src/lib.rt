@@ -1,4 +1,6 @@
 // Unhash: from a final state back to the two taps whose Hash ends there (document 02, U5).
+#![tactic(auto)]
+
 ghost use Rattle.std.specs.Prelude.{◌≡◌, ◌<◌};
 ghost use Rattle.field_words.specs.Words.{CanonicalTo};
 ghost use Rattle.numbers.specs.Numbers.{width};

@@ -1,6 +1,8 @@
 // The library for other languages: each operation over numbers and slices, its answer in one returned number (crate
 // `call_results`). What each call answers and leaves is said in crate `call_answers`. A slice is passed as a pointer and a length.
 // A refusal alters no lent buffer here either.
+#![tactic(auto)]
+
 ghost use Rattle.std.specs.Prelude.{◌≡◌, [], ◌∷◌, length};
 ghost use Rattle.check_trace.specs.Answers.{check_answer};
 ghost use Rattle.call_results.specs.Code.{tests_code};

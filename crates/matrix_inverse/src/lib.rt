@@ -1,4 +1,6 @@
 // The inverse of a 12 × 12 matrix, by elimination on 12 rows of 24 words: the matrix with the identity beside it.
+#![tactic(auto)]
+
 ghost use Rattle.std.specs.Prelude.{◌≡◌, ◌+◌, ◌/◌, ◌%◌, ◌<◌, length};
 ghost use Rattle.field.specs.Field.{Canonical, neg};
 ghost use Rattle.field_words.specs.Words.{AllCanonical};

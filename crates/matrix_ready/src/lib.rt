@@ -1,5 +1,7 @@
 // A matrix made ready, times many columns. It is there by columns, each entry with the weight of its term and with 2^31
 // times that, so that a column of cells comes as it is, and a step takes two terms.
+#![tactic(auto)]
+
 ghost use Rattle.std.specs.Prelude.{◌≡◌, ◌+◌, ◌*◌, ◌<◌, ◌≤◌, length};
 ghost use Rattle.std.proofs.lemmas.List.Edits.{sets};
 ghost use Rattle.lists.specs.Lists.{cell, tab};

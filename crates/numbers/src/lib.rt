@@ -1,5 +1,7 @@
 // Sizes; batch, row, hash and tap numbers (document 01, "The trace": counts of their own); the permitted batch counts
 // ("Hash and chain").
+#![tactic(auto)]
+
 ghost use Rattle.std.specs.Prelude.{◌≡◌, ◌+◌, ◌*◌, ◌-◌, ◌/◌, ◌%◌, ◌≤◌, ◌<◌, ◌^◌};
 ghost use Rattle.numbers.specs.Numbers.{width, batch_rows, within, first_row};
 ghost use Rattle.numbers.specs.Numbers.{batches_if, is_tap_length, is_trace_length, permitted};

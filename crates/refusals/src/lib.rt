@@ -1,4 +1,6 @@
 // What is turned back (document 01, the section of that name; document 02), and the answers that hold it.
+#![tactic(auto)]
+
 ghost use Rattle.std.specs.Prelude.{◌≡◌};
 ghost use Rattle.refusals.specs.Refusals.{alone, indexed, told, state, state_words, pair};
 ghost use Rattle.refusals.specs.Answers.{IsRefusal};

@@ -1,4 +1,6 @@
 // The table and its test (document 01, "The table").
+#![tactic(auto)]
+
 ghost use Rattle.std.specs.Prelude.{◌≡◌, ◌/◌, ◌%◌, ◌<◌, eqb, length};
 ghost use Rattle.lists.specs.Lists.{choose, cell, tab};
 ghost use Rattle.field.specs.Field.{Canonical};

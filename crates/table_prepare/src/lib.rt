@@ -1,4 +1,6 @@
 // Prepare (document 01, "The table").
+#![tactic(auto)]
+
 ghost use Rattle.std.specs.Prelude.{◌≡◌, ◌<◌, length};
 ghost use Rattle.lists.specs.Lists.{cell};
 ghost use Rattle.matrix.specs.Matrix.{matrix_words};

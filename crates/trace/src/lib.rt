@@ -1,4 +1,6 @@
 // The section 3.1 trace of a list of taps: the builder (document 01, "The trace").
+#![tactic(auto)]
+
 ghost use Rattle.std.specs.Prelude.{◌≡◌, ◌+◌, ◌*◌, ◌-◌, ◌≤◌, ◌<◌, ◌^◌, length, take};
 ghost use Rattle.field_words.specs.Words.{AllCanonical, CanonicalTo};
 ghost use Rattle.numbers.specs.Numbers.{first_row, tap_words, trace_words, width};

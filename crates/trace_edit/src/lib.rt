@@ -1,4 +1,6 @@
 // Edit: a tap of an accepted trace replaced in place (document 02, U1 and U6).
+#![tactic(auto)]
+
 ghost use Rattle.std.specs.Prelude.{◌≡◌, ◌≤◌, ◌<◌, ◌^◌, length};
 ghost use Rattle.refusals.specs.Answers.{tests_after};
 ghost use Rattle.numbers.specs.Numbers.{trace_words};

@@ -1,4 +1,6 @@
 // Read-off: Check, and then the taps that the trace holds (document 01, "The 52 constraints"; document 02, U6).
+#![tactic(auto)]
+
 ghost use Rattle.std.specs.Prelude.{◌≡◌, ◌+◌, ◌*◌, ◌^◌, ◌≤◌, ◌<◌, length};
 ghost use Rattle.lists.specs.Lists.{tab};
 ghost use Rattle.field_words.specs.Words.{AllCanonical};

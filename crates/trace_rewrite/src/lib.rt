@@ -1,5 +1,7 @@
 // The rows of a trace written anew, in place, from the hash that takes a replaced tap in: with no second trace and no
 // list of all taps (document 02, U1).
+#![tactic(auto)]
+
 ghost use Rattle.std.specs.Prelude.{◌≡◌, ◌+◌};
 ghost use Rattle.table.specs.Table.{IsTable};
 ghost use Rattle.table.specs.ReadyHelpers.{ready_matrix};

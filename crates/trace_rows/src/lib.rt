@@ -1,5 +1,7 @@
 // The rows of a lent trace: the view of a batch, a row's cells, its forward and back (document 01, "The trace",
 // "The 52 constraints").
+#![tactic(auto)]
+
 ghost use Rattle.std.specs.Prelude.{◌≡◌, ◌<◌, ◌≤◌};
 ghost use Rattle.lists.specs.Lists.{cell};
 ghost use Rattle.field.specs.Field.{Canonical};

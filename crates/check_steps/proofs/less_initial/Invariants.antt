@@ -1,0 +1,15 @@
+-- `check_steps::less_initial`: the cells passed are those of s less K_0, and twelve of them are the definition's difference.
+-- Assumes nothing.
+use Prim.Native.Nat.{◌-◌}
+use Rattle.lists.specs.Lists.{cell}
+use Rattle.lists.proofs.Tab.{Fills}
+use Rattle.field.specs.Field.{sub}
+use Rattle.table.specs.Table.{initial_constant}
+use Rattle.check_steps.proofs.less_initial.Given as goal
+
+abbrev pub invariant-loop-j : goal.invariant-loop-j
+invariant-loop-j l =
+    Fills 12 (λ i. sub (cell l.s i) (cell (initial_constant l.table) i)) l.initial.out l.j l.out
+
+abbrev pub decreases-loop-j : goal.decreases-loop-j
+decreases-loop-j l = 12 - l.j

@@ -1,0 +1,27 @@
+use mathlib.Core.Path.{sym, ap, subst, ◌∙◌}
+use native.Mathlib.Omega.{arith}
+use Rattle.lists.proofs.Tab.{fills_none, fills_more, fills_next, fills_all}
+use Rattle.field.specs.Field.{Canonical}
+use Rattle.field.specs.MontgomeryHelpers.{times_word}
+use Rattle.field_products.specs.CellHelpers.{word_products}
+use Rattle.field_products.proofs.square.Goals as goal
+
+pub loop-j-init : goal.loop-j-init
+loop-j-init c = fills_none c.requires.0
+
+pub times-requires : goal.times-requires
+times-requires c =
+    let p = c.requires in
+    let turn = c.loop-j in
+    let here = subst Canonical (sym (fills_next turn.invariant)) (p.1 turn.j (omega arith)) in
+    (here, here, p.2)
+
+pub loop-j-preserved : goal.loop-j-preserved
+loop-j-preserved c =
+    let turn = c.loop-j in
+    fills_more turn.invariant (omega arith)
+    (c.times.ensures.0 ∙ ap (λ v. times_word v v) (fills_next turn.invariant))
+
+pub returns : goal.returns
+unfolding word_products
+returns c = fills_all c.loop-j.invariant (omega arith)

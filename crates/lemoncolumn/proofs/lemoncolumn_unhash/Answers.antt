@@ -1,0 +1,20 @@
+-- `lemoncolumn::lemoncolumn_unhash`: Unhash, or what is left of it where the pair finds no room.
+-- Assumes nothing.
+use mathlib.Core.Path.{sym, ap, ◌∙◌}
+use Rattle.call_results.specs.Code.{answer_code}
+use Rattle.call_answers.proofs.Answers.{unhash-handed, unhash-refused, unhash-stopped}
+use Rattle.lemoncolumn.proofs.lemoncolumn_unhash.Goals as goal
+
+pub returns-then-pair-ne-PAIR_WORDS : goal.returns-then-pair-ne-PAIR_WORDS
+returns-then-pair-ne-PAIR_WORDS c =
+    unhash-stopped _ _ _ _ c.if-pair-ne-PAIR_WORDS.true (c.answer_code.ensures ∙ ap answer_code c.hash_no_room.ensures)
+
+pub returns-in-Accepted : goal.returns-in-Accepted
+returns-in-Accepted c =
+    unhash-handed _ _ _ c.if-pair-ne-PAIR_WORDS.false _ _ (sym c.unhash.ensures ∙ c.found-1.given.1)
+    c.put_pair.ensures
+
+pub returns-in-Refused : goal.returns-in-Refused
+returns-in-Refused c =
+    unhash-refused _ _ _ c.if-pair-ne-PAIR_WORDS.false _ _ (sym c.unhash.ensures ∙ c.r-1.given.1)
+    c.refusal_code.ensures

@@ -1,0 +1,28 @@
+-- `lemoncolumn::lemoncolumn_unpack`: Unpack, or what is left of it where the claim finds no room, no list of taps having 0
+-- words.
+-- Assumes nothing.
+use mathlib.Core.Path.{ap, ◌∙◌}
+use Rattle.call_results.specs.Code.{digest_code}
+use Rattle.call_results.proofs.Handed.{handed_as}
+use Rattle.call_answers.proofs.Answers.{kept, list-kept, unpack-without, unpack-stopped, no-list-refuses}
+use Rattle.call_answers.proofs.Answers.{unpack-answer, unpack-left}
+use Rattle.lemoncolumn.proofs.lemoncolumn_unpack.Goals as goal
+
+pub returns-then-claim-ne4 : goal.returns-then-claim-ne4
+returns-then-claim-ne4 c =
+    let without = c.if-claim-ne4.true in
+    record {
+      four = unpack-stopped _ _ _ without _ _ (c.digest_code.ensures ∙ ap digest_code c.unpack.ensures.0);
+      list =
+          list-kept c.unpack.new.1.0 _ c.unpack.auto.1.0
+          ∙ kept _ _ (unpack-without _ _ _ without) (no-list-refuses _) _ _;
+    }
+
+pub returns : goal.returns
+returns c =
+    let room = c.if-claim-ne4.false in
+    let same = c.unpack-2.ensures.0 ∙ unpack-answer _ room _ _ in
+    record {
+      four = handed_as _ _ _ _ _ same c.hand_over.ensures;
+      list = c.unpack-2.ensures.1 ∙ unpack-left _ room _ _;
+    }

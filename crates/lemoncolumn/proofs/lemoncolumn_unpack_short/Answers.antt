@@ -1,0 +1,30 @@
+-- `lemoncolumn::lemoncolumn_unpack_short`: the short edition's reader, or what is left of it where the claim finds no room,
+-- no list of taps having 0 words.
+-- Assumes nothing.
+use mathlib.Core.Path.{ap, ◌∙◌}
+use Rattle.call_results.specs.Code.{digest_code}
+use Rattle.call_results.proofs.Handed.{handed_as}
+use Rattle.call_answers.proofs.Answers.{kept, list-kept, unpack-short-without, unpack-short-stopped}
+use Rattle.call_answers.proofs.Answers.{no-short-list-refuses}
+use Rattle.call_answers.proofs.Answers.{unpack-short-answer, unpack-short-left}
+use Rattle.lemoncolumn.proofs.lemoncolumn_unpack_short.Goals as goal
+
+pub returns-then-claim-ne4 : goal.returns-then-claim-ne4
+returns-then-claim-ne4 c =
+    let without = c.if-claim-ne4.true in
+    let coded = c.digest_code.ensures ∙ ap digest_code c.unpack_short.ensures.0 in
+    record {
+      four = unpack-short-stopped _ _ _ without _ _ coded;
+      list =
+          list-kept c.unpack_short.new.1.0 _ c.unpack_short.auto.1.0
+          ∙ kept _ _ (unpack-short-without _ _ _ without) (no-short-list-refuses _) _ _;
+    }
+
+pub returns : goal.returns
+returns c =
+    let room = c.if-claim-ne4.false in
+    let same = c.unpack_short-2.ensures.0 ∙ unpack-short-answer _ room _ _ in
+    record {
+      four = handed_as _ _ _ _ _ same c.hand_over.ensures;
+      list = c.unpack_short-2.ensures.1 ∙ unpack-short-left _ room _ _;
+    }

@@ -1,0 +1,51 @@
+-- `trace::build`: nothing is written before all tests have passed; then the trace is, and the state that comes back
+-- begins with the output.
+-- Assumes nothing.
+use mathlib.Core.Path.{sym, ap, ◌∙◌}
+use native.Mathlib.Omega.{arith}
+use lib.ListN.{length}
+use Rattle.numbers.specs.Numbers.{tap_word_batches}
+use Rattle.refusals.specs.Refusals.{digest}
+use Rattle.refusals.proofs.Laws.{digest_turned_back, digest_returned, leaves_old, leaves_new}
+use Rattle.table.proofs.Theorems.{ready_left_lem, left_size}
+use Rattle.hash_chain.proofs.Answers.{digest-take}
+use Rattle.trace.specs.Answers.{build_answer, build_leaves}
+use Rattle.trace.proofs.Answers.{BuildInputs, build-inputs}
+use Rattle.trace.proofs.build.Goals as goal
+
+pub returns-in_default : goal.returns-in_default
+unfolding build_answer build_leaves
+returns-in_default c =
+    let e = c.test_build-answer.ensures.0 in
+    let r = c.refusal.ensures in
+    (digest_turned_back e _ r, leaves_old e _ r)
+
+-- where the tests have passed, what they say of the table, the taps and the room, and M is left made ready
+inputs : (c : goal.In-Accepted) → let start = c.args in
+    BuildInputs start.table.now start.taps.now (length start.destination.now)
+    (tap_word_batches (length start.taps.now))
+inputs c = build-inputs _ _ _ (sym c.test_build-answer.ensures.0 ∙ c.enum_told-1.given.1)
+
+pub slice_bounds-write_hashes-end : goal.slice_bounds-write_hashes-end
+slice_bounds-write_hashes-end c =
+    sym (left_size _ _ (inputs c.before).table c.test_build-answer.ensures.1)
+
+pub write_hashes-last-requires : goal.write_hashes-last-requires
+write_hashes-last-requires c =
+    let i = inputs c.before.before in (
+      i.table,
+      i.canonical,
+      omega (arith, i.permitted.high),
+      i.taps,
+      i.room,
+      ready_left_lem _ _ i.table c.test_build-answer.ensures.1,
+    )
+
+pub returns : goal.returns
+unfolding build_answer build_leaves
+returns c =
+    let e = c.test_build-answer.ensures.0 in
+    let a = c.enum_told-1.given.1 in (
+      digest_returned e a (digest-take c.write_hashes-last.result ∙ ap digest c.write_hashes-last.ensures.0),
+      leaves_new e _ a c.write_hashes-last.ensures.1,
+    )

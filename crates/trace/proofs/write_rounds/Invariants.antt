@@ -1,0 +1,18 @@
+-- `trace::write_rounds`: the rows passed are middle states, and the state is that before the round, from whatever input
+-- the first one came.
+-- Assumes nothing.
+use mathlib.Core.Path.{◌≡◌}
+use mathlib.Core.List.{List}
+use Prim.Native.Nat.{ℕ, ◌-◌, ◌≤◌}
+use lib.ListN.{length}
+use Rattle.field_words.specs.Words.{CanonicalTo}
+use Rattle.hash.specs.Hash.{state_at}
+use Rattle.trace.proofs.write_rounds.Given as goal
+
+abbrev pub invariant-loop-round : goal.invariant-loop-round
+invariant-loop-round l =
+    (l.round ≤ 10) × CanonicalTo 12 l.state × (length l.destination ≡ length l.initial.destination)
+    × ((s : List ℕ) → l.initial.state ≡ state_at l.table s 0 → Passed l.table s l.first l.initial.destination l.destination l.state l.round)
+
+abbrev pub decreases-loop-round : goal.decreases-loop-round
+decreases-loop-round l = 10 - l.round
