@@ -12,9 +12,10 @@ use Rattle.refusals.specs.declared.Answer.TheVariants.{Accepted}
 use Rattle.refusals.proofs.Laws.{unless_refused, unless_passed}
 use Rattle.board.specs.Board.{most_file_batches, count_in, spare_in, count_test}
 use Rattle.board.proofs.test_count.Goals as goal
+use Rattle.board.proofs.test_count.Goals.{Else-kind-ne0, Else-payload-ne0, After-is_permitted}
 
 -- what is answered there is left to the spare bits and k
-kinded : (f : goal.Else-kind-ne0) {o : Answer} → let w = f.args.word.0 in
+kinded : (f : Else-kind-ne0) {o : Answer} → let w = f.args.word.0 in
     o ≡ unless (eqb (spare_in w) 0) (WrongValue 0)
     (unless (permitted most_file_batches (count_in w)) (WrongValue 0) Accepted)
     → o ≡ count_test w
@@ -22,13 +23,13 @@ unfolding count_test
 kinded f e = unless_passed _ (eq-eqb _ _ (sym f.kind.ensures ∙ f.if-kind-ne0.false)) e
 
 -- and here to k
-spared : (f : goal.Else-payload-ne0) {o : Answer} → let w = f.args.word.0 in
+spared : (f : Else-payload-ne0) {o : Answer} → let w = f.args.word.0 in
     o ≡ unless (permitted most_file_batches (count_in w)) (WrongValue 0) Accepted → o ≡ count_test w
 spared f e =
     let spare = ap (λ p. p / 2 ^ 16) f.payload.ensures in
     kinded f.before.before (unless_passed _ (eq-eqb _ _ (sym spare ∙ f.if-payload-ne0.false)) e)
 
-decided : (a : goal.After-is_permitted) → let w = a.args.word.0 in
+decided : (a : After-is_permitted) → let w = a.args.word.0 in
     permitted most_file_batches (count_in w) ≡ a.is_permitted.result
 decided a = ap (permitted most_file_batches) (sym a.count_in.ensures) ∙ sym a.is_permitted.ensures
 

@@ -17,21 +17,22 @@ use Rattle.refusals.specs.declared.Answer.TheVariants.{Accepted, Refused}
 use Rattle.refusals.proofs.Laws.{unless_refused, unless_passed}
 use Rattle.board.specs.Board.{most_file_batches, file_size, pack_test}
 use Rattle.board.proofs.test_pack.Goals as goal
+use Rattle.board.proofs.test_pack.Goals.{In-Permitted, Else-size-k, Else-bad_claim-ne4}
 
-abbrev words : goal.In-Permitted → ℕ
+abbrev words : In-Permitted → ℕ
 words p = length p.args.taps.now
 
-abbrev k : goal.In-Permitted → ℕ
+abbrev k : In-Permitted → ℕ
 k p = p.k-1.given.0.0
 
-permitted : (p : goal.In-Permitted) → (tap_word_batches (words p) ≡ k p) × (k p ≤ most_file_batches)
+permitted : (p : In-Permitted) → (tap_word_batches (words p) ≡ k p) × (k p ≤ most_file_batches)
 permitted p =
     let t = tap_permitted most_file_batches (words p) p.tap_batches.ensures p.k-1.given.1 in
     let s = tap_length_sound most_file_batches (words p) t.0 in
     (t.1, omega (arith, s.1.high, t.1))
 
 -- what is answered there is left to the destination's length and the words
-counted : (p : goal.In-Permitted) {o : Answer} →
+counted : (p : In-Permitted) {o : Answer} →
     let taps = p.args.taps.now in let claim = p.args.t2 in
     o ≡ unless (eqb p.args.size (file_size (tap_word_batches (words p)))) DestinationLength
     (unless (canonical_words claim) (ClaimWord (first_bad claim))
@@ -42,7 +43,7 @@ counted p e =
     unless_passed _ (tap_permitted most_file_batches (words p) p.tap_batches.ensures p.k-1.given.1).0 e
 
 -- then to the claim's words and the taps'
-roomy : (f : goal.Else-size-k) {o : Answer} →
+roomy : (f : Else-size-k) {o : Answer} →
     let taps = f.args.taps.now in let claim = f.args.t2 in
     o ≡ unless (canonical_words claim) (ClaimWord (first_bad claim))
     (unless (canonical_words taps) (TapWord (first_bad taps)) Accepted)
@@ -52,11 +53,11 @@ roomy f e =
     counted f.before (unless_passed _ (eq-eqb _ _ room) e)
 
 -- a claim is four words
-four : (f : goal.Else-size-k) → length f.args.t2 ≡ 4
+four : (f : Else-size-k) → length f.args.t2 ≡ 4
 four f = omega arith
 
 -- and then to the taps'
-claimed : (f : goal.Else-bad_claim-ne4) {o : Answer} →
+claimed : (f : Else-bad_claim-ne4) {o : Answer} →
     let taps = f.args.taps.now in
     o ≡ unless (canonical_words taps) (TapWord (first_bad taps)) Accepted
     → o ≡ pack_test taps f.args.t2 f.args.size

@@ -14,6 +14,7 @@ use Rattle.board_words.specs.Words.{word_at}
 use Rattle.board_words.specs.Elements.{elements_test}
 use Rattle.board.specs.Board.{file_size, count_in, batches_in, count_test, unpack_test}
 use Rattle.board.proofs.test_unpack.Goals as goal
+use Rattle.board.proofs.test_unpack.Goals.{Else-file-lt4, After-test_count-of_count, After-count_in-k, Else-file-k}
 
 -- the tests from the destination's length on, and from the file's on
 abbrev fromRoom : List ℕ → ℕ → Answer
@@ -24,27 +25,27 @@ abbrev fromLength : List ℕ → ℕ → Answer
 fromLength file size = unless (eqb (length file) (file_size (batches_in file))) FileLength (fromRoom file size)
 
 -- word 0 is there
-four : (f : goal.Else-file-lt4) {o : Answer} → let a = f.args in
+four : (f : Else-file-lt4) {o : Answer} → let a = f.args in
     o ≡ after (count_test (word_at a.file.now 0)) (fromLength a.file.now a.size)
     → o ≡ unpack_test a.file.now a.size
 unfolding unpack_test
 four f e = unless_passed _ (le-leb _ _ f.if-file-lt4.false) e
 
-of-count : (t : goal.After-test_count-of_count) →
+of-count : (t : After-test_count-of_count) →
     t.test_count-of_count.result ≡ count_test (word_at t.args.file.now 0)
 of-count t = t.test_count-of_count.ensures ∙ ap count_test t.read-word.ensures
 
-counted : (c : goal.After-count_in-k) {o : Answer} → let a = c.args in
+counted : (c : After-count_in-k) {o : Answer} → let a = c.args in
     o ≡ fromLength a.file.now a.size → o ≡ unpack_test a.file.now a.size
 counted c e =
     four c.before.before.before.before.before (after_accepted (of-count c.before.before.before) c.enum_told-1.given.1 e)
 
-batches : (c : goal.After-count_in-k) → batches_in c.args.file.now ≡ c.count_in-k.result
+batches : (c : After-count_in-k) → batches_in c.args.file.now ≡ c.count_in-k.result
 unfolding batches_in
 batches c = ap count_in (sym c.read-word.ensures) ∙ sym c.count_in-k.ensures
 
 -- the file has the length of k batches
-whole : (f : goal.Else-file-k) {o : Answer} → let a = f.args in
+whole : (f : Else-file-k) {o : Answer} → let a = f.args in
     o ≡ fromRoom a.file.now a.size → o ≡ unpack_test a.file.now a.size
 whole f e =
     counted f.before (unless_passed _ (eq-eqb _ _ (f.if-file-k.false ∙ sym (ap file_size (batches f.before)))) e)

@@ -13,14 +13,15 @@ use Rattle.board.specs.Board.{batches_in, claim_in, taps_in, unpack_answer, unpa
 use Rattle.board.proofs.Answers.{unpack-accepted}
 use Rattle.board.proofs.Round.{after_claim}
 use Rattle.board.proofs.unpack.Goals as goal
+use Rattle.board.proofs.unpack.Goals.{In-Accepted}
 
-board : (c : goal.In-Accepted)
+board : (c : In-Accepted)
     → let file = c.args.file.now in
     IsBoard file (batches_in file) × (length c.args.destination.now ≡ 12 * batches_in file + 4)
 board c = unpack-accepted _ _ (sym c.test_unpack-of_file.ensures ∙ c.enum_told-1.given.1)
 
 -- so the four elements of the claim are there, and canonical
-element : (c : goal.In-Accepted) (i : ℕ) → i < 4
+element : (c : In-Accepted) (i : ℕ) → i < 4
     → (4 * (1 + 3 * i) + 12 ≤ length c.args.file.now)
     × (element_at c.args.file.now (1 + 3 * i) < P)
 element c i h = (omega (arith, (board c).0.size), ((board c).0.elements i (omega arith)).value)

@@ -13,30 +13,31 @@ use Rattle.board_words.specs.Words.{kind_of, payload_of, word_at}
 use Rattle.board_short.specs.ShortBoard.{mark_in}
 use Rattle.board_edition.specs.Edition.{edition_test}
 use Rattle.board_edition.proofs.test.Goals as goal
+use Rattle.board_edition.proofs.test.Goals.{After-read-word, After-kind, Else-kind-ne0, After-payload}
 
 -- word 0 is there, and its tests are left
-abbrev word : goal.After-read-word → ℕ
+abbrev word : After-read-word → ℕ
 word r = word_at r.args.file.now 0
 
-abbrev mark : goal.After-read-word → ℕ
+abbrev mark : After-read-word → ℕ
 mark r = r.args.mark
 
-there : (r : goal.After-read-word) {o : Answer}
+there : (r : After-read-word) {o : Answer}
     → o ≡ unless (eqb (kind_of (word r)) 0) (WrongKind 0) (unless (eqb (mark_in (word r)) (mark r)) SameEdition Accepted)
     → o ≡ edition_test r.args.file.now (mark r)
 unfolding edition_test
 there r e = unless_passed _ (le-leb _ _ r.if-file-lt4.false) e
 
-kind-is : (k : goal.After-kind) → k.kind.result ≡ kind_of (word k.before)
+kind-is : (k : After-kind) → k.kind.result ≡ kind_of (word k.before)
 kind-is k = k.kind.ensures ∙ ap kind_of k.read-word.ensures
 
 -- it is of kind 0, and its mark is left
-of-kind : (f : goal.Else-kind-ne0) {o : Answer} → o ≡ unless (eqb (mark_in (word f.before.before)) (mark f.before.before)) SameEdition Accepted
+of-kind : (f : Else-kind-ne0) {o : Answer} → o ≡ unless (eqb (mark_in (word f.before.before)) (mark f.before.before)) SameEdition Accepted
     → o ≡ edition_test f.args.file.now (mark f.before.before)
 of-kind f e =
     there f.before.before (unless_passed _ (eq-eqb _ _ (sym (kind-is f.before) ∙ f.if-kind-ne0.false)) e)
 
-payload-is : (p : goal.After-payload) → p.payload.result ≡ payload_of (word p.before.before.before)
+payload-is : (p : After-payload) → p.payload.result ≡ payload_of (word p.before.before.before)
 payload-is p = p.payload.ensures ∙ ap payload_of p.read-word.ensures
 
 pub returns-then-file-lt4 : goal.returns-then-file-lt4

@@ -17,17 +17,18 @@ use Rattle.board_words.specs.Words.{kind_of, payload_of, word_at}
 use Rattle.board_words.specs.Elements.{element_at, element_test}
 use Rattle.board_words.proofs.Laws.{read_three, no_word}
 use Rattle.board_read.proofs.test.Goals as goal
+use Rattle.board_read.proofs.test.Goals.{After-kind, After-kind-2, After-kind-3, Else-kind-ne1, Else-kind-ne2, Else-kind-ne3, Start, After-value, After-is_canonical}
 
 -- each kind that is compared is that of the file's word
-first_kind : (c : goal.After-kind) → let a = c.args in
+first_kind : (c : After-kind) → let a = c.args in
     c.kind.result ≡ kind_of (word_at a.file.now a.index)
 first_kind c = c.kind.ensures ∙ ap kind_of c.read-high.ensures
 
-second_kind : (c : goal.After-kind-2) → let a = c.args in
+second_kind : (c : After-kind-2) → let a = c.args in
     c.kind-2.result ≡ kind_of (word_at a.file.now (a.index + 1))
 second_kind c = c.kind-2.ensures ∙ ap kind_of c.read-middle.ensures
 
-third_kind : (c : goal.After-kind-3) → let a = c.args in
+third_kind : (c : After-kind-3) → let a = c.args in
     c.kind-3.result ≡ kind_of (word_at a.file.now (a.index + 2))
 third_kind c = c.kind-3.ensures ∙ ap kind_of c.read-low.ensures
 
@@ -42,31 +43,31 @@ abbrev fromMiddle : List ℕ → ℕ → Answer
 fromMiddle file j = unless (eqb (kind_of (word_at file (j + 1))) 2) (WrongKind (j + 1)) (fromLow file j)
 
 -- what is answered there is left to them
-one-kind : (f : goal.Else-kind-ne1) {o : Answer} → let a = f.args in
+one-kind : (f : Else-kind-ne1) {o : Answer} → let a = f.args in
     o ≡ fromMiddle a.file.now a.index → o ≡ element_test a.file.now a.index
 unfolding element_test
 one-kind f e = unless_passed _ (eq-eqb _ _ (sym (first_kind f.before) ∙ f.if-kind-ne1.false)) e
 
-two-kinds : (f : goal.Else-kind-ne2) {o : Answer} → let a = f.args in
+two-kinds : (f : Else-kind-ne2) {o : Answer} → let a = f.args in
     o ≡ fromLow a.file.now a.index → o ≡ element_test a.file.now a.index
 two-kinds f e =
     one-kind f.before.before.before (unless_passed _ (eq-eqb _ _ (sym (second_kind f.before) ∙ f.if-kind-ne2.false)) e)
 
-abbrev start : goal.Else-kind-ne3 → goal.Start
+abbrev start : Else-kind-ne3 → Start
 start f = f
 
-three-kinds : (f : goal.Else-kind-ne3) {o : Answer} → let a = (start f).args in
+three-kinds : (f : Else-kind-ne3) {o : Answer} → let a = (start f).args in
     o ≡ fromValue a.file.now a.index → o ≡ element_test a.file.now a.index
 three-kinds f e =
     two-kinds f.before.before.before (unless_passed _ (eq-eqb _ _ (sym (third_kind f.before) ∙ f.if-kind-ne3.false)) e)
 
-value-is : (c : goal.After-value) → let a = (start c).args in
+value-is : (c : After-value) → let a = (start c).args in
     c.value.result ≡ element_at a.file.now a.index
 value-is c =
     read_three _ _ _ _ _ _ c.read-high.ensures c.read-middle.ensures
     c.read-low.ensures c.value.ensures
 
-canonical : (c : goal.After-is_canonical) → let a = (start c).args in
+canonical : (c : After-is_canonical) → let a = (start c).args in
     ltb (element_at a.file.now a.index) P ≡ c.is_canonical.result
 canonical c = ap (λ v. ltb v P) (sym (value-is c.before)) ∙ sym c.is_canonical.ensures
 
@@ -95,9 +96,9 @@ returns-then-payload-gt15 c =
 pub returns-then-not-is_canonical : goal.returns-then-not-is_canonical
 returns-then-not-is_canonical c =
     three-kinds c
-    (unless_refused _ (canonical c.before ∙ not-true _ c.if-not-is_canonical.true) refl)
+    (unless_refused _ (canonical c.before ∙ c.if-not-is_canonical.true) refl)
 
 pub returns : goal.returns
 returns c =
     three-kinds c
-    (unless_passed _ (canonical c.before ∙ not-false _ c.if-not-is_canonical.false) refl)
+    (unless_passed _ (canonical c.before ∙ c.if-not-is_canonical.false) refl)

@@ -13,9 +13,10 @@ use Rattle.refusals.proofs.Laws.{unless_refused, unless_passed}
 use Rattle.board_short.specs.ShortBoard.{mark_in, short_spare_in, short_count_test, short_count_in}
 use Rattle.board_short.proofs.Answers.{marked, unmarked}
 use Rattle.board_short.proofs.test_count.Goals as goal
+use Rattle.board_short.proofs.test_count.Goals.{Else-kind-ne0, Else-payload, After-is_permitted}
 
 -- what is answered there is left to the mark, the spare bits and k
-kinded : (f : goal.Else-kind-ne0) {o : Answer} → let w = f.args.word.0 in
+kinded : (f : Else-kind-ne0) {o : Answer} → let w = f.args.word.0 in
     o ≡ unless (eqb (mark_in w) 1) (WrongValue 0)
     (unless (eqb (short_spare_in w) 0) (WrongValue 0)
     (unless (permitted most_batches (short_count_in w)) (WrongValue 0) Accepted))
@@ -24,14 +25,14 @@ unfolding short_count_test
 kinded f e = unless_passed _ (eq-eqb _ _ (sym f.kind.ensures ∙ f.if-kind-ne0.false)) e
 
 -- and here to k
-spared : (f : goal.Else-payload) {o : Answer} → let w = f.args.word.0 in
+spared : (f : Else-payload) {o : Answer} → let w = f.args.word.0 in
     o ≡ unless (permitted most_batches (short_count_in w)) (WrongValue 0) Accepted → o ≡ short_count_test w
 spared f e =
     let m = marked _ (ap (λ p. p / 2 ^ 20) (sym f.payload.ensures) ∙ f.if-payload.false) in
     kinded f.before.before
     (unless_passed _ (eq-eqb _ _ m.0) (unless_passed _ (eq-eqb _ _ m.1) e))
 
-decided : (a : goal.After-is_permitted) → let w = a.args.word.0 in
+decided : (a : After-is_permitted) → let w = a.args.word.0 in
     permitted most_batches (short_count_in w) ≡ a.is_permitted.result
 decided a = ap (permitted most_batches) (sym a.count_in.ensures) ∙ sym a.is_permitted.ensures
 

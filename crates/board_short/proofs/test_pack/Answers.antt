@@ -20,22 +20,23 @@ use Rattle.board_short_words.proofs.Words.{needed_most, none_bad}
 use Rattle.board_short.specs.ShortBoard.{short_file_size, pack_short_test}
 use Rattle.board_short.proofs.Files.{size_parts}
 use Rattle.board_short.proofs.test_pack.Goals as goal
+use Rattle.board_short.proofs.test_pack.Goals.{After-measure-of_taps, Else-size-of_claim, Else-bad_claim-ne4}
 
-abbrev taps : goal.After-measure-of_taps → List ℕ
+abbrev taps : After-measure-of_taps → List ℕ
 taps s = s.args.taps.now
 
-abbrev claim : goal.After-measure-of_taps → List ℕ
+abbrev claim : After-measure-of_taps → List ℕ
 claim s = s.args.t2
 
 -- a claim is four words, and the taps' bytes fit
-four_words : (s : goal.After-measure-of_taps) → length (claim s) ≡ 4
+four_words : (s : After-measure-of_taps) → length (claim s) ≡ 4
 four_words s = omega arith
 
-fit : (s : goal.After-measure-of_taps) → 8 * length (taps s) < 2 ^ 63
+fit : (s : After-measure-of_taps) → 8 * length (taps s) < 2 ^ 63
 fit s = omega arith
 
 -- what is answered there is left to the destination's length and the words
-counted : (s : goal.After-measure-of_taps) {o : Answer} →
+counted : (s : After-measure-of_taps) {o : Answer} →
     o ≡ unless (eqb s.args.size (short_file_size (taps s) (claim s))) DestinationLength
     (unless (canonical_words (claim s)) (ClaimWord (first_bad (claim s)))
     (unless (canonical_words (taps s)) (TapWord (first_bad (taps s))) Accepted))
@@ -46,23 +47,23 @@ counted s e =
     (tap_permitted most_batches (length (taps s)) s.tap_batches.ensures s.enum_told-1.given.1).0 e
 
 -- their bytes and word 0 make the file's
-parts : (s : goal.After-measure-of_taps) →
+parts : (s : After-measure-of_taps) →
     4 + s.measure-of_claim.result.bytes + s.measure-of_taps.result.bytes ≡ short_file_size (taps s) (claim s)
 parts s = size_parts (taps s) (claim s) _ _ s.measure-of_claim.ensures.0 s.measure-of_taps.ensures.0
 
 -- none of the taps' words is counted where all are canonical
-tested : (s : goal.After-measure-of_taps) → eqb s.measure-of_taps.result.bad 0 ≡ canonical_words (taps s)
+tested : (s : After-measure-of_taps) → eqb s.measure-of_taps.result.bad 0 ≡ canonical_words (taps s)
 tested s = ap (λ n. eqb n 0) s.measure-of_taps.ensures.1 ∙ none_bad (taps s)
 
 -- then to the claim's words and the taps'
-roomy : (f : goal.Else-size-of_claim) {o : Answer} → o ≡ unless (canonical_words (claim f.before.before.before)) (ClaimWord (first_bad (claim f.before.before.before)))
+roomy : (f : Else-size-of_claim) {o : Answer} → o ≡ unless (canonical_words (claim f.before.before.before)) (ClaimWord (first_bad (claim f.before.before.before)))
     (unless (canonical_words (taps f.before.before.before)) (TapWord (first_bad (taps f.before.before.before))) Accepted)
     → o ≡ pack_short_test (taps f.before.before.before) (claim f.before.before.before) f.args.size
 roomy f e =
     counted f.before.before.before (unless_passed _ (eq-eqb _ _ (f.if-size-of_claim.false ∙ parts f.before.before.before)) e)
 
 -- and then to the taps'
-claimed : (f : goal.Else-bad_claim-ne4) {o : Answer} → o ≡ unless (canonical_words (taps f.before.before.before.before.before.before)) (TapWord (first_bad (taps f.before.before.before.before.before.before))) Accepted
+claimed : (f : Else-bad_claim-ne4) {o : Answer} → o ≡ unless (canonical_words (taps f.before.before.before.before.before.before)) (TapWord (first_bad (taps f.before.before.before.before.before.before))) Accepted
     → o ≡ pack_short_test (taps f.before.before.before.before.before.before) (claim f.before.before.before.before.before.before) f.args.size
 claimed f e =
     let length_is = f.if-bad_claim-ne4.false ∙ sym (four_words f.before.before.before.before.before.before) in

@@ -12,24 +12,25 @@ use Rattle.board_short_read.specs.Reading.{shorts_test}
 use Rattle.board_short.specs.ShortBoard.{short_count_test, unpack_short_test, short_count_in, short_batches_in}
 use Rattle.board_short.proofs.Answers.{fromRoom}
 use Rattle.board_short.proofs.test_unpack.Goals as goal
+use Rattle.board_short.proofs.test_unpack.Goals.{Else-file-lt4, After-test_count-of_count, After-count_in-k}
 
 -- word 0 is there
-four : (f : goal.Else-file-lt4) {o : Answer} → let a = f.args in
+four : (f : Else-file-lt4) {o : Answer} → let a = f.args in
     o ≡ after (short_count_test (word_at a.file.now 0)) (fromRoom a.file.now a.size)
     → o ≡ unpack_short_test a.file.now a.size
 unfolding unpack_short_test
 four f e = unless_passed _ (le-leb _ _ f.if-file-lt4.false) e
 
-of-count : (t : goal.After-test_count-of_count) →
+of-count : (t : After-test_count-of_count) →
     t.test_count-of_count.result ≡ short_count_test (word_at t.args.file.now 0)
 of-count t = t.test_count-of_count.ensures ∙ ap short_count_test t.read-word.ensures
 
-counted : (c : goal.After-count_in-k) {o : Answer} → let a = c.args in
+counted : (c : After-count_in-k) {o : Answer} → let a = c.args in
     o ≡ fromRoom a.file.now a.size → o ≡ unpack_short_test a.file.now a.size
 counted c e =
     four c.before.before.before.before.before (after_accepted (of-count c.before.before.before) c.enum_told-1.given.1 e)
 
-batches : (c : goal.After-count_in-k) → short_batches_in c.args.file.now ≡ c.count_in-k.result
+batches : (c : After-count_in-k) → short_batches_in c.args.file.now ≡ c.count_in-k.result
 unfolding short_batches_in
 batches c = ap short_count_in (sym c.read-word.ensures) ∙ sym c.count_in-k.ensures
 

@@ -14,8 +14,9 @@ use Rattle.board_short.specs.ShortBoard.{short_claim_in, short_taps_in, unpack_s
 use Rattle.board_short.specs.ShortBoard.{IsShortBoard, short_batches_in}
 use Rattle.board_short.proofs.Answers.{unpack-accepted}
 use Rattle.board_short.proofs.unpack_short.Goals as goal
+use Rattle.board_short.proofs.unpack_short.Goals.{In-Accepted}
 
-board : (c : goal.In-Accepted)
+board : (c : In-Accepted)
     → let file = c.args.file.now in
     IsShortBoard file (short_batches_in file)
     × (length c.args.destination.now ≡ tap_words (short_batches_in file))

@@ -5,12 +5,13 @@ use lib.ListN.{length}
 use Rattle.board_short.specs.ShortBoard.{short_file_size}
 use Rattle.board_short.proofs.Files.{word_fits, claim_fits, taps_fit, file_written}
 use Rattle.board_short.proofs.write_file.Goals as goal
+use Rattle.board_short.proofs.write_file.Goals.{After-write, Start}
 
 -- and once it is written, where the destination is as long as it was
-abbrev start : goal.After-write → goal.Start
+abbrev start : After-write → Start
 start w = w
 
-sized : (w : goal.After-write)
+sized : (w : After-write)
     → length w.write.new.1.1.0 ≡ short_file_size (start w).args.taps.now (start w).args.t2
 sized w = w.write.auto.1.1.0 ∙ (start w).requires.1
 

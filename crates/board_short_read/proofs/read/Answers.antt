@@ -12,17 +12,18 @@ use Rattle.board_words.specs.Words.{kind_of, payload_of, word_at}
 use Rattle.board_words.specs.Elements.{element_at}
 use Rattle.board_short_read.proofs.Tests.{accepted, first_whole, of_three, one_at, one_next, three_at, three_next}
 use Rattle.board_short_read.proofs.read.Goals as goal
+use Rattle.board_short_read.proofs.read.Goals.{After-kind, Else-kind-eq3}
 
-kind-is : (k : goal.After-kind) → let a = k.args in
+kind-is : (k : After-kind) → let a = k.args in
     k.kind.result ≡ kind_of (word_at a.file.now a.index)
 kind-is k = k.kind.ensures ∙ ap kind_of k.read-first.ensures
 
-other : (f : goal.Else-kind-eq3) → let a = f.args in
+other : (f : Else-kind-eq3) → let a = f.args in
     eqb (kind_of (word_at a.file.now a.index)) 3 ≡ false
 other f = ne_eqb _ _ (λ e. f.if-kind-eq3.false (kind-is f.before ∙ e))
 
 -- so there are three words
-three : (f : goal.Else-kind-eq3) → let a = f.args in
+three : (f : Else-kind-eq3) → let a = f.args in
     (4 * a.index + 12 ≤ length a.file.now) × (element_at a.file.now a.index < P)
 three f = of_three _ _ (other f) (accepted _ _ f.requires)
 

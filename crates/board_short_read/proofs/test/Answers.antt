@@ -12,12 +12,13 @@ use Rattle.board_words.specs.Words.{kind_of, word_at}
 use Rattle.board_short_read.specs.Reading.{short_test}
 use Rattle.board_short_read.proofs.Tests.{one_test}
 use Rattle.board_short_read.proofs.test.Goals as goal
+use Rattle.board_short_read.proofs.test.Goals.{After-kind, Else-kind-eq3}
 
-kind-is : (k : goal.After-kind) → let a = k.args in
+kind-is : (k : After-kind) → let a = k.args in
     k.kind.result ≡ kind_of (word_at a.file.now a.index)
 kind-is k = k.kind.ensures ∙ ap kind_of k.read.ensures
 
-other : (f : goal.Else-kind-eq3) → let a = f.args in
+other : (f : Else-kind-eq3) → let a = f.args in
     eqb (kind_of (word_at a.file.now a.index)) 3 ≡ false
 other f = ne_eqb _ _ (λ e. f.if-kind-eq3.false (kind-is f.before ∙ e))
 

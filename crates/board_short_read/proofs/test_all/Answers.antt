@@ -5,6 +5,7 @@ use borrow.Author.Tests.{eq-eqb, ne_eqb}
 use Rattle.refusals.proofs.Laws.{unless_refused, unless_passed}
 use Rattle.board_short_read.proofs.Tests.{accepted, next_within, tests_next, tests_stop, tests_end}
 use Rattle.board_short_read.proofs.test_all.Goals as goal
+use Rattle.board_short_read.proofs.test_all.Goals.{In-Accepted}
 
 pub loop-init : goal.loop-init
 loop-init c =
@@ -13,7 +14,7 @@ loop-init c =
     (omega arith, omega arith, rw n)
 
 -- the number of elements that is lent
-abbrev loop-count : goal.In-Accepted → ℕ
+abbrev loop-count : In-Accepted → ℕ
 loop-count t = t.args.count
 
 pub test-of_element-requires : goal.test-of_element-requires

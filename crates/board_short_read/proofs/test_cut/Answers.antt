@@ -14,28 +14,29 @@ use Rattle.board_words.specs.Words.{kind_of, word_at}
 use Rattle.board_short_read.specs.Reading.{three_test, short_test}
 use Rattle.board_short_read.proofs.Tests.{from_third, from_second, rest_test}
 use Rattle.board_short_read.proofs.test_cut.Goals as goal
+use Rattle.board_short_read.proofs.test_cut.Goals.{After-kind, Else-kind-ne1, After-kind-then-index-file}
 
-first_kind : (k : goal.After-kind) → let a = k.args in
+first_kind : (k : After-kind) → let a = k.args in
     k.kind.result ≡ kind_of (word_at a.file.now a.index)
 first_kind k = k.kind.ensures ∙ ap kind_of k.read.ensures
 
 -- what is answered is left to the tests after the first word
-first : (k : goal.After-kind) {o : Answer} → let a = k.args in
+first : (k : After-kind) {o : Answer} → let a = k.args in
     o ≡ three_test a.file.now a.index → o ≡ short_test a.file.now a.index
 first k e = e ∙ sym (rest_test _ _ k.requires.2 k.requires.0)
 
 -- of kind 1, so to those from the second on
-one-kind : (f : goal.Else-kind-ne1) {o : Answer} → let a = f.args in
+one-kind : (f : Else-kind-ne1) {o : Answer} → let a = f.args in
     o ≡ from_second a.file.now a.index → o ≡ short_test a.file.now a.index
 unfolding three_test
 one-kind f e = first f.before (unless_passed _ (eq-eqb _ _ (sym (first_kind f.before) ∙ f.if-kind-ne1.false)) e)
 
-second_kind : (k : goal.After-kind-then-index-file) → let a = k.args in
+second_kind : (k : After-kind-then-index-file) → let a = k.args in
     k.kind-then-index-file.result ≡ kind_of (word_at a.file.now (a.index + 1))
 second_kind k = k.kind-then-index-file.ensures ∙ ap kind_of k.read-then-index-file.ensures
 
 -- the second word is there, so to those from its kind on
-two_words : (k : goal.After-kind-then-index-file) {o : Answer} → let a = k.args in
+two_words : (k : After-kind-then-index-file) {o : Answer} → let a = k.args in
     o ≡ unless (eqb (kind_of (word_at a.file.now (a.index + 1))) 2) (WrongKind (a.index + 1))
     (from_third a.file.now a.index)
     → o ≡ short_test a.file.now a.index

@@ -16,30 +16,31 @@ use Rattle.board_short_words.specs.Short.{is_small}
 use Rattle.board_short_read.specs.Reading.{short_test}
 use Rattle.board_short_read.proofs.Tests.{three_test_lem}
 use Rattle.board_short_read.proofs.test_whole.Goals as goal
+use Rattle.board_short_read.proofs.test_whole.Goals.{After-test-of_element, After-is_small}
 
 -- what is answered is left to the full edition's tests, and then to the value
-abbrev file : goal.After-test-of_element → List ℕ
+abbrev file : After-test-of_element → List ℕ
 file t = t.args.file.now
 
-abbrev index : goal.After-test-of_element → ℕ
+abbrev index : After-test-of_element → ℕ
 index t = t.args.index
 
 abbrev fromValue : List ℕ → ℕ → Answer
 fromValue file j = unless (leb (2 ^ 30) (element_at file j)) (LongElement j) Accepted
 
-left : (t : goal.After-test-of_element) {o : Answer} → o ≡ after (element_test (file t) (index t)) (fromValue (file t) (index t))
+left : (t : After-test-of_element) {o : Answer} → o ≡ after (element_test (file t) (index t)) (fromValue (file t) (index t))
     → o ≡ short_test (file t) (index t)
 left t e = e ∙ sym (three_test_lem _ _ t.requires.1 t.requires.0)
 
-held : (s : goal.After-is_small) {o : Answer} → o ≡ fromValue (file s) (index s)
+held : (s : After-is_small) {o : Answer} → o ≡ fromValue (file s) (index s)
     → o ≡ short_test (file s) (index s)
 held s e =
     left s (after_accepted s.test-of_element.ensures s.enum_told-1.given.1 e)
 
-abbrev value : goal.After-is_small → ℕ
+abbrev value : After-is_small → ℕ
 value s = element_at (file s) (index s)
 
-small_is : (s : goal.After-is_small) → is_small (value s) ≡ s.is_small.result
+small_is : (s : After-is_small) → is_small (value s) ≡ s.is_small.result
 small_is s = ap is_small (sym s.read.ensures) ∙ sym s.is_small.ensures
 
 pub returns-in_default : goal.returns-in_default

@@ -6,16 +6,17 @@ use Rattle.lists.specs.Lists.{cell}
 use Rattle.lists.proofs.Sum.{sum_zero}
 use Rattle.board_short_words.proofs.Words.{is_three, is_bad, most_one, one_bad, count_next, threes_all, bad_all}
 use Rattle.board_short_words.proofs.measure.Goals as goal
+use Rattle.board_short_words.proofs.measure.Goals.{At-loop-i, After-takes_three-threes, After-not_canonical-bad}
 
 -- the elements that are lent
-abbrev list : goal.At-loop-i → List ℕ
+abbrev list : At-loop-i → List ℕ
 list at = at.args.elements.now
 
 -- each counts at most once
-at_most : (c : goal.After-takes_three-threes) → c.takes_three-threes.result ≤ 1
+at_most : (c : After-takes_three-threes) → c.takes_three-threes.result ≤ 1
 at_most c = most_one (cell (list c.before.before.before) c.loop-i.i) _ c.takes_three-threes.ensures
 
-at-most-bad : (c : goal.After-not_canonical-bad) → c.not_canonical-bad.result ≤ 1
+at-most-bad : (c : After-not_canonical-bad) → c.not_canonical-bad.result ≤ 1
 at-most-bad c =
     one_bad (cell (list c.before.before.before.before.before) c.loop-i.i) _ c.not_canonical-bad.ensures
 

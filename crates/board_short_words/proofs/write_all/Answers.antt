@@ -7,9 +7,10 @@ use lib.Seq.{length-sets, take-length}
 use Rattle.lists.specs.Lists.{each}
 use Rattle.board_short_words.proofs.Words.{length_next, next_fits, write_next}
 use Rattle.board_short_words.proofs.write_all.Goals as goal
+use Rattle.board_short_words.proofs.write_all.Goals.{At-loop-i}
 
 -- the elements that are lent
-abbrev list : goal.At-loop-i → List ℕ
+abbrev list : At-loop-i → List ℕ
 list at = at.args.elements.now
 
 pub loop-i-init : goal.loop-i-init

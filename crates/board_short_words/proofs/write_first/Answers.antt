@@ -7,14 +7,15 @@ use native.Mathlib.Omega.{arith}
 use Rattle.board_short_words.specs.Short.{is_small}
 use Rattle.board_short_words.proofs.Words.{one_length, three_length, write_none, write_two}
 use Rattle.board_short_words.proofs.write_first.Goals as goal
+use Rattle.board_short_words.proofs.write_first.Goals.{After-is_small, Then-is_small, Else-is_small}
 
-abbrev element : goal.After-is_small → ℕ
+abbrev element : After-is_small → ℕ
 element s = s.args.element
 
-small : (t : goal.Then-is_small) → is_small (element t.before) ≡ true
+small : (t : Then-is_small) → is_small (element t.before) ≡ true
 small t = sym t.is_small.ensures ∙ t.if-is_small.true
 
-large : (f : goal.Else-is_small) → is_small (element f.before) ≡ false
+large : (f : Else-is_small) → is_small (element f.before) ≡ false
 large f = sym f.is_small.ensures ∙ f.if-is_small.false
 
 pub returns-then-is_small : goal.returns-then-is_small

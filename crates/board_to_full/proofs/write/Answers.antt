@@ -16,12 +16,13 @@ use Rattle.board_short_read.proofs.Round.{length_shorts}
 use Rattle.board_short.specs.ShortBoard.{short_taps_in, short_count_in, short_batches_in}
 use Rattle.board_short.proofs.Round.{board_elements, taps_length}
 use Rattle.board_to_full.proofs.write.Goals as goal
+use Rattle.board_to_full.proofs.write.Goals.{After-count_in-k}
 
-abbrev file : goal.After-count_in-k → List ℕ
+abbrev file : After-count_in-k → List ℕ
 file c = c.args.file.now
 
 -- k is the file's
-k-is : (c : goal.After-count_in-k) → c.count_in-k.result ≡ short_batches_in (file c)
+k-is : (c : After-count_in-k) → c.count_in-k.result ≡ short_batches_in (file c)
 unfolding short_batches_in
 k-is c = c.count_in-k.ensures ∙ ap short_count_in c.read.ensures
 

@@ -12,13 +12,14 @@ use Rattle.board_short_read.specs.Reading.{short_at, next_word, first_word, shor
 use Rattle.board_short_read.proofs.Tests.{first_next}
 use Rattle.board_short_read.proofs.Round.{length_shorts, cell_shorts}
 use Rattle.board_to_full.proofs.write_elements.Goals as goal
+use Rattle.board_to_full.proofs.write_elements.Goals.{At-loop-i, After-read-element}
 
 -- the elements
-abbrev list : goal.At-loop-i → List ℕ
+abbrev list : At-loop-i → List ℕ
 list at = let a = at.args in shorts_at a.file.now 1 a.count
 
 -- the one that is read is the next of them
-read_is : (r : goal.After-read-element) → r.read-element.result.value ≡ cell (list r.before.before) r.loop-i.i
+read_is : (r : After-read-element) → r.read-element.result.value ≡ cell (list r.before.before) r.loop-i.i
 read_is r =
     let a = r.args in
     r.read-element.ensures.0

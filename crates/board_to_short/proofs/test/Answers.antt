@@ -19,27 +19,28 @@ use Rattle.board_edition.proofs.Answers as edition
 use Rattle.board_to_short.specs.ToShort.{to_short_test}
 use Rattle.board_to_short.proofs.Answers.{fromLength, size_is}
 use Rattle.board_to_short.proofs.test.Goals as goal
+use Rattle.board_to_short.proofs.test.Goals.{In-Accepted, After-test_count-of_count, After-count_in-k}
 
-abbrev file : goal.In-Accepted → List ℕ
+abbrev file : In-Accepted → List ℕ
 file m = m.args.file.now
 
-abbrev size : goal.In-Accepted → ℕ
+abbrev size : In-Accepted → ℕ
 size m = m.args.size
 
 -- the mark is right, and word 0's own tests are left
-marked : (m : goal.In-Accepted) {o : Answer}
+marked : (m : In-Accepted) {o : Answer}
     → o ≡ after (count_test (word_at (file m) 0)) (fromLength (file m) (size m)) → o ≡ to_short_test (file m) (size m)
 unfolding to_short_test
 marked m e = after_accepted m.test-of_edition.ensures m.enum_told-1.given.1 e
 
-of-count : (t : goal.After-test_count-of_count) → t.test_count-of_count.result ≡ count_test (word_at (file t.before.before) 0)
+of-count : (t : After-test_count-of_count) → t.test_count-of_count.result ≡ count_test (word_at (file t.before.before) 0)
 of-count t = t.test_count-of_count.ensures ∙ ap count_test t.read-word.ensures
 
-counted : (c : goal.After-count_in-k) {o : Answer} → o ≡ fromLength (file c) (size c) → o ≡ to_short_test (file c) (size c)
+counted : (c : After-count_in-k) {o : Answer} → o ≡ fromLength (file c) (size c) → o ≡ to_short_test (file c) (size c)
 counted c e =
     marked c (after_accepted (of-count c.before.before.before) c.enum_told-in-Accepted-of_count-1.given.1 e)
 
-batches : (c : goal.After-count_in-k) → batches_in (file c) ≡ c.count_in-k.result
+batches : (c : After-count_in-k) → batches_in (file c) ≡ c.count_in-k.result
 unfolding batches_in
 batches c = ap count_in (sym c.read-word.ensures) ∙ sym c.count_in-k.ensures
 

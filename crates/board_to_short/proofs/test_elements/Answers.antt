@@ -13,25 +13,26 @@ use Rattle.board_words.proofs.Round.{length_elements, cell_elements}
 use Rattle.board_short_words.specs.Short.{is_small, all_bytes_needed}
 use Rattle.board_short_words.proofs.Words.{is_three, most_one, count_next, threes_all}
 use Rattle.board_to_short.proofs.test_elements.Goals as goal
+use Rattle.board_to_short.proofs.test_elements.Goals.{At-loop-i, After-takes_three-threes, After-loop-i}
 
 -- the file, the number of its elements, and these
-abbrev file : goal.At-loop-i → List ℕ
+abbrev file : At-loop-i → List ℕ
 file at = at.args.file.now
 
-abbrev count : goal.At-loop-i → ℕ
+abbrev count : At-loop-i → ℕ
 count at = at.args.count
 
-abbrev list : goal.At-loop-i → List ℕ
+abbrev list : At-loop-i → List ℕ
 list at = elements_at (file at) 1 (count at)
 
-counted : (c : goal.After-takes_three-threes)
+counted : (c : After-takes_three-threes)
     → c.takes_three-threes.result ≡ choose (is_small (cell (list c) c.loop-i.i)) 0 1
 counted c =
     c.takes_three-threes.ensures
     ∙ ap (λ x. choose (is_small x) 0 1)
     (c.read.ensures ∙ sym (cell_elements (file c) 1 (count c) c.loop-i.i (omega arith)))
 
-at_most : (c : goal.After-takes_three-threes) → c.takes_three-threes.result ≤ 1
+at_most : (c : After-takes_three-threes) → c.takes_three-threes.result ≤ 1
 at_most c = most_one (cell (list c) c.loop-i.i) _ (counted c)
 
 pub loop-i-init : goal.loop-i-init
@@ -70,12 +71,12 @@ loop-i-preserved c =
     )
 
 -- all elements are accepted, and the length that they need is left
-all : (l : goal.After-loop-i) → Accepted ≡ elements_test (file l.before) 1 (count l.before)
+all : (l : After-loop-i) → Accepted ≡ elements_test (file l.before) 1 (count l.before)
 all l =
     let none : count l.before - l.loop-i.i ≡ 0 = omega arith in
     sym (sym l.loop-i.invariant.3 ∙ rw none (tests_none _ _))
 
-size_is : (l : goal.After-loop-i)
+size_is : (l : After-loop-i)
     → 4 + 4 * count l.before + 8 * l.loop-i.threes ≡ 4 + all_bytes_needed (list l.before)
 size_is l =
     let whole = length_elements (file l.before) 1 (count l.before) in

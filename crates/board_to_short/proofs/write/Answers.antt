@@ -16,17 +16,18 @@ use Rattle.board_short_words.proofs.Words.{all_needed}
 use Rattle.board_short.specs.ShortBoard.{short_count_word, short_file_of, packed_short}
 use Rattle.board_to_short.proofs.Answers.{size_is}
 use Rattle.board_to_short.proofs.write.Goals as goal
+use Rattle.board_to_short.proofs.write.Goals.{After-count_in-k}
 
-abbrev file : goal.After-count_in-k → List ℕ
+abbrev file : After-count_in-k → List ℕ
 file c = c.args.file.now
 
 -- k is the file's
-k-is : (c : goal.After-count_in-k) → c.count_in-k.result ≡ batches_in (file c)
+k-is : (c : After-count_in-k) → c.count_in-k.result ≡ batches_in (file c)
 unfolding batches_in
 k-is c = c.count_in-k.ensures ∙ ap count_in c.read.ensures
 
 -- what the destination has room for
-room : (c : goal.After-count_in-k)
+room : (c : After-count_in-k)
     → length c.args.destination.now
     ≡ 4 + all_bytes_needed (elements_at (file c) 1 (element_count (batches_in (file c))))
 room c = c.requires.1 ∙ sym (size_is (file c))

@@ -11,18 +11,19 @@ use Rattle.board_words.proofs.Round.{length_elements, cell_elements}
 use Rattle.board_short_words.specs.Short.{short_words}
 use Rattle.board_short_words.proofs.Words.{length_next, next_fits, write_next, all_needed}
 use Rattle.board_to_short.proofs.write_elements.Goals as goal
+use Rattle.board_to_short.proofs.write_elements.Goals.{At-loop-i, In-loop-i, After-read}
 
 -- the elements
-abbrev list : goal.At-loop-i → List ℕ
+abbrev list : At-loop-i → List ℕ
 list at = let a = at.args in elements_at a.file.now 1 a.count
 
-within : (l : goal.In-loop-i) → l.loop-i.i < length (list l.before)
+within : (l : In-loop-i) → l.loop-i.i < length (list l.before)
 within l =
     let a = l.args in
     omega (arith, length_elements a.file.now 1 a.count)
 
 -- the one that is read is the next of them
-read_is : (r : goal.After-read) → r.read.result ≡ cell (list r.before.before) r.loop-i.i
+read_is : (r : After-read) → r.read.result ≡ cell (list r.before.before) r.loop-i.i
 read_is r =
     let a = r.args in
     r.read.ensures ∙ sym (cell_elements a.file.now 1 a.count r.loop-i.i (omega arith))

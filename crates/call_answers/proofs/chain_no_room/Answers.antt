@@ -9,9 +9,10 @@ use Rattle.numbers.proofs.Laws.{tap_permitted, tap_refused}
 use Rattle.refusals.proofs.Laws.{unless_refused, unless_passed, after_refused, after_accepted}
 use Rattle.call_answers.specs.Calls.{chain_no_room}
 use Rattle.call_answers.proofs.chain_no_room.Goals as goal
+use Rattle.call_answers.proofs.chain_no_room.Goals.{In-Accepted}
 
 -- the length of the taps, once the table is accepted
-abbrev words : goal.In-Accepted → ℕ
+abbrev words : In-Accepted → ℕ
 words told = length told.args.taps.now
 
 pub returns-in_default : goal.returns-in_default

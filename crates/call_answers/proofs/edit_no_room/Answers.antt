@@ -16,12 +16,13 @@ use Rattle.refusals.proofs.Laws.{unless_refused, unless_passed, after_refused, a
 use Rattle.check_trace.proofs.Answers.{opened-by}
 use Rattle.call_answers.specs.Calls.{edit_no_room}
 use Rattle.call_answers.proofs.edit_no_room.Goals as goal
+use Rattle.call_answers.proofs.edit_no_room.Goals.{In-Accepted}
 
 pub returns-in_default : goal.returns-in_default
 unfolding edit_no_room
 returns-in_default c = after_refused _ c.test_opening-opening.ensures.0 c.enum_told-in_default-1.given.1
 
-opened : (c : goal.In-Accepted) {o : Answer} → let a = c.args in
+opened : (c : In-Accepted) {o : Answer} → let a = c.args in
     o ≡ unless (leb a.tap.0 (3 * trace_word_batches (length a.trace.now))) NoSuchTap (Refused DestinationLength)
     → o ≡ edit_no_room a.table.now a.trace.now a.c a.tap.0
 unfolding edit_no_room

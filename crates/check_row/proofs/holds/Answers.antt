@@ -6,20 +6,21 @@ use Rattle.check_row.proofs.Holding.{from_one, to_last, this_row, next_row, hold
 use Rattle.check_row.proofs.Holding.{holds_starts}
 use Rattle.check_row.proofs.Holding.{holds_goes_on, holds_ends, holds_joins, holds_claims}
 use Rattle.check_row.proofs.holds.Goals as goal
+use Rattle.check_row.proofs.holds.Goals.{Else-constraint-lt-STARTS, Start, Else-constraint-lt-GOES_ON, Else-constraint-lt-ENDS, Else-constraint-lt-JOINS, Else-constraint-lt-CLAIMS}
 
-abbrev entry-2 : goal.Else-constraint-lt-STARTS → goal.Start
+abbrev entry-2 : Else-constraint-lt-STARTS → Start
 entry-2 e = e
 
-abbrev entry-3 : goal.Else-constraint-lt-GOES_ON → goal.Start
+abbrev entry-3 : Else-constraint-lt-GOES_ON → Start
 entry-3 e = entry-2 e.before
 
-abbrev entry-4 : goal.Else-constraint-lt-ENDS → goal.Start
+abbrev entry-4 : Else-constraint-lt-ENDS → Start
 entry-4 e = entry-3 e.before
 
-abbrev entry-5 : goal.Else-constraint-lt-JOINS → goal.Start
+abbrev entry-5 : Else-constraint-lt-JOINS → Start
 entry-5 e = entry-4 e.before
 
-abbrev entry-6 : goal.Else-constraint-lt-CLAIMS → goal.Start
+abbrev entry-6 : Else-constraint-lt-CLAIMS → Start
 entry-6 e = entry-5 e.before
 
 pub overflow_sub-j : goal.overflow_sub-j

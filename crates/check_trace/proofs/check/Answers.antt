@@ -10,6 +10,7 @@ use Rattle.check_steps.proofs.Made.{back_is}
 use Rattle.check_trace.specs.Answers.{check_test, check_answer}
 use Rattle.check_trace.proofs.Answers.{Opened, opened-by, walked}
 use Rattle.check_trace.proofs.check.Goals as goal
+use Rattle.check_trace.proofs.check.Goals.{In-Accepted}
 
 pub returns-in_default : goal.returns-in_default
 unfolding check_answer check_test
@@ -18,7 +19,7 @@ returns-in_default c =
     tests_turned_back (after_refused _ (sym c.refusal.ensures ∙ tested) refl) _ refl
 
 -- what is known then
-known : (c : goal.In-Accepted) → let a = c.args in
+known : (c : In-Accepted) → let a = c.args in
     let k = trace_word_batches (length a.trace.now) in
     Opened a.table.now a.trace.now a.c k × (k < 2 ^ 32)
 known c = opened-by _ _ _ c.test_opening-opening.ensures.0 c.enum_told-1.given.1

@@ -15,6 +15,7 @@ use Rattle.check_constraints.specs.Constraints.{between}
 use Rattle.check_constraints.proofs.Families.{in_range, under, over}
 use Rattle.check_trace.specs.Answers.{opening_test}
 use Rattle.check_trace.proofs.test_opening.Goals as goal
+use Rattle.check_trace.proofs.test_opening.Goals.{In-Permitted}
 
 pub returns-in_default : goal.returns-in_default
 unfolding opening_test
@@ -30,10 +31,10 @@ returns-in_default-trace_batches c =
       c.test_and_ready-of_table.ensures.1,
     )
 
-abbrev words : goal.In-Permitted → ℕ
+abbrev words : In-Permitted → ℕ
 words c = length c.args.trace.now
 
-sized : (c : goal.In-Permitted) {o : Answer} → let a = c.args in
+sized : (c : In-Permitted) {o : Answer} → let a = c.args in
     o ≡ unless (between 1 (trace_word_batches (words c)) a.c) ClaimBatches Accepted
     → o ≡ opening_test a.table.now a.trace.now a.c
 unfolding opening_test

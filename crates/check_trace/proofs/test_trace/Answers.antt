@@ -7,13 +7,14 @@ use Rattle.check_trace.specs.Answers.{trace_test}
 use Rattle.check_trace.proofs.Answers.{fromWords, canonical-words, walked}
 use Rattle.check_trace.proofs.Answers.{claim-refused, claim-passed, words-refused, words-passed}
 use Rattle.check_trace.proofs.test_trace.Goals as goal
+use Rattle.check_trace.proofs.test_trace.Goals.{In-Accepted}
 
 pub returns-in_default : goal.returns-in_default
 unfolding trace_test
 returns-in_default c =
     tests_turned_back (claim-refused _ _ _ _ _ c.test_claim-of_claim.ensures c.refusal.ensures refl) _ refl
 
-claimed : (c : goal.In-Accepted) {o : Answer} → let a = c.args in
+claimed : (c : In-Accepted) {o : Answer} → let a = c.args in
     o ≡ fromWords a.table.now a.trace.now a.claim.now a.c a.k
     → o ≡ trace_test a.table.now a.trace.now a.claim.now a.c a.k
 unfolding trace_test

@@ -128,5 +128,5 @@ returns-then-not-holds c =
     l.tests
     (omega arith)
     (sym c.applies.ensures ∙ c.if-applies.true)
-    (sym c.holds.ensures ∙ not-true _ c.if-not-holds.true))
+    (sym c.holds.ensures ∙ c.if-not-holds.true))
     ∙ l.invariant.4

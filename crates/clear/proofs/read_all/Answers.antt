@@ -11,6 +11,7 @@ use Rattle.io.specs.Counts.{clamp_len}
 use Rattle.clear.specs.declared.Input.{Input}
 use Rattle.clear.specs.Reading.{ended_by, Within}
 use Rattle.clear.proofs.read_all.Goals as goal
+use Rattle.clear.proofs.read_all.Goals.{After-count-more, At-loop-done, Else-more-eq0}
 
 -- what a call answered, as a local holds it
 abbrev held : ℤ → ℤ
@@ -31,7 +32,7 @@ within-ended r got done most is low = subst (λ x. Within x most) (sym is) (boun
     bound (pos k) = low
     bound (negsuc k) = tt
 
-abbrev head : goal.After-count-more → goal.At-loop-done
+abbrev head : After-count-more → At-loop-done
 head c = c
 
 pub shape_of-buf-then-more-eq0 : goal.shape_of-buf-then-more-eq0
@@ -46,7 +47,7 @@ returns-then-more-eq0 c =
     within-ended c.ended.result (held r.result) l.done (length r.last.0) c.ended.ensures low
 
 -- what a turn read lies in the room that was left
-more : (c : goal.Else-more-eq0) →
+more : (c : Else-more-eq0) →
     let l = (head c.before).loop in
     c.count-more.result ≤ length l.buf - l.done
 more c =

@@ -8,18 +8,19 @@ use lib.ListN.{length, drop, length-take}
 use Rattle.clear_answer.specs.Clearing.{table_bytes, longest, unprepared, short, long}
 use Rattle.clear_answer.proofs.Stages.{rest_file, is_table, file_judged, table_turned_back}
 use Rattle.clear_answer.proofs.clear.Goals as goal
+use Rattle.clear_answer.proofs.clear.Goals.{After-prepare}
 
-abbrev input : goal.After-prepare → List ℕ
+abbrev input : After-prepare → List ℕ
 input p = p.args.input.now
 
-low : (p : goal.After-prepare) → table_bytes ≤ length (input p)
+low : (p : After-prepare) → table_bytes ≤ length (input p)
 low p = p.if-input-lt-TABLE_BYTES.false
 
-high : (p : goal.After-prepare) → length (input p) ≤ longest
+high : (p : After-prepare) → length (input p) ≤ longest
 high p = p.if-input-gt-LONGEST.false
 
 -- Prepare's answer, and the room that it was lent
-abbrev room_is : (p : goal.After-prepare) → p.table_room-table.result ≡ unprepared
+abbrev room_is : (p : After-prepare) → p.table_room-table.result ≡ unprepared
 room_is p = p.table_room-table.ensures
 
 pub returns-then-input-lt-TABLE_BYTES : goal.returns-then-input-lt-TABLE_BYTES

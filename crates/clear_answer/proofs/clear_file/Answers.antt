@@ -17,39 +17,40 @@ use Rattle.clear_answer.specs.Clearing.{Taps}
 use Rattle.clear_answer.proofs.Stages.{length_part, part_again, part_within, length_again}
 use Rattle.clear_answer.proofs.Stages.{file_taps, file_board, file_cleared, file_refused}
 use Rattle.clear_answer.proofs.clear_file.Goals as goal
+use Rattle.clear_answer.proofs.clear_file.Goals.{After-unpack, After-tap_room-taps, In-Accepted-2}
 
-abbrev table : goal.After-unpack → List ℕ
+abbrev table : After-unpack → List ℕ
 table u = u.args.table.now
 
-abbrev file : goal.After-unpack → List ℕ
+abbrev file : After-unpack → List ℕ
 file u = u.args.file.now
 
-abbrev size : goal.After-unpack → ℕ
+abbrev size : After-unpack → ℕ
 size u = u.tap_words-size.result
 
-abbrev room : goal.After-unpack → List ℕ
+abbrev room : After-unpack → List ℕ
 room u = u.tap_room-taps.result
 
-abbrev last : goal.After-unpack → List ℕ
+abbrev last : After-unpack → List ℕ
 last u = u.unpack.new.1.0
 
-abbrev kept : (u : goal.After-unpack) → length (last u) ≡ length (take (size u) (room u))
+abbrev kept : (u : After-unpack) → length (last u) ≡ length (take (size u) (room u))
 kept u = u.unpack.auto.1.0
 
-room_is : (u : goal.After-unpack) → size u ≡ length (file u) / 12 - 4
+room_is : (u : After-unpack) → size u ≡ length (file u) / 12 - 4
 room_is u = u.tap_words-size.ensures
 
-fits-room : (c : goal.After-tap_room-taps) → c.tap_words-size.result ≤ length c.tap_room-taps.result
+fits-room : (c : After-tap_room-taps) → c.tap_words-size.result ≤ length c.tap_room-taps.result
 fits-room c = omega (arith, c.tap_words-size.ensures, c.tap_room-taps.ensures)
 
-fits : (u : goal.After-unpack) → size u ≤ length (room u)
+fits : (u : After-unpack) → size u ≤ length (room u)
 fits u = fits-room u.before.before
 
-answered : (u : goal.After-unpack) → u.unpack.result ≡ unpack_answer (file u) (size u)
+answered : (u : After-unpack) → u.unpack.result ≡ unpack_answer (file u) (size u)
 answered u = u.unpack.ensures.0 ∙ ap (unpack_answer (file u)) (length_part (room u) (last u) (size u) (fits u))
 
 -- the part that is lent on holds the file's taps
-taps-there : (u : goal.After-unpack) (d : Digest) → u.unpack.result ≡ Accepted d
+taps-there : (u : After-unpack) (d : Digest) → u.unpack.result ≡ Accepted d
     → take (size u) (last u ++ drop (size u) (room u)) ≡ taps_in (file u)
 unfolding unpack_leaves
 taps-there u d q =
@@ -58,10 +59,10 @@ taps-there u d q =
     ∙ u.unpack.ensures.1
     ∙ ap (λ a. leaves a (taps_in (file u)) (take (size u) (room u))) accepted
 
-abbrev claim : goal.In-Accepted-2 → Digest
+abbrev claim : In-Accepted-2 → Digest
 claim m = m.claim-1.given.0.0
 
-accepted : (m : goal.In-Accepted-2) → m.unpack.result ≡ Accepted (claim m)
+accepted : (m : In-Accepted-2) → m.unpack.result ≡ Accepted (claim m)
 accepted m = m.claim-1.given.1
 
 pub slice_bounds-taps-end : goal.slice_bounds-taps-end

@@ -11,36 +11,37 @@ use Rattle.check_trace.specs.Answers.{check_answer}
 use Rattle.clear_answer.proofs.Stages.{length_part, part_again, part_within, length_again}
 use Rattle.clear_answer.proofs.Stages.{never_refused, taps_cleared}
 use Rattle.clear_answer.proofs.clear_taps.Goals as goal
+use Rattle.clear_answer.proofs.clear_taps.Goals.{After-build, After-trace_room-rows}
 
-abbrev table : goal.After-build → List ℕ
+abbrev table : After-build → List ℕ
 table b = b.args.table.now
 
-abbrev taps : goal.After-build → List ℕ
+abbrev taps : After-build → List ℕ
 taps b = b.args.taps.now
 
 abbrev cells : List ℕ → ℕ
 cells w = 384 * (length w / 12)
 
-abbrev size : goal.After-build → ℕ
+abbrev size : After-build → ℕ
 size b = cells (taps b)
 
-abbrev room : goal.After-build → List ℕ
+abbrev room : After-build → List ℕ
 room b = b.trace_room-rows.result
 
-abbrev last : goal.After-build → List ℕ
+abbrev last : After-build → List ℕ
 last b = b.build.new.1.1.0
 
-abbrev kept : (b : goal.After-build) → length (last b) ≡ length (take (size b) (room b))
+abbrev kept : (b : After-build) → length (last b) ≡ length (take (size b) (room b))
 kept b = b.build.auto.1.1.0
 
-fits-room : (c : goal.After-trace_room-rows)
+fits-room : (c : After-trace_room-rows)
     → cells c.args.taps.now ≤ length c.trace_room-rows.result
 fits-room c = omega (arith, c.requires.1.few, c.trace_room-rows.ensures)
 
-fits : (b : goal.After-build) → size b ≤ length (room b)
+fits : (b : After-build) → size b ≤ length (room b)
 fits b = fits-room b.before.before
 
-part-size : (b : goal.After-build) → length (take (size b) (room b)) ≡ size b
+part-size : (b : After-build) → length (take (size b) (room b)) ≡ size b
 part-size b = length_part (room b) (last b) (size b) (fits b)
 
 pub overflow_mul-cells : goal.overflow_mul-cells

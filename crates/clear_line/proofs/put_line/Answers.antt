@@ -7,20 +7,21 @@ use native.Mathlib.Omega.{arith}
 use lib.ListN.{length, length-set}
 use Rattle.clear_line.proofs.Fields.{length_fields, length_line, line_bytes}
 use Rattle.clear_line.proofs.put_line.Goals as goal
+use Rattle.clear_line.proofs.put_line.Goals.{After-slice_known-3-1, After-put_word-start, Start}
 
-abbrev word : goal.After-slice_known-3-1 → goal.After-put_word-start
+abbrev word : After-slice_known-3-1 → After-put_word-start
 word c = c
 
-abbrev start : goal.After-slice_known-3-1 → goal.Start
+abbrev start : After-slice_known-3-1 → Start
 start c = (word c).before.before.before.before.before
 
 -- there is room for the line's end
-room : (c : goal.After-slice_known-3-1) → c.put_numbers-end.result + 1 ≤ length (start c).args.out.now
+room : (c : After-slice_known-3-1) → c.put_numbers-end.result + 1 ≤ length (start c).args.out.now
 room c =
     let fields = length_fields (start c).args.numbers.now in
     omega (arith, c.put_numbers-end.ensures.0, (word c).put_word.ensures.0, fields, (start c).requires)
 
-kept : (c : goal.After-slice_known-3-1)
+kept : (c : After-slice_known-3-1)
     → length c.put_numbers-end.new.1.0 ≡ length (start c).args.out.now
 kept c = c.put_numbers-end.auto.1.0 ∙ (word c).put_word.auto.1.0
 

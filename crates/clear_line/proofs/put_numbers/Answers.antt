@@ -5,9 +5,10 @@ use Rattle.clear_line.specs.Line.{decimal}
 use Rattle.clear_line.proofs.Decimal.{length_decimal}
 use Rattle.clear_line.proofs.Fields.{same_size, place_below, written_more, written_none, written_all}
 use Rattle.clear_line.proofs.put_numbers.Goals as goal
+use Rattle.clear_line.proofs.put_numbers.Goals.{In-loop-i}
 
 -- there is room for what a turn writes
-room : (turn : goal.In-loop-i) (n : ℕ)
+room : (turn : In-loop-i) (n : ℕ)
     → turn.loop-i.end + 1 + length (decimal n) ≤ length turn.loop-i.out
 room turn n =
     let args = turn.args in

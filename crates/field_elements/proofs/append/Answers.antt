@@ -9,8 +9,9 @@ use Rattle.field.specs.Field.{P}
 use Rattle.field.specs.MontgomeryHelpers.{half}
 use Rattle.field.proofs.Folding.{Digit, digit, kept_low, upper_low, fold_low, append_law}
 use Rattle.field_elements.proofs.append.Goals as goal
+use Rattle.field_elements.proofs.append.Goals.{Start}
 
-module _ (c : goal.Start) where
+module _ (c : Start) where
   abbrev word : ℕ
   word = c.args.word
 

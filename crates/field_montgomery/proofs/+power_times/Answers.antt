@@ -8,32 +8,21 @@ use Rattle.field.proofs.Power.{times_one, times_even, times_odd}
 use Rattle.field.proofs.Forms.{divided_lt}
 use Rattle.field_montgomery.proofs.+power_times.Goals as goal
 
-abbrev μ-power-times : Measures 0 power-times-kinds.ps ℕ
-μ-power-times κs a = a.1.1.0
-
-abbrev power-times-at : ℕ → In 0 power-times-kinds.ps
-power-times-at t =
-    and 0 power-times-kinds.ps (is 0 power-times-kinds.ps μ-power-times t) power-times.Pre
-
-abbrev power-times-below : ℕ → In 0 power-times-kinds.ps
-power-times-below t =
-    and 0 power-times-kinds.ps (falls 0 power-times-kinds.ps ◌<◌ μ-power-times t) power-times.Pre
-
 pub returns-then-e-eq0 : goal.returns-then-e-eq0
 returns-then-e-eq0 t c =
     let start = c.args in
     let acc = divided start.acc in
     let x = divided start.x in (
       sym (ap (λ e. mul acc (power x e)) c.if-e-eq0.true ∙ times_one acc x (divided_lt start.acc)),
-      c.requires.1.0,
+      c.requires.0,
     )
 
 pub times-square-requires : goal.times-square-requires
-times-square-requires t c = (c.requires.1.1, c.requires.1.1, c.requires.1.2)
+times-square-requires t c = (c.requires.1, c.requires.1, c.requires.2)
 
 pub power_times-requires : goal.power_times-requires
 power_times-requires t c =
-    let pre = c.requires.1 in (omega arith, (pre.0, c.times-square.ensures.2, pre.2))
+    let pre = c.requires in (omega arith, (pre.0, c.times-square.ensures.2, pre.2))
 
 pub returns-then-e-eq0-2 : goal.returns-then-e-eq0-2
 returns-then-e-eq0-2 t c =
@@ -44,11 +33,11 @@ returns-then-e-eq0-2 t c =
     )
 
 pub times-requires : goal.times-requires
-times-requires t c = c.requires.1
+times-requires t c = c.requires
 
 pub power_times-requires-2 : goal.power_times-requires-2
 power_times-requires-2 t c =
-    (omega arith, (c.times.ensures.2, c.times-square.ensures.2, c.requires.1.2))
+    (omega arith, (c.times.ensures.2, c.times-square.ensures.2, c.requires.2))
 
 pub returns : goal.returns
 returns t c =

@@ -11,6 +11,6 @@ returns c =
     let r = c.wrapping_add_u64.result in
     let x = c.args.x in
     let e : r ≡ (x + P) % 2 ^ 64 % P =
-    settled x mask.result r (omega arith) c.requires (omega arith) mask.ensures
-    c.wrapping_add_u64.ensures in
+    settled x mask.result r (omega arith) c.requires (omega arith) mask.ensures.value
+    c.wrapping_add_u64.ensures.value in
     (e, omega (arith, e))

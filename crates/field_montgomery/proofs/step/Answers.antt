@@ -5,13 +5,14 @@ use Rattle.field.specs.Field.{P}
 use Rattle.field.specs.MontgomeryHelpers.{half}
 use Rattle.field.proofs.Steps.{low_product, unwrapped, above_zero, step_law}
 use Rattle.field_montgomery.proofs.step.Goals as goal
+use Rattle.field_montgomery.proofs.step.Goals.{After-wrapping_sub_u64, Start}
 
 pub overflow_mul-t : goal.overflow_mul-t
 overflow_mul-t c = omega (arith, low_product c.args.t c.args.q c.requires.1)
 
 -- the difference, without its wrap
-module _ (c : goal.After-wrapping_sub_u64) where
-  abbrev start : goal.Start
+module _ (c : After-wrapping_sub_u64) where
+  abbrev start : Start
   start = c.before
 
   abbrev y : ℕ
@@ -22,10 +23,10 @@ module _ (c : goal.After-wrapping_sub_u64) where
 
   difference : (c.wrapping_sub_u64.result + P) % 2 ^ 64 ≡ y + (P - w)
   difference =
-      unwrapped c.wrapping_sub_u64.result y w (omega arith) (omega (arith, start.pre.0)) (omega arith)
+      unwrapped c.wrapping_sub_u64.result y w (omega arith) (omega (arith, start.requires.0)) (omega arith)
       (ap (λ z. (c.wrapping_sub_u64.result + z) % 2 ^ 64)
-      (sym (low_product start.args.t start.args.q start.pre.1))
-      ∙ c.wrapping_sub_u64.ensures)
+      (sym (low_product start.args.t start.args.q start.requires.1))
+      ∙ c.wrapping_sub_u64.ensures.value)
 
 pub settle-requires : goal.settle-requires
 settle-requires c =

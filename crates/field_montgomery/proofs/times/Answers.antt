@@ -6,12 +6,13 @@ use Rattle.field.specs.MontgomeryHelpers.{times_word}
 use Rattle.field.proofs.Gathering.{first_word, second_word, whole_form}
 use Rattle.field.proofs.Forms.{times_divided}
 use Rattle.field_montgomery.proofs.times.Goals as goal
+use Rattle.field_montgomery.proofs.times.Goals.{After-gather-first, After-gather}
 
 -- the word after each digit
-first : (c : goal.After-gather-first) → c.gather-first.result ≡ form_word c.args.a c.args.b 1
+first : (c : After-gather-first) → c.gather-first.result ≡ form_word c.args.a c.args.b 1
 first c = first_word c.args.a c.args.b (omega arith) _ c.gather-first.ensures.0
 
-second : (c : goal.After-gather)
+second : (c : After-gather)
     → c.gather.result ≡ form_word c.args.a c.args.b 2
 second c =
     let start = c.args in

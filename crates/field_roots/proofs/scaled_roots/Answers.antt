@@ -12,11 +12,12 @@ use Rattle.field_words.proofs.Laws.{same_canonical}
 use Rattle.field_products.proofs.Products.{products_canonical}
 use Rattle.field_roots.proofs.Powers.{left, roots_of_powers}
 use Rattle.field_roots.proofs.scaled_roots.Goals as goal
+use Rattle.field_roots.proofs.scaled_roots.Goals.{Start}
 
 pub quotient-q-requires : goal.quotient-q-requires
 quotient-q-requires c = c.requires.0 0 (omega arith)
 
-twelve : (start : goal.Start) → length start.args.t1 ≡ 12
+twelve : (start : Start) → length start.args.t1 ≡ 12
 twelve start = search rules
 
 pub third_powers-acc-requires : goal.third_powers-acc-requires

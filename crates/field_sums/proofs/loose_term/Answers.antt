@@ -8,8 +8,9 @@ use Rattle.field_sums.specs.TermHelpers.{Loose}
 use Rattle.field_sums.proofs.Terms as terms
 use Rattle.field_sums.proofs.Terms.{Bounds, below_of, above_of, loose_low, loose_is}
 use Rattle.field_sums.proofs.loose_term.Goals as goal
+use Rattle.field_sums.proofs.loose_term.Goals.{Start}
 
-module _ (c : goal.Start) where
+module _ (c : Start) where
   -- every need is linear in the four products
   bounds : Bounds c.args.word c.args.low c.args.high c.args.x
   bounds = terms.bounds _ _ _ _ c.requires.0

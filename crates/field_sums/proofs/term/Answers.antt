@@ -4,9 +4,10 @@ use Rattle.std.proofs.Common.{◌≡◌, ◌+◌, ◌%◌, ◌^◌, ap, ◌∙�
 use Rattle.field.specs.Field.{P}
 use Rattle.field_sums.proofs.Terms.{loose_same}
 use Rattle.field_sums.proofs.term.Goals as goal
+use Rattle.field_sums.proofs.term.Goals.{After-wrapping_sub_u64}
 
 -- the difference, without its wrap
-difference : (c : goal.After-wrapping_sub_u64)
+difference : (c : After-wrapping_sub_u64)
     → (c.wrapping_sub_u64.result + P) % 2 ^ 64 ≡ c.loose_term-loose.result
 difference c = c.wrapping_sub_u64.ensures
 

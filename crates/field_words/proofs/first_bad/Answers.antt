@@ -12,7 +12,7 @@ pub returns-then-not-is_canonical : goal.returns-then-not-is_canonical
 returns-then-not-is_canonical c =
     let turn = c.loop-i in
     stops _ _ (omega arith) turn.invariant.2
-    (ltb-false _ _ (sym c.is_canonical.ensures ∙ not-true _ c.if-not-is_canonical.true))
+    (ltb-false _ _ (sym c.is_canonical.ensures ∙ c.if-not-is_canonical.true))
 
 pub loop-i-preserved : goal.loop-i-preserved
 loop-i-preserved c =
@@ -20,7 +20,7 @@ loop-i-preserved c =
       turn.invariant.0,
       omega arith,
       below_more _ _ turn.invariant.2
-          (ltb-true _ _ (sym c.is_canonical.ensures ∙ not-false _ c.if-not-is_canonical.false)),
+          (ltb-true _ _ (sym c.is_canonical.ensures ∙ c.if-not-is_canonical.false)),
     )
 
 pub returns : goal.returns

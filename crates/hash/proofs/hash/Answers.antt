@@ -13,16 +13,17 @@ use Rattle.hash.proofs.CodeStates.{canonical_state}
 use Rattle.hash.proofs.CodeInput.{two_taps, two_taps_state}
 use borrow.Author.Rules.{rules}
 use Rattle.hash.proofs.hash.Goals as goal
+use Rattle.hash.proofs.hash.Goals.{Start, In-Accepted}
 
 pub returns-in_default : goal.returns-in_default
 unfolding hash_answer
 returns-in_default c = state_turned_back c.test_hash-answer.ensures.0 _ c.refusal.ensures
 
-eight : (start : goal.Start) → length start.args.t2 ≡ 8
+eight : (start : Start) → length start.args.t2 ≡ 8
 eight start = search rules
 
 -- where the tests have passed, what they say of the table and the words, and M is left made ready
-inputs : (c : goal.In-Accepted) → let start = c.args in
+inputs : (c : In-Accepted) → let start = c.args in
     HashInputs start.table.now start.t2
 inputs c = hash-inputs _ _ (sym c.test_hash-answer.ensures.0 ∙ c.enum_told-1.given.1)
 

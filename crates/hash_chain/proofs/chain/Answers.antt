@@ -12,13 +12,14 @@ use Rattle.hash.specs.Hash.{chain as chain-of}
 use Rattle.hash_chain.specs.Answers.{chain_answer}
 use Rattle.hash_chain.proofs.Answers.{ChainInputs, chain-inputs, digest-take}
 use Rattle.hash_chain.proofs.chain.Goals as goal
+use Rattle.hash_chain.proofs.chain.Goals.{In-Accepted}
 
 pub returns-in_default : goal.returns-in_default
 unfolding chain_answer
 returns-in_default c = digest_turned_back c.test_chain-answer.ensures.0 _ c.refusal.ensures
 
 -- where the tests have passed, what they say of the table and the taps, and M is left made ready
-inputs : (c : goal.In-Accepted) → let start = c.args in
+inputs : (c : In-Accepted) → let start = c.args in
     ChainInputs start.table.now start.taps.now (tap_word_batches (length start.taps.now))
 inputs c = chain-inputs _ _ (sym c.test_chain-answer.ensures.0 ∙ c.enum_told-1.given.1)
 

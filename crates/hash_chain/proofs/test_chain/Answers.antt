@@ -13,9 +13,10 @@ use Rattle.refusals.specs.Answers.{unless}
 use Rattle.refusals.proofs.Laws.{unless_refused, unless_passed, after_refused, after_accepted}
 use Rattle.hash_chain.specs.Answers.{chain_test}
 use Rattle.hash_chain.proofs.test_chain.Goals as goal
+use Rattle.hash_chain.proofs.test_chain.Goals.{After-tap_batches, After-first_bad-bad}
 
 -- there the table is accepted, and what is answered is left to the taps' length and words
-accepted : (c : goal.After-tap_batches) {o : Answer} → let taps = c.args.taps.now in
+accepted : (c : After-tap_batches) {o : Answer} → let taps = c.args.taps.now in
     o ≡ unless (is_tap_length most_batches (length taps)) TapLength
     (unless (canonical_words taps) (TapWord (first_bad taps)) Accepted)
     → o ≡ chain_test c.args.table.now taps
@@ -24,7 +25,7 @@ accepted c e =
     after_accepted c.test_and_ready-of_table.ensures.0 c.enum_told-1.given.1 e
 
 -- and after a permitted length, to the words
-permitted : (f : goal.After-first_bad-bad) {o : Answer} → let taps = f.args.taps.now in
+permitted : (f : After-first_bad-bad) {o : Answer} → let taps = f.args.taps.now in
     o ≡ unless (canonical_words taps) (TapWord (first_bad taps)) Accepted → o ≡ chain_test f.args.table.now taps
 permitted f e =
     let n = length f.args.taps.now in

@@ -18,6 +18,7 @@ use Rattle.hash_undo.specs.Unhash.{rounds_undone, input_before}
 use Rattle.hash_undo.proofs.Rounds.{rounds_undone_state}
 use Rattle.hash_undo.proofs.Answers.{unhash-turned-back, unhash-none, unhash-found}
 use Rattle.hash_undo.proofs.unhash.Goals as goal
+use Rattle.hash_undo.proofs.unhash.Goals.{Start, In-Accepted}
 
 input-is : (T s : List ℕ) {x y : List ℕ} → y ≡ minus x (initial_constant T) → x ≡ rounds_undone T 10 s
     → y ≡ input_before T s
@@ -28,11 +29,11 @@ pub returns-in_default : goal.returns-in_default
 returns-in_default c = unhash-turned-back _ _ c.test_hash-answer.ensures.0 c.refusal.ensures
 
 -- the cells that passed are a state
-given : (start : goal.Start) → AllCanonical start.args.t2 → IsState start.args.t2
+given : (start : Start) → AllCanonical start.args.t2 → IsState start.args.t2
 given start a = record { size = search rules; canonical = a }
 
 -- what they say where they pass
-inputs : (c : goal.In-Accepted) → let a = c.args in HashInputs a.table.now a.t2
+inputs : (c : In-Accepted) → let a = c.args in HashInputs a.table.now a.t2
 inputs c = hash-inputs _ _ (sym c.test_hash-answer.ensures.0 ∙ c.enum_told-1.given.1)
 
 pub make_inverse_ready-requires : goal.make_inverse_ready-requires
@@ -59,10 +60,10 @@ pub returns-then-not-ends_in_zeros : goal.returns-then-not-ends_in_zeros
 returns-then-not-ends_in_zeros c =
     unhash-none _ _ c.test_hash-answer.ensures.0 c.enum_told-1.given.1
     (input-is _ _ c.less_initial-input.ensures c.undo_rounds-state.ensures)
-    (sym c.ends_in_zeros.ensures ∙ not-true _ c.if-not-ends_in_zeros.true)
+    (sym c.ends_in_zeros.ensures ∙ c.if-not-ends_in_zeros.true)
 
 pub returns : goal.returns
 returns c =
     unhash-found _ _ c.test_hash-answer.ensures.0 c.enum_told-1.given.1
     (input-is _ _ c.less_initial-input.ensures c.undo_rounds-state.ensures)
-    (sym c.ends_in_zeros.ensures ∙ not-false _ c.if-not-ends_in_zeros.false) c.of.ensures
+    (sym c.ends_in_zeros.ensures ∙ c.if-not-ends_in_zeros.false) c.of.ensures

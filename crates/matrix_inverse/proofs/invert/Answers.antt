@@ -8,8 +8,9 @@ use borrow.Author.Tests.{not-true, not-false}
 use Rattle.matrix_inverse.specs.EliminationHelpers.{Working}
 use Rattle.matrix_inverse.proofs.Inversion.{start_working, without, found}
 use Rattle.matrix_inverse.proofs.invert.Goals as goal
+use Rattle.matrix_inverse.proofs.invert.Goals.{After-eliminate}
 
-abbrev matrix : goal.After-eliminate → List ℕ
+abbrev matrix : After-eliminate → List ℕ
 matrix c = c.args.m.now
 
 pub eliminate-requires : goal.eliminate-requires

@@ -13,6 +13,7 @@ use Rattle.matrix.specs.Matrix.{entry}
 use Rattle.matrix_ready.specs.MixingHelpers.{weighted_entry}
 use Rattle.matrix_ready.proofs.ReadyWords.{stored_to, none_stored, next_stored, all_stored}
 use Rattle.matrix_ready.proofs.make_ready.Goals as goal
+use Rattle.matrix_ready.proofs.make_ready.Goals.{After-weighted-factors, Start}
 
 pub quotient-q-requires : goal.quotient-q-requires
 quotient-q-requires c = c.requires.1 0 (omega arith)
@@ -25,8 +26,8 @@ pub loop-j-init : goal.loop-j-init
 loop-j-init c = (omega arith, c.requires.3, none_stored _ _ _)
 
 -- the factors are the scale with the weights
-module _ (c : goal.After-weighted-factors) where
-  abbrev start : goal.Start
+module _ (c : After-weighted-factors) where
+  abbrev start : Start
   start = c.before.before.before.before
 
   factor : (j : ℕ) → j < 12 → cell c.weighted-factors.result j ≡ weight j * start.args.scale % P

@@ -12,6 +12,7 @@ use Rattle.table.proofs.Parts.{length_inverse, inverse_canonical}
 use Rattle.table.proofs.Ready.{ready_is}
 use Rattle.table.proofs.Tested.{by_columns, unlike_within, row_stops, row_passes, passes}
 use Rattle.table.proofs.first_unlike.Goals as goal
+use Rattle.table.proofs.first_unlike.Goals.{After-product_columns-product}
 
 pub product_columns-product-requires : goal.product_columns-product-requires
 product_columns-product-requires c =
@@ -23,7 +24,7 @@ product_columns-product-requires c =
     )
 
 -- the product, by columns
-product_is : (made : goal.After-product_columns-product) → let a = made.args in
+product_is : (made : After-product_columns-product) → let a = made.args in
     made.product_columns-product.result ≡ tab 144 (by_columns a.ready.now (inverse_of a.table.now))
 product_is made =
     made.product_columns-product.ensures

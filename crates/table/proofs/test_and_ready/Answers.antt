@@ -9,6 +9,7 @@ use Rattle.table.specs.Table.{table_words}
 use Rattle.table.proofs.Tested.{kept_at_1, kept_at_2, made_ready}
 use Rattle.table.proofs.Tested.{wrong_length, wrong_word, wrong_cell, accepted}
 use Rattle.table.proofs.test_and_ready.Goals as goal
+use Rattle.table.proofs.test_and_ready.Goals.{Else-bad-ne-WORDS}
 
 pub returns-then-table-ne-WORDS : goal.returns-then-table-ne-WORDS
 returns-then-table-ne-WORDS c = (wrong_length _ c.if-table-ne-WORDS.true, kept_at_1 _ _ c.if-table-ne-WORDS.true)
@@ -19,7 +20,7 @@ returns-then-bad-ne-WORDS c =
     let bad = c.first_bad-bad.ensures in
     (wrong_word _ size _ bad c.if-bad-ne-WORDS.true, kept_at_2 _ _ size (λ e. c.if-bad-ne-WORDS.true (bad ∙ e)))
 
-known : (c : goal.Else-bad-ne-WORDS) → let t = c.args.table.now in
+known : (c : Else-bad-ne-WORDS) → let t = c.args.table.now in
     (length t ≡ table_words) × (first_bad t ≡ table_words) × AllCanonical t
 known c =
     let size = c.if-table-ne-WORDS.false in

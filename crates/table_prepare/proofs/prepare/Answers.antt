@@ -12,15 +12,16 @@ use Rattle.table.proofs.Parts.{part_canonical}
 use Rattle.table_prepare.proofs.Prepared.{wrong_length, wrong_room, wrong_word, raw_accepted, without}
 use Rattle.table_prepare.proofs.Prepared.{inverted, written}
 use Rattle.table_prepare.proofs.prepare.Goals as goal
+use Rattle.table_prepare.proofs.prepare.Goals.{Else-bad-ne-RAW_WORDS, Else-not-invert}
 
 -- the tests have accepted
-tested : (c : goal.Else-bad-ne-RAW_WORDS) → let s = c.args in
+tested : (c : Else-bad-ne-RAW_WORDS) → let s = c.args in
     raw_test s.raw.now (length s.destination.now) ≡ Accepted
 tested c =
     raw_accepted _ _ c.if-raw-ne-RAW_WORDS.left c.if-destination-ne-WORDS.left (sym c.first_bad-bad.ensures ∙ c.if-bad-ne-RAW_WORDS.false)
 
 -- and the inverse is found
-found : (c : goal.Else-not-invert) → let s = (entry (lengths c)).args in
+found : (c : Else-not-invert) → let s = (entry (lengths c)).args in
     RawInverse s.raw.now c.invert.new.1.0
 found c =
     let i = c.invert in

@@ -12,6 +12,7 @@ use Rattle.hash_chain.proofs.Answers.{digest-take}
 use Rattle.trace.specs.Answers.{build_answer, build_leaves}
 use Rattle.trace.proofs.Answers.{BuildInputs, build-inputs}
 use Rattle.trace.proofs.build.Goals as goal
+use Rattle.trace.proofs.build.Goals.{In-Accepted}
 
 pub returns-in_default : goal.returns-in_default
 unfolding build_answer build_leaves
@@ -21,7 +22,7 @@ returns-in_default c =
     (digest_turned_back e _ r, leaves_old e _ r)
 
 -- where the tests have passed, what they say of the table, the taps and the room, and M is left made ready
-inputs : (c : goal.In-Accepted) → let start = c.args in
+inputs : (c : In-Accepted) → let start = c.args in
     BuildInputs start.table.now start.taps.now (length start.destination.now)
     (tap_word_batches (length start.taps.now))
 inputs c = build-inputs _ _ _ (sym c.test_build-answer.ensures.0 ∙ c.enum_told-1.given.1)

@@ -18,12 +18,13 @@ use Rattle.refusals.specs.Answers.{unless}
 use Rattle.refusals.proofs.Laws.{unless_refused, unless_passed, after_refused, after_accepted}
 use Rattle.trace.specs.Answers.{build_test}
 use Rattle.trace.proofs.test_build.Goals as goal
+use Rattle.trace.proofs.test_build.Goals.{After-tap_batches, In-Permitted, After-first_bad-bad}
 
-abbrev words : goal.After-tap_batches → ℕ
+abbrev words : After-tap_batches → ℕ
 words counted = length counted.args.taps.now
 
 -- there the table is accepted, and what is answered is left to the taps' length, the destination's and the words
-accepted : (c : goal.After-tap_batches) {o : Answer} → let taps = c.args.taps.now in
+accepted : (c : After-tap_batches) {o : Answer} → let taps = c.args.taps.now in
     o ≡ unless (is_tap_length most_batches (words c)) TapLength
     (unless (eqb c.args.size (384 * tap_word_batches (words c))) DestinationLength
     (unless (canonical_words taps) (TapWord (first_bad taps)) Accepted))
@@ -32,7 +33,7 @@ unfolding build_test
 accepted c e =
     after_accepted c.test_and_ready-of_table.ensures.0 c.enum_told-1.given.1 e
 
-permitted : (p : goal.In-Permitted)
+permitted : (p : In-Permitted)
     → let n = words p in let k = p.k-1.given.0.0 in
     (is_tap_length most_batches n ≡ true) × (tap_word_batches n ≡ k) × (k ≤ most_batches)
 permitted p =
@@ -42,7 +43,7 @@ permitted p =
     (t.0, t.1, omega (arith, s.1.high, t.1))
 
 -- and here the destination has room, so that the words are left
-roomy : (f : goal.After-first_bad-bad) {o : Answer} → let taps = f.args.taps.now in
+roomy : (f : After-first_bad-bad) {o : Answer} → let taps = f.args.taps.now in
     o ≡ unless (canonical_words taps) (TapWord (first_bad taps)) Accepted
     → o ≡ build_test f.args.table.now taps f.args.size
 roomy f e =

@@ -20,9 +20,10 @@ use Rattle.trace_edit.specs.Answers.{edit_test, altered_taps, edit_answer, edit_
 use Rattle.trace_edit.proofs.Answers.{edit-inputs, rewritable}
 use borrow.Author.Rules.{rules}
 use Rattle.trace_edit.proofs.edit.Goals as goal
+use Rattle.trace_edit.proofs.edit.Goals.{After-refusal, In-Accepted, After-test_edit-answer, Start, In-Accepted-answer, In-Refused}
 
 -- an opening test refuses
-closed : (c : goal.After-refusal) → let a = c.args in
+closed : (c : After-refusal) → let a = c.args in
     Refused c.refusal.result ≡ edit_test a.table.now a.trace.now a.t3 a.c a.tap.0 a.t6
 unfolding edit_test
 closed c = after_refused _ (sym c.refusal.ensures ∙ c.test_opening-opening.ensures.0) refl
@@ -32,7 +33,7 @@ unfolding edit_answer edit_leaves
 returns-in_default c = (digest_turned_back (closed c) _ refl, leaves_old (closed c) _ refl)
 
 -- the opening tests are passed: what is known then
-few : (c : goal.In-Accepted) → let a = c.args in
+few : (c : In-Accepted) → let a = c.args in
     let k = trace_word_batches (length a.trace.now) in
     Opened a.table.now a.trace.now a.c k × (k < 2 ^ 32)
 few c = opened-by _ _ _ c.test_opening-opening.ensures.0 c.enum_told-1.given.1
@@ -58,11 +59,11 @@ test_edit-answer-requires c =
       c.make_inverse_ready.ensures,
     )
 
-abbrev start : goal.After-test_edit-answer → goal.Start
+abbrev start : After-test_edit-answer → Start
 start t = t
 
 -- what these answer is the answer of all
-answered : (t : goal.After-test_edit-answer) → let a = (start t).args in
+answered : (t : After-test_edit-answer) → let a = (start t).args in
     t.test_edit-answer.result
     ≡ tests_after (edit_test a.table.now a.trace.now a.t3 a.c a.tap.0 a.t6)
     (length (tests (trace_word_batches (length a.trace.now)) a.c))
@@ -71,20 +72,20 @@ answered t =
     walked _ _ t.test_edit-answer.ensures
     (after_accepted t.test_opening-opening.ensures.0 t.enum_told-1.given.1 refl)
 
-four : (s : goal.Start) → (length s.args.t3 ≡ 4) × (length s.args.t6 ≡ 4)
+four : (s : Start) → (length s.args.t3 ≡ 4) × (length s.args.t6 ≡ 4)
 four s = (search rules, search rules)
 
 -- every test is passed, and the trace can be rewritten
-passes : (c : goal.In-Accepted-answer) → let a = (start c.before.before).args in
+passes : (c : In-Accepted-answer) → let a = (start c.before.before).args in
     edit_test a.table.now a.trace.now a.t3 a.c a.tap.0 a.t6 ≡ Accepted
 passes c = (tests_accepted _ _ _ (sym (answered c.before.before) ∙ c.enum_told-in-Accepted-answer-1.given.1)).0
 
-can-rewrite : (c : goal.In-Accepted-answer) → let a = (start c.before.before).args in
+can-rewrite : (c : In-Accepted-answer) → let a = (start c.before.before).args in
     Rewritable a.table.now a.trace.now (trace_word_batches (length a.trace.now)) a.tap.0 a.t6
 can-rewrite c = rewritable _ _ _ _ _ _ (four (start c.before.before)).0 (passes c)
 
 -- c is from 1 to k
-counted : (c : goal.In-Accepted-answer) → let a = (start c.before.before).args in
+counted : (c : In-Accepted-answer) → let a = (start c.before.before).args in
     (1 ≤ a.c) × (a.c ≤ trace_word_batches (length a.trace.now))
 counted c =
     let o = (edit-inputs _ _ _ _ _ _ (passes c)).0.opening in
@@ -130,7 +131,7 @@ returns-in-Accepted-answer c =
     )
 
 -- one of the last tests refuses
-refuses : (c : goal.In-Refused) → let a = (start c.before.before.before).args in
+refuses : (c : In-Refused) → let a = (start c.before.before.before).args in
     edit_test a.table.now a.trace.now a.t3 a.c a.tap.0 a.t6
     ≡ Refused c.answer-1.given.0.0
 refuses c = tests_refused _ _ _ (sym (answered c.before.before.before) ∙ c.answer-1.given.1)

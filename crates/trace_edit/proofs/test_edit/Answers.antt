@@ -15,6 +15,7 @@ use Rattle.check_trace.proofs.Answers.{canonical-words, walked}
 use Rattle.trace_edit.specs.Answers.{edit_trace_test}
 use Rattle.trace_edit.proofs.Answers.{from_tap, fromWords, from_claim}
 use Rattle.trace_edit.proofs.test_edit.Goals as goal
+use Rattle.trace_edit.proofs.test_edit.Goals.{Else-k-tap, In-Accepted, After-test_words-of_words, Start, In-Accepted-of_words}
 
 pub overflow_mul-k : goal.overflow_mul-k
 overflow_mul-k c = omega (arith, c.requires.3)
@@ -23,7 +24,7 @@ pub returns-then-k-tap : goal.returns-then-k-tap
 returns-then-k-tap c = tests_turned_back (unless_refused _ (lt-leb _ _ c.if-k-tap.true) refl) _ refl
 
 -- the tap is there, and the claim is to be tested
-found : (c : goal.Else-k-tap) {o : Answer} → let a = c.args in
+found : (c : Else-k-tap) {o : Answer} → let a = c.args in
     o ≡ from_claim a.table.now a.trace.now a.claim.now a.c a.words.now a.k
     → o ≡ edit_trace_test a.table.now a.trace.now a.claim.now a.c a.tap.0 a.words.now a.k
 found c e = unless_passed _ (le-leb _ _ c.if-k-tap.false) e
@@ -37,7 +38,7 @@ returns-in_default c =
     c.refusal.ensures refl)) _ refl
 
 -- the claim is canonical, and the trace is to be tested
-claimed : (c : goal.In-Accepted) {o : Answer} → let a = (entry c).args in
+claimed : (c : In-Accepted) {o : Answer} → let a = (entry c).args in
     o ≡ fromWords a.table.now a.trace.now a.claim.now a.c a.words.now a.k
     → o ≡ edit_trace_test a.table.now a.trace.now a.claim.now a.c a.tap.0 a.words.now a.k
 claimed c e =
@@ -47,7 +48,7 @@ claimed c e =
     c.enum_told-1.given.1 e)
 
 -- the function's entry, from where the words have been tested
-abbrev start : goal.After-test_words-of_words → goal.Start
+abbrev start : After-test_words-of_words → Start
 start t = entry t
 
 pub returns-in_default-of_words : goal.returns-in_default-of_words
@@ -59,7 +60,7 @@ returns-in_default-of_words c =
     c.refusal-in_default-of_words.ensures refl)) _ refl
 
 -- the trace is canonical, and the new tap is to be tested
-canonical : (c : goal.In-Accepted-of_words) {o : Answer} → let a = (start c.before.before).args in
+canonical : (c : In-Accepted-of_words) {o : Answer} → let a = (start c.before.before).args in
     o ≡ from_tap a.table.now a.trace.now a.claim.now a.c a.words.now a.k
     → o ≡ edit_trace_test a.table.now a.trace.now a.claim.now a.c a.tap.0 a.words.now a.k
 canonical c e =

@@ -20,6 +20,7 @@ use Rattle.check_trace.proofs.Answers.{Opened, opened-by, walked}
 use Rattle.trace_read_off.specs.Answers.{read_off_test, read_off_answer}
 use Rattle.trace_read_off.proofs.Answers.{read-off-inputs, turned_back, accepted, kept, read}
 use Rattle.trace_read_off.proofs.read_off.Goals as goal
+use Rattle.trace_read_off.proofs.read_off.Goals.{In-Accepted, After-test_trace-answer, Else-destination-k, Start, In-Accepted-answer}
 
 pub returns-in_default : goal.returns-in_default
 unfolding read_off_test
@@ -28,13 +29,13 @@ returns-in_default c =
     turned_back _ _ _ _ _ (after_refused _ (sym c.refusal.ensures ∙ tested) refl)
 
 -- the opening tests are passed: what is known then
-few : (c : goal.In-Accepted) → let a = c.args in
+few : (c : In-Accepted) → let a = c.args in
     let k = trace_word_batches (length a.trace.now) in
     Opened a.table.now a.trace.now a.c k × (k < 2 ^ 32)
 few c = opened-by _ _ _ c.test_opening-opening.ensures.0 c.enum_told-1.given.1
 
 -- and the destination is to be tested
-opened : (c : goal.In-Accepted) {o : Answer} → let a = c.args in
+opened : (c : In-Accepted) {o : Answer} → let a = c.args in
     let k = trace_word_batches (length a.trace.now) in
     o ≡ unless (eqb (length a.destination.now) (12 * k + 4)) DestinationLength
     (trace_test a.table.now a.trace.now a.t3 a.c k)
@@ -72,14 +73,14 @@ test_trace-answer-requires c =
       c.make_inverse_ready.ensures,
     )
 
-abbrev room : goal.After-test_trace-answer → goal.Else-destination-k
+abbrev room : After-test_trace-answer → Else-destination-k
 room t = t
 
-abbrev start : goal.After-test_trace-answer → goal.Start
+abbrev start : After-test_trace-answer → Start
 start t = entry (room t).before.before.before
 
 -- what these answer is the answer
-answered : (t : goal.After-test_trace-answer) → let a = (start t).args in
+answered : (t : After-test_trace-answer) → let a = (start t).args in
     t.test_trace-answer.result ≡ read_off_answer a.table.now a.trace.now a.t3 a.c (length a.destination.now)
 unfolding read_off_answer
 answered t =
@@ -94,7 +95,7 @@ returns-in_default-answer c =
     )
 
 -- every test is passed
-passes : (c : goal.In-Accepted-answer) → let a = (start c.before.before).args in
+passes : (c : In-Accepted-answer) → let a = (start c.before.before).args in
     read_off_test a.table.now a.trace.now a.t3 a.c (length a.destination.now) ≡ Accepted
 passes c =
     let a = (start c.before.before).args in

@@ -16,8 +16,9 @@ use Rattle.trace_rewrite.specs.Edit.{altered}
 use Rattle.trace_rewrite.specs.EditHelpers.{tap_of}
 use Rattle.trace_rewrite.proofs.Rewriting as law
 use Rattle.trace_rewrite.proofs.rewrite.Goals as goal
+use Rattle.trace_rewrite.proofs.rewrite.Goals.{Start, At-loop-h, After-next_input-input}
 
-four : (start : goal.Start) → length start.args.words ≡ 4
+four : (start : Start) → length start.args.words ≡ 4
 four start = search rules
 
 pub overflow_mul-hashes : goal.overflow_mul-hashes
@@ -48,10 +49,10 @@ loop-h-init c =
     )
 
 -- what the rows hold before a turn is canonical, and the hash's tap is read of them
-first_of : (head : goal.At-loop-h) → let a = head.args in a.tap.0 - 1 ≤ head.loop-h.h
+first_of : (head : At-loop-h) → let a = head.args in a.tap.0 - 1 ≤ head.loop-h.h
 first_of head = omega (arith, head.hash-first.ensures, head.loop-h.invariant.0)
 
-canonical : (head : goal.At-loop-h) → head.loop-h.h < 3 * head.args.k
+canonical : (head : At-loop-h) → head.loop-h.h < 3 * head.args.k
     → AllCanonical head.loop-h.trace
 canonical head l =
     let a = head.args in
@@ -65,12 +66,12 @@ next_tap-next-requires c =
     let r = c.requires.1 in
     (c.requires.0, r.table, law.has_tap r (canonical c.before.before (omega arith)) c.loop-h.invariant.2 (omega arith))
 
-abbrev altered-of : goal.At-loop-h → List ℕ
+abbrev altered-of : At-loop-h → List ℕ
 altered-of head =
     let a = head.args in
     altered (read_taps a.table.now a.trace.now a.k) a.tap.0 a.words
 
-made : (m : goal.After-next_input-input) → m.loop-h.h < 3 * m.args.k
+made : (m : After-next_input-input) → m.loop-h.h < 3 * m.args.k
     → m.next_input-input.result ≡ input (take 4 m.loop-h.state) (tap (altered-of m) (m.loop-h.h + 1))
 made m l =
     let a = m.args in
