@@ -33,7 +33,7 @@ permitted p =
 
 -- what is answered there is left to the destination's length and the words
 counted : (p : In-Permitted) {o : Answer} →
-    let taps = p.args.taps.now in let claim = p.args.t2 in
+    let taps = p.args.taps.now in let claim = p.args.claim in
     o ≡ unless (eqb p.args.size (file_size (tap_word_batches (words p)))) DestinationLength
     (unless (canonical_words claim) (ClaimWord (first_bad claim))
     (unless (canonical_words taps) (TapWord (first_bad taps)) Accepted))
@@ -44,7 +44,7 @@ counted p e =
 
 -- then to the claim's words and the taps'
 roomy : (f : Else-size-k) {o : Answer} →
-    let taps = f.args.taps.now in let claim = f.args.t2 in
+    let taps = f.args.taps.now in let claim = f.args.claim in
     o ≡ unless (canonical_words claim) (ClaimWord (first_bad claim))
     (unless (canonical_words taps) (TapWord (first_bad taps)) Accepted)
     → o ≡ pack_test taps claim f.args.size
@@ -53,14 +53,14 @@ roomy f e =
     counted f.before (unless_passed _ (eq-eqb _ _ room) e)
 
 -- a claim is four words
-four : (f : Else-size-k) → length f.args.t2 ≡ 4
+four : (f : Else-size-k) → length f.args.claim ≡ 4
 four f = omega arith
 
 -- and then to the taps'
 claimed : (f : Else-bad_claim-ne4) {o : Answer} →
     let taps = f.args.taps.now in
     o ≡ unless (canonical_words taps) (TapWord (first_bad taps)) Accepted
-    → o ≡ pack_test taps f.args.t2 f.args.size
+    → o ≡ pack_test taps f.args.claim f.args.size
 claimed f e =
     roomy f.before.before.before (unless_passed _ (scanned_good _ f.first_bad-bad_claim.ensures (f.if-bad_claim-ne4.false ∙ sym (four f.before.before.before))) e)
 

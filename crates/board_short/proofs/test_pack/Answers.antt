@@ -26,7 +26,7 @@ abbrev taps : After-measure-of_taps → List ℕ
 taps s = s.args.taps.now
 
 abbrev claim : After-measure-of_taps → List ℕ
-claim s = s.args.t2
+claim s = s.args.claim
 
 -- a claim is four words, and the taps' bytes fit
 four_words : (s : After-measure-of_taps) → length (claim s) ≡ 4

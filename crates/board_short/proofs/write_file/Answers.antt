@@ -12,22 +12,22 @@ abbrev start : After-write → Start
 start w = w
 
 sized : (w : After-write)
-    → length w.write.new.1.1.0 ≡ short_file_size (start w).args.taps.now (start w).args.t2
+    → length w.write.new.1.1.0 ≡ short_file_size (start w).args.taps.now (start w).args.claim
 sized w = w.write.auto.1.1.0 ∙ (start w).requires.1
 
 pub write-requires : goal.write-requires
 write-requires c =
-    word_fits c.args.destination.now c.args.taps.now c.args.t2 c.requires.1
+    word_fits c.args.destination.now c.args.taps.now c.args.claim c.requires.1
 
 pub write_all-after_claim-requires : goal.write_all-after_claim-requires
 write_all-after_claim-requires c =
     let s = start c.before.before.before.before in
-    claim_fits c.write.new.1.1.0 s.args.taps.now s.args.t2 (sized c.before.before.before.before)
+    claim_fits c.write.new.1.1.0 s.args.taps.now s.args.claim (sized c.before.before.before.before)
 
 pub write_all-requires : goal.write_all-requires
 write_all-requires c =
     let s = start c.before.before.before.before.before.before.before.before in
-    taps_fit c.write_all-after_claim.new.1.1.0 s.args.taps.now s.args.t2 _
+    taps_fit c.write_all-after_claim.new.1.1.0 s.args.taps.now s.args.claim _
     (c.write_all-after_claim.auto.1.1.0 ∙ sized c.before.before.before.before.before.before.before.before) c.write_all-after_claim.ensures.0
 
 pub returns : goal.returns

@@ -16,13 +16,13 @@ times-requires c =
     let turn = c.loop-j in
     (subst Canonical (sym (fills_next turn.invariant)) (p.1 turn.j (omega arith)), p.2 turn.j (omega arith), p.3)
 
-pub loop-j-preserved : goal.loop-j-preserved
-loop-j-preserved c =
-    let turn = c.loop-j in
-    let b = c.args.t2 in
-    fills_more turn.invariant (omega arith)
-    (c.times.ensures.0 ∙ ap (λ v. times_word v (cell b turn.j)) (fills_next turn.invariant))
-
 pub returns : goal.returns
 unfolding word_products
 returns c = fills_all c.loop-j.invariant (omega arith)
+
+pub loop-j-preserved : goal.loop-j-preserved
+    let turn = c.loop-j in
+    let b = c.args.b in
+    fills_more turn.invariant (omega arith)
+    (c.times.ensures.0 ∙ ap (λ v. times_word v (cell b turn.j)) (fills_next turn.invariant))
+

@@ -17,7 +17,7 @@ use Rattle.field_roots.proofs.scaled_roots.Goals.{Start}
 pub quotient-q-requires : goal.quotient-q-requires
 quotient-q-requires c = c.requires.0 0 (omega arith)
 
-twelve : (start : Start) → length start.args.t1 ≡ 12
+twelve : (start : Start) → length start.args.s ≡ 12
 twelve start = search rules
 
 pub third_powers-acc-requires : goal.third_powers-acc-requires
@@ -38,6 +38,6 @@ returns c =
       c.multiply.ensures
           ∙ left v f
           ∙ ap (λ x. tab 12 (λ j. mul f (cell x j))) c.third_powers-acc.ensures.0
-          ∙ roots_of_powers c.args.t1 f,
+          ∙ roots_of_powers c.args.s f,
       subst (CanonicalTo 12) (sym c.multiply.ensures) (products_canonical v (replicate 12 f)),
     )

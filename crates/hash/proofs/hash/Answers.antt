@@ -19,7 +19,7 @@ pub returns-in_default : goal.returns-in_default
 unfolding hash_answer
 returns-in_default c = state_turned_back c.test_hash-answer.ensures.0 _ c.refusal.ensures
 
-eight : (start : Start) → length start.args.t2 ≡ 8
+eight : (start : Start) → length start.args.words ≡ 8
 eight start = search rules
 
 -- where the tests have passed, what they say of the table and the words, and M is left made ready
@@ -33,7 +33,7 @@ slice_bounds-final_state-end c =
 
 pub final_state-last-requires : goal.final_state-last-requires
 final_state-last-requires c =
-    let w = c.args.t2 in
+    let w = c.args.words in
     let i = inputs c.before in (
       i.table,
       canonical_state (two_taps w (eight c.before.before.before)) (two_taps_state w (eight c.before.before.before) i.canonical),
@@ -43,6 +43,6 @@ final_state-last-requires c =
 pub returns : goal.returns
 unfolding hash_answer
 returns c =
-    let made = two_taps c.args.t2 (eight c.before.before.before.before.before) in
+    let made = two_taps c.args.words (eight c.before.before.before.before.before) in
     state_returned c.test_hash-answer.ensures.0 c.enum_told-1.given.1
     (c.of.ensures ∙ ap state (c.final_state-last.ensures ∙ ap (final_state c.args.table.now) made))

@@ -5,4 +5,4 @@ use borrow.Author.Rules.{rules}
 use Rattle.hash_chain.proofs.next_input.Goals as goal
 
 pub returns : goal.returns
-returns c = input_words c.args.t1 c.args.t2 (search rules) (search rules)
+returns c = input_words c.args.last c.args.tap (search rules) (search rules)

@@ -29,7 +29,7 @@ pub returns-in_default : goal.returns-in_default
 returns-in_default c = unhash-turned-back _ _ c.test_hash-answer.ensures.0 c.refusal.ensures
 
 -- the cells that passed are a state
-given : (start : Start) → AllCanonical start.args.t2 → IsState start.args.t2
+given : (start : Start) → AllCanonical start.args.cells → IsState start.args.cells
 given start a = record { size = search rules; canonical = a }
 
 -- what they say where they pass

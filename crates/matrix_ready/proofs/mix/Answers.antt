@@ -33,7 +33,7 @@ pub loop-j-preserved : goal.loop-j-preserved
 loop-j-preserved c =
     let turn = c.loop-j in
     let r = c.args.ready.now in
-    let s = c.args.t2 in
+    let s = c.args.s in
     let even : turn.j ≡ 2 * (turn.j / 2) = omega (arith, turn.invariant.1) in
     let one : suc (turn.j / 2) ≡ (turn.j + 2) / 2 = omega arith in (
       omega (arith, turn.invariant.1),

@@ -12,4 +12,4 @@ loop-j-preserved c = fills_more c.loop-j.invariant (omega arith) refl
 
 pub returns : goal.returns
 returns c =
-    fills_all c.loop-j.invariant (omega arith) ∙ tab_cell 12 c.args.t2 (search rules)
+    fills_all c.loop-j.invariant (omega arith) ∙ tab_cell 12 c.args.cells (search rules)

@@ -72,7 +72,7 @@ answered t =
     walked _ _ t.test_edit-answer.ensures
     (after_accepted t.test_opening-opening.ensures.0 t.enum_told-1.given.1 refl)
 
-four : (s : Start) → (length s.args.t3 ≡ 4) × (length s.args.t6 ≡ 4)
+four : (s : Start) → (length s.args.claim ≡ 4) × (length s.args.words ≡ 4)
 four s = (search rules, search rules)
 
 -- every test is passed, and the trace can be rewritten

@@ -25,4 +25,4 @@ loop-j-preserved c =
 pub returns : goal.returns
 returns c =
     let l = c.loop-j in
-    entering_filled c.args.t2 (initial_constant c.args.table.now) l.invariant.1 _ l.j (omega arith) l.invariant.3
+    entering_filled c.args.s (initial_constant c.args.table.now) l.invariant.1 _ l.j (omega arith) l.invariant.3
