@@ -21,6 +21,7 @@ unfolding word_products
 returns c = fills_all c.loop-j.invariant (omega arith)
 
 pub loop-j-preserved : goal.loop-j-preserved
+loop-j-preserved c =
     let turn = c.loop-j in
     let b = c.args.b in
     fills_more turn.invariant (omega arith)
