@@ -163,6 +163,7 @@ module _ (k c i q : ℕ) where
           joins (q - 45) (omega arith) (omega arith) (eqb-true _ _ v.0) (eqb-false _ _ (not-true _ v.1))
       go (inr (inr (inr (inr (inr (inr (inl s))))))) =
           claims (q - 49) (omega arith) (omega arith) (eqb-true _ _ s.2)
+      go (inr (inr (inr (inr (inr (inr (inr x7))))))) = elim x7 [ ]
 
   -- the rows of each family
   pub applies_zeros : 1 ≤ q → q < 5 → applies k c i q ≡ eqb (within i) 0
