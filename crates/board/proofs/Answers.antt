@@ -57,7 +57,7 @@ pub pack-complete : (taps claim : List ℕ) (size k : ℕ) → IsPacked taps cla
 unfolding pack_test
 pack-complete taps claim size k h =
     let t = tap_length_complete most_file_batches (length taps) k h.taps_size h.permitted in
-    let s = h.size-is ∙ sym (ap file_size t.1) in
+    let s = h.size_is ∙ sym (ap file_size t.1) in
     rw (t.0, eq-eqb _ _ s, test_good claim h.claim_canonical, test_good taps h.taps_canonical)
 
 -- ---- word 0

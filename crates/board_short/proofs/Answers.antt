@@ -64,7 +64,7 @@ pub pack-complete : (taps claim : List ℕ) (size k : ℕ) → IsPacked taps cla
 unfolding pack_short_test
 pack-complete taps claim size k h =
     let t = tap_length_complete most_batches (length taps) k h.taps_size h.permitted in
-    rw (t.0, eq-eqb _ _ h.size-is, test_good claim h.claim_canonical, test_good taps h.taps_canonical)
+    rw (t.0, eq-eqb _ _ h.size_is, test_good claim h.claim_canonical, test_good taps h.taps_canonical)
 
 -- ---- word 0
 
