@@ -3,7 +3,6 @@
 -- Assumes nothing.
 use mathlib.Core.Path.{◌≡◌, sym, ap, ◌∙◌, subst}
 use mathlib.Core.List.{List}
-use mathlib.Core.Logic.{⊎_elim}
 use Prim.Native.Nat.{ℕ, ◌/◌, ◌%◌, ◌^◌, ◌<◌}
 use native.Mathlib.Omega.{arith}
 use lib.ListN.{length}
@@ -13,21 +12,7 @@ use Rattle.field_products.proofs.Products.{length_products, products_canonical}
 use Rattle.field_roots.specs.PowerHelpers.{elements, products, powers}
 use Rattle.field_roots.proofs.Powers.{elements_of_products, powers_done, powers_even, powers_odd}
 use Rattle.field_roots.proofs.+powers_times.Goals as goal
-
-abbrev μ-powers-times : Measures 2 powers-times-kinds.ps ℕ
-μ-powers-times κs a = a.1.1.0
-
-abbrev powers-times-at : ℕ → In 2 powers-times-kinds.ps
-powers-times-at t =
-    and 2 powers-times-kinds.ps (is 2 powers-times-kinds.ps μ-powers-times t) powers-times.Pre
-
-abbrev powers-times-below : ℕ → In 2 powers-times-kinds.ps
-powers-times-below t =
-    and
-    2
-    powers-times-kinds.ps
-    (falls 2 powers-times-kinds.ps ◌<◌ μ-powers-times t)
-    powers-times.Pre
+use Rattle.field_roots.proofs.+powers_times.Goals.{then-e-eq1, else-e-eq1}
 
 -- what is left to do where the accumulator is b is what was to do where it was a
 record Passed (a x : List ℕ) (e : ℕ) (b : List ℕ) : Type 0 where
@@ -36,8 +21,8 @@ record Passed (a x : List ℕ) (e : ℕ) (b : List ℕ) : Type 0 where
   same : products (elements b) (powers (products (elements x) (elements x)) (e / 2))
       ≡ products (elements a) (powers (elements x) e)
 
-odd-passed : (a x : List ℕ) (e : ℕ) (b : List ℕ) → e < 2 ^ 64 → e % 2 ≡ 1 → b ≡ word_products a x → Passed a x e b
-odd-passed a x e b h z q =
+odd_passed : (a x : List ℕ) (e : ℕ) (b : List ℕ) → e < 2 ^ 64 → e % 2 ≡ 1 → b ≡ word_products a x → Passed a x e b
+odd_passed a x e b h z q =
     subst (Passed a x e) (sym q) (record {
       size = length_products a x;
       canonical = products_canonical a x;
@@ -45,54 +30,38 @@ odd-passed a x e b h z q =
           ∙ powers_odd (elements a) (elements x) e h z;
     })
 
-even-passed : (a x : List ℕ) (e : ℕ) (b : List ℕ) → length a ≡ 12 → CanonicalTo 12 a → e < 2 ^ 64 → e % 2 ≡ 0 → b ≡ a
+even_passed : (a x : List ℕ) (e : ℕ) (b : List ℕ) → length a ≡ 12 → CanonicalTo 12 a → e < 2 ^ 64 → e % 2 ≡ 0 → b ≡ a
     → Passed a x e b
-even-passed a x e b l ha h z q =
+even_passed a x e b l ha h z q =
     subst (Passed a x e) (sym q)
     (record { size = l; canonical = ha; same = powers_even (elements a) (elements x) e h z })
-
-passed : (t : ℕ) (c : powers-times-lts.Joined2 (
-  multiply-reads.Asked,
-  multiply-reads.Learnt,
-  square-reads.Asked,
-  square-reads.Learnt,
-  powers-times-below t,
-  powers-times.Post,
-) (powers-times-at t) powers-times.Post) →
-    let a = c.before.before.args in
-    Passed a.acc.now a.x.now a.e c.if2.acc
-passed t c =
-    let a = c.before.before in
-    let e = a.args.e in
-    let h : e < 2 ^ 64 = omega arith in
-    ⊎_elim
-    (λ w. odd-passed a.args.acc.now a.args.x.now e _ h w.0.taken (w.4 ∙ w.3.ensures))
-    (λ w. even-passed a.args.acc.now a.args.x.now e _ a.requires.1.0 a.requires.1.1 h
-    (omega (arith, w.0.left)) w.1)
-    c.if2.branch
 
 pub returns-then-e-eq0 : goal.returns-then-e-eq0
 returns-then-e-eq0 t c = (
   powers_done c.args.acc.now (elements c.args.x.now)
       ∙ ap (λ e. products (elements c.args.acc.now) (powers (elements c.args.x.now) e))
       (sym c.if-e-eq0.true),
-  c.requires.1.1,
-  c.requires.1.0,
+  c.requires.1,
+  c.requires.0,
 )
 
 pub multiply-requires : goal.multiply-requires
 multiply-requires t c =
-    let p = c.requires.1 in
+    let p = c.requires in
     (p.0, p.1, p.3, p.4)
 
 pub square-requires : goal.square-requires
 square-requires t c =
-    let p = c.requires.1 in
+    let p = c.requires in
     (p.2, p.3, p.4)
 
 pub powers_times-requires : goal.powers_times-requires
 powers_times-requires t c =
-    let q = passed t c.before.before.before.before.before in
+    let q : Passed c.args.acc.now c.args.x.now c.args.e c.if-e-eq1.acc =
+    elim c.if-e-eq1.branch [
+      | then-e-eq1 w ↦ odd_passed c.args.acc.now c.args.x.now c.args.e _ (omega arith) w.if-e-eq1.true (w.acc-is ∙ w.multiply.ensures)
+      | else-e-eq1 w ↦ even_passed c.args.acc.now c.args.x.now c.args.e _ c.requires.0 c.requires.1 (omega arith) (omega arith) w.acc-is
+    ] in
     let squared = c.square.ensures in
     let x = c.args.x.now in (
       omega arith,
@@ -101,7 +70,7 @@ powers_times-requires t c =
         q.canonical,
         ap length squared ∙ length_products x x,
         subst (CanonicalTo 12) (sym squared) (products_canonical x x),
-        c.requires.1.4,
+        c.requires.4,
       ),
     )
 
@@ -109,7 +78,11 @@ pub returns-then-e-eq1-2 : goal.returns-then-e-eq1-2
 returns-then-e-eq1-2 t c =
     let x = elements c.args.x.now in
     let b = c.if-e-eq1.acc in
-    let q = passed t c.before in
+    let q : Passed c.args.acc.now c.args.x.now c.args.e c.if-e-eq1.acc =
+    elim c.if-e-eq1.branch [
+      | then-e-eq1 w ↦ odd_passed c.args.acc.now c.args.x.now c.args.e _ (omega arith) w.if-e-eq1.true (w.acc-is ∙ w.multiply.ensures)
+      | else-e-eq1 w ↦ even_passed c.args.acc.now c.args.x.now c.args.e _ c.requires.0 c.requires.1 (omega arith) (omega arith) w.acc-is
+    ] in
     let half : 0 ≡ c.args.e / 2 = omega (arith, c.if-e-eq1-2.true) in (
       powers_done b (products x x)
           ∙ ap (λ e. products (elements b) (powers (products x x) e)) half
@@ -120,11 +93,16 @@ returns-then-e-eq1-2 t c =
 
 pub returns : goal.returns
 returns t c =
-    let x = c.args.x.now in (
+    let x = c.args.x.now in
+    let q : Passed c.args.acc.now c.args.x.now c.args.e c.if-e-eq1.acc =
+    elim c.if-e-eq1.branch [
+      | then-e-eq1 w ↦ odd_passed c.args.acc.now c.args.x.now c.args.e _ (omega arith) w.if-e-eq1.true (w.acc-is ∙ w.multiply.ensures)
+      | else-e-eq1 w ↦ even_passed c.args.acc.now c.args.x.now c.args.e _ c.requires.0 c.requires.1 (omega arith) (omega arith) w.acc-is
+    ] in (
       c.powers_times.ensures.0
           ∙ ap (λ y. products (elements c.if-e-eq1.acc) (powers y (c.args.e / 2)))
           (ap elements c.square.ensures ∙ elements_of_products x x)
-          ∙ (passed t c.before.before.before.before.before.before).same,
+          ∙ q.same,
       c.powers_times.ensures.1,
       c.powers_times.ensures.2,
     )

@@ -9,7 +9,7 @@ use Rattle.field_sums.proofs.term.Goals.{After-wrapping_sub_u64}
 -- the difference, without its wrap
 difference : (c : After-wrapping_sub_u64)
     → (c.wrapping_sub_u64.result + P) % 2 ^ 64 ≡ c.loose_term-loose.result
-difference c = c.wrapping_sub_u64.ensures
+difference c = c.wrapping_sub_u64.ensures.value
 
 pub settle-requires : goal.settle-requires
 settle-requires c = omega (arith, difference c, c.loose_term-loose.ensures.1)

@@ -1,9 +1,9 @@
 use Prim.Native.Nat.{◌+◌}
 use mathlib.Core.Path.{sym, subst}
-use mathlib.Core.Logic.{⊎_elim}
 use native.Mathlib.Omega.{arith}
 use Rattle.matrix_inverse.proofs.Steps.{Cleared, cleared_none, cleared_same, cleared_more, cleared_all}
 use Rattle.matrix_inverse.proofs.clear.Goals as goal
+use Rattle.matrix_inverse.proofs.clear.Goals.{then-i-j, else-i-j}
 
 pub loop-i-init : goal.loop-i-init
 loop-i-init c =
@@ -21,13 +21,12 @@ pub loop-i-preserved : goal.loop-i-preserved
 loop-i-preserved c =
     let loop = c.loop-i in (
       omega arith,
-      ⊎_elim
-          (λ a. subst (λ y. Cleared c.args.w.now y c.args.j (loop.i + 1)) (sym a.3)
-          (cleared_more _ _ _ _ _ c.requires.0 c.loop-i-test.true loop.invariant.1 a.0.taken
-          a.2.ensures))
-          (λ a. subst (λ y. Cleared c.args.w.now y c.args.j (loop.i + 1)) (sym a.1)
-          (cleared_same _ _ _ _ loop.invariant.1 a.0.left))
-          c.if-i-j.branch,
+      elim c.if-i-j.branch [
+        | then-i-j a ↦ subst (λ y. Cleared c.args.w.now y c.args.j (loop.i + 1)) (sym a.w-is)
+            (cleared_more _ _ _ _ _ c.requires.0 c.loop-i-test.true loop.invariant.1 a.if-i-j.true a.clear_word.ensures)
+        | else-i-j a ↦ subst (λ y. Cleared c.args.w.now y c.args.j (loop.i + 1)) (sym a.w-is)
+            (cleared_same _ _ _ _ loop.invariant.1 a.if-i-j.false)
+      ],
     )
 
 pub returns : goal.returns

@@ -12,5 +12,5 @@ neg-c-requires c =
 pub returns : goal.returns
 returns c =
     let s = c.args in
-    subst (λ y. RowSet s.w.now c.add_row.new.0 s.i 24 (added_row s.w.now s.i s.j y))
+    subst (λ y. RowSet s.w.now c.add_row.new.w s.i 24 (added_row s.w.now s.i s.j y))
     c.neg-c.ensures.0 c.add_row.ensures

@@ -1,7 +1,6 @@
 use mathlib.Core.Path.{◌≡◌, subst}
 use mathlib.Core.Bool.{true, false}
 use native.Mathlib.Omega.{arith}
-use borrow.Author.Tests.{not-true, not-false}
 use Rattle.matrix_inverse.specs.EliminationHelpers.{Reduces, Stepped}
 use Rattle.matrix_inverse.proofs.Steps.{reduces_none, reduces_trans}
 use Rattle.matrix_inverse.proofs.eliminate.Goals as goal
@@ -17,22 +16,22 @@ step-requires c =
 pub returns-then-not-step : goal.returns-then-not-step
 returns-then-not-step c =
     let v = c.loop-j in
-    let e : c.step.result ≡ false = not-true c.step.result c.if-not-step.true in
+    let e : c.step.result ≡ false = c.if-not-step.true in
     record {
       rows = v.w;
       column = v.j;
       within = c.loop-j-test.true;
       reduces = v.invariant.1;
-      none = subst (λ b. Stepped v.w c.step.new.0 v.j b) e c.step.ensures;
+      none = subst (λ b. Stepped v.w c.step.new.w v.j b) e c.step.ensures;
     }
 
 pub loop-j-preserved : goal.loop-j-preserved
 loop-j-preserved c =
     let v = c.loop-j in
-    let e : c.step.result ≡ true = not-false c.step.result c.if-not-step.false in (
+    let e : c.step.result ≡ true = c.if-not-step.false in (
       omega arith,
       reduces_trans _ _ _ _ _ v.invariant.1
-          (subst (λ b. Stepped v.w c.step.new.0 v.j b) e c.step.ensures),
+          (subst (λ b. Stepped v.w c.step.new.w v.j b) e c.step.ensures),
     )
 
 pub returns : goal.returns

@@ -2,16 +2,9 @@
 -- column without a pivot gives a non-zero column that the matrix takes to zeros.
 -- Assumes nothing.
 use mathlib.Core.Path.{refl, sym, subst}
-use mathlib.Core.List.{List}
-use Prim.Native.Nat.{ℕ}
-use borrow.Author.Tests.{not-true, not-false}
 use Rattle.matrix_inverse.specs.EliminationHelpers.{Working}
 use Rattle.matrix_inverse.proofs.Inversion.{start_working, without, found}
 use Rattle.matrix_inverse.proofs.invert.Goals as goal
-use Rattle.matrix_inverse.proofs.invert.Goals.{After-eliminate}
-
-abbrev matrix : After-eliminate → List ℕ
-matrix c = c.args.m.now
 
 pub eliminate-requires : goal.eliminate-requires
 eliminate-requires c =
@@ -21,12 +14,12 @@ pub returns-then-not-eliminate : goal.returns-then-not-eliminate
 returns-then-not-eliminate c =
     let r = c.eliminate in (
       refl,
-      without (matrix c.before) _ _ r.result c.start.ensures r.ensures
-          (not-true r.result c.if-not-eliminate.true),
+      without c.args.m.now _ _ r.result c.start.ensures r.ensures
+          c.if-not-eliminate.true,
     )
 
 pub returns : goal.returns
 returns c =
     let r = c.eliminate in
-    found (matrix c.before.before.before.before) _ _ _ r.result c.start.ensures r.ensures
-    (not-false r.result c.if-not-eliminate.false) c.store.ensures
+    found c.args.m.now _ _ _ r.result c.start.ensures r.ensures
+    c.if-not-eliminate.false c.store.ensures

@@ -12,8 +12,8 @@ use Rattle.matrix_ready.proofs.add_two_columns.Goals as goal
 next_place : (j i : ℕ) → 24 * (j + 1) + i ≡ 24 * j + 24 + i
 next_place j i = omega arith
 
-next-raised : (j i : ℕ) → 24 * (j + 1) + 12 + i ≡ 24 * j + 24 + 12 + i
-next-raised j i = omega arith
+next_raised : (j i : ℕ) → 24 * (j + 1) + 12 + i ≡ 24 * j + 24 + 12 + i
+next_raised j i = omega arith
 
 pub loop-i-init : goal.loop-i-init
 loop-i-init c = fills_none c.requires.0
@@ -57,7 +57,7 @@ term-requires c =
     let p = c.requires in
     let r = c.args.ready.now in
     let low = next_place c.args.j i in
-    let high = next-raised c.args.j i in (
+    let high = next_raised c.args.j i in (
       record {
         so_far = c.loose_term-between.ensures.1;
         first = subst (λ k. Canonical (cell r k)) low

@@ -9,7 +9,7 @@ use Rattle.matrix_ready.proofs.add_two_columns.Given as goal
 abbrev pub invariant-loop-i : goal.invariant-loop-i
 invariant-loop-i l =
     Fills 12
-    (λ l. gathered (gathered (cell l.initial.words l) (cell l.ready (24 * l.j + l)) l.x) (cell l.ready (24 * (l.j + 1) + l)) l.y)
+    (λ i. gathered (gathered (cell l.initial.words i) (cell l.ready (24 * l.j + i)) l.x) (cell l.ready (24 * (l.j + 1) + i)) l.y)
     l.initial.words l.i l.words
 
 abbrev pub decreases-loop-i : goal.decreases-loop-i

@@ -48,7 +48,7 @@ returns c =
     let turn = c.loop-j in
     let start = c.args in
     let a = ready_entry start.ready.now in
-    let s = start.t2 in
+    let s = start.s in
     let e : turn.j / 2 ≡ 6 = omega arith in
     let made : turn.words ≡ row_words a (cell s) 6 = turn.invariant.2 ∙ ap (row_words a (cell s)) e in
     (made ∙ all_gathered a (cell s), words_canonical a (cell s) 6 turn.words made)

@@ -7,7 +7,7 @@ use Rattle.matrix.specs.Matrix.{entry}
 use Rattle.matrix_ready.proofs.scaled_column.Given as goal
 
 abbrev pub invariant-loop-i : goal.invariant-loop-i
-invariant-loop-i l = Fills 12 (λ l. times_word (entry l.m l l.j) l.factor) l.initial.out l.i l.out
+invariant-loop-i l = Fills 12 (λ i. times_word (entry l.m i l.j) l.factor) l.initial.out l.i l.out
 
 abbrev pub decreases-loop-i : goal.decreases-loop-i
 decreases-loop-i l = 12 - l.i

@@ -29,8 +29,8 @@ loop-i-preserved c =
     let start = c.args in (
       omega arith,
       simp length-set turn.invariant.1,
-      ap (λ l. set l (start.start + turn.i) (cell start.t3 turn.i)) turn.invariant.2
-          ∙ more start.out.now start.start turn.i (cell start.t3),
+      ap (λ l. set l (start.start + turn.i) (cell start.words turn.i)) turn.invariant.2
+          ∙ more start.out.now start.start turn.i (cell start.words),
     )
 
 pub returns : goal.returns
@@ -38,4 +38,4 @@ returns c =
     let turn = c.loop-i in
     let start = c.args in
     let e : turn.i ≡ 12 = omega arith in
-    turn.invariant.2 ∙ ap (λ n. sets start.out.now start.start (tab n (cell start.t3))) e
+    turn.invariant.2 ∙ ap (λ n. sets start.out.now start.start (tab n (cell start.words))) e
