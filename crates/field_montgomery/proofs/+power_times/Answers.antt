@@ -1,7 +1,7 @@
 -- `field_montgomery::power_times`: the exponent is halved while the base is squared, and at an odd one the base goes into the
 -- accumulator. Each of the three returns is a law of powers in Montgomery's form.
 -- Assumes nothing.
-use Rattle.std.proofs.Common.{ℕ, sym, ap, ◌∙◌, arith}
+use Rattle.std.proofs.Common.{sym, ap, ◌∙◌, arith}
 use Rattle.field.specs.Field.{mul, power}
 use Rattle.field.specs.MontgomeryHelpers.{divided}
 use Rattle.field.proofs.Power.{times_one, times_even, times_odd}

@@ -26,4 +26,3 @@ loop-j-preserved c =
     let b = c.args.b in
     fills_more turn.invariant (omega arith)
     (c.times.ensures.0 ∙ ap (λ v. times_word v (cell b turn.j)) (fills_next turn.invariant))
-

@@ -2,7 +2,7 @@
 -- Assumes nothing.
 use mathlib.Core.Path.{◌≡◌}
 use mathlib.Core.List.{List}
-use Prim.Native.Nat.{ℕ, ◌-◌, ◌≤◌}
+use Prim.Native.Nat.{ℕ, ◌≤◌}
 use Rattle.field_words.specs.Words.{CanonicalTo}
 use Rattle.hash.specs.Hash.{state_at}
 use Rattle.hash.proofs.final_state.Given as goal
@@ -10,6 +10,3 @@ use Rattle.hash.proofs.final_state.Given as goal
 abbrev pub invariant-loop-round : goal.invariant-loop-round
 invariant-loop-round l =
     (l.round ≤ 10) × CanonicalTo 12 l.state × ((s : List ℕ) → l.initial.state ≡ state_at l.table s 0 → l.state ≡ state_at l.table s l.round)
-
-abbrev pub decreases-loop-round : goal.decreases-loop-round
-decreases-loop-round l = 10 - l.round

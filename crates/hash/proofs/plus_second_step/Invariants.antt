@@ -1,7 +1,6 @@
 -- `hash::plus_second_step`: the cells passed are those of s plus the round's second-step constant, and twelve of them
 -- are the definition's sum.
 -- Assumes nothing.
-use Prim.Native.Nat.{◌-◌}
 use Rattle.lists.specs.Lists.{cell}
 use Rattle.lists.proofs.Tab.{Fills}
 use Rattle.field.specs.Field.{add}
@@ -11,6 +10,3 @@ use Rattle.hash.proofs.plus_second_step.Given as goal
 abbrev pub invariant-loop-j : goal.invariant-loop-j
 invariant-loop-j l =
     Fills 12 (λ i. add (cell l.s i) (cell (second_step_constant l.table l.round) i)) l.initial.out l.j l.out
-
-abbrev pub decreases-loop-j : goal.decreases-loop-j
-decreases-loop-j l = 12 - l.j

@@ -3,33 +3,21 @@
 -- Assumes nothing.
 use mathlib.Core.Path.{sym, ap, ◌∙◌}
 use native.Mathlib.Omega.{arith}
-use lib.ListN.{length}
-use Rattle.numbers.specs.Numbers.{tap_word_batches}
 use Rattle.refusals.specs.Refusals.{digest}
 use Rattle.refusals.proofs.Laws.{digest_turned_back, digest_returned}
-use Rattle.table.proofs.Theorems.{ready_left_lem, left_size}
+use Rattle.table.proofs.Theorems.{ready_left_lem}
 use Rattle.hash.specs.Hash.{chain as chain-of}
 use Rattle.hash_chain.specs.Answers.{chain_answer}
-use Rattle.hash_chain.proofs.Answers.{ChainInputs, chain-inputs, digest-take}
+use Rattle.hash_chain.proofs.Answers.{chain-inputs, digest-take}
 use Rattle.hash_chain.proofs.chain.Goals as goal
-use Rattle.hash_chain.proofs.chain.Goals.{In-Accepted}
 
 pub returns-in_default : goal.returns-in_default
 unfolding chain_answer
 returns-in_default c = digest_turned_back c.test_chain-answer.ensures.0 _ c.refusal.ensures
 
--- where the tests have passed, what they say of the table and the taps, and M is left made ready
-inputs : (c : In-Accepted) → let start = c.args in
-    ChainInputs start.table.now start.taps.now (tap_word_batches (length start.taps.now))
-inputs c = chain-inputs _ _ (sym c.test_chain-answer.ensures.0 ∙ c.enum_told-1.given.1)
-
-pub slice_bounds-last_state-end : goal.slice_bounds-last_state-end
-slice_bounds-last_state-end c =
-    sym (left_size _ _ (inputs c.before).table c.test_chain-answer.ensures.1)
-
 pub last_state-last-requires : goal.last_state-last-requires
 last_state-last-requires c =
-    let i = inputs c.before in (
+    let i = chain-inputs _ _ (sym c.test_chain-answer.ensures.0 ∙ c.in-Accepted.is) in (
       i.table,
       omega (arith, i.permitted.high),
       omega (arith, i.size),
@@ -40,5 +28,5 @@ last_state-last-requires c =
 pub returns : goal.returns
 unfolding chain_answer chain-of
 returns c =
-    digest_returned c.test_chain-answer.ensures.0 c.enum_told-1.given.1
+    digest_returned c.test_chain-answer.ensures.0 c.in-Accepted.is
     (digest-take c.last_state-last.result ∙ ap digest c.last_state-last.ensures)

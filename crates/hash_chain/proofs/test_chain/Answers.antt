@@ -13,45 +13,46 @@ use Rattle.refusals.specs.Answers.{unless}
 use Rattle.refusals.proofs.Laws.{unless_refused, unless_passed, after_refused, after_accepted}
 use Rattle.hash_chain.specs.Answers.{chain_test}
 use Rattle.hash_chain.proofs.test_chain.Goals as goal
-use Rattle.hash_chain.proofs.test_chain.Goals.{After-tap_batches, After-first_bad-bad}
+use Rattle.table.specs.Table.{table_test}
+use Prim.Native.Nat.{ℕ}
+use mathlib.Core.List.{List}
 
--- there the table is accepted, and what is answered is left to the taps' length and words
-accepted : (c : After-tap_batches) {o : Answer} → let taps = c.args.taps.now in
-    o ≡ unless (is_tap_length most_batches (length taps)) TapLength
-    (unless (canonical_words taps) (TapWord (first_bad taps)) Accepted)
-    → o ≡ chain_test c.args.table.now taps
+-- where the table is accepted, what is answered is left to the taps' length and words
+accepted : (T w : List ℕ) {a o : Answer} → a ≡ table_test T → a ≡ Accepted
+    → o ≡ unless (is_tap_length most_batches (length w)) TapLength
+    (unless (canonical_words w) (TapWord (first_bad w)) Accepted) → o ≡ chain_test T w
 unfolding chain_test
-accepted c e =
-    after_accepted c.test_and_ready-of_table.ensures.0 c.enum_told-1.given.1 e
-
--- and after a permitted length, to the words
-permitted : (f : After-first_bad-bad) {o : Answer} → let taps = f.args.taps.now in
-    o ≡ unless (canonical_words taps) (TapWord (first_bad taps)) Accepted → o ≡ chain_test f.args.table.now taps
-permitted f e =
-    let n = length f.args.taps.now in
-    accepted f.before.before.before
-    (unless_passed _ (tap_permitted most_batches n f.tap_batches.ensures f.enum_told-in-Permitted-1.given.1).0 e)
+accepted T w table passed e = after_accepted table passed e
 
 pub returns-in_default : goal.returns-in_default
 unfolding chain_test
 returns-in_default c =
-    (after_refused _ c.test_and_ready-of_table.ensures.0 c.enum_told-in_default-1.given.1, c.test_and_ready-of_table.ensures.1)
+    (after_refused _ c.test_and_ready-of_table.ensures.0 c.in_default.is, c.test_and_ready-of_table.ensures.1)
 
 pub returns-in_default-tap_batches : goal.returns-in_default-tap_batches
 returns-in_default-tap_batches c =
-    let n = length c.args.taps.now in
-    let e = tap_refused most_batches n c.tap_batches.ensures c.enum_told-in_default-tap_batches-1.given.1 in
-    (accepted c.before.before (unless_refused _ e refl), c.test_and_ready-of_table.ensures.1)
+    let e = tap_refused most_batches (length c.args.taps.now) c.tap_batches.ensures c.in_default-tap_batches.is in (
+      accepted _ c.args.taps.now c.test_and_ready-of_table.ensures.0 c.in-Accepted.is
+          (unless_refused
+          (unless (canonical_words c.args.taps.now) (TapWord (first_bad c.args.taps.now)) Accepted) e refl),
+      c.test_and_ready-of_table.ensures.1,
+    )
 
 pub returns-then-bad-taps : goal.returns-then-bad-taps
 returns-then-bad-taps c =
-    let bad = c.first_bad-bad.ensures in (
-      permitted c.before (unless_refused _ (scanned_bad _ bad c.if-bad-taps.true) (ap (λ i. Refused (TapWord i)) bad)),
+    let bad = c.first_bad-bad.ensures in
+    let e = tap_permitted most_batches (length c.args.taps.now) c.tap_batches.ensures c.in-Permitted.is in (
+      accepted _ c.args.taps.now c.test_and_ready-of_table.ensures.0 c.in-Accepted.is
+          (unless_passed TapLength e.0
+          (unless_refused Accepted (scanned_bad _ bad c.if-bad-taps.true) (ap (λ i. Refused (TapWord i)) bad))),
       c.test_and_ready-of_table.ensures.1,
     )
 
 pub returns : goal.returns
-returns c = (
-  permitted c.before (unless_passed _ (scanned_good _ c.first_bad-bad.ensures c.if-bad-taps.false) refl),
-  c.test_and_ready-of_table.ensures.1,
-)
+returns c =
+    let e = tap_permitted most_batches (length c.args.taps.now) c.tap_batches.ensures c.in-Permitted.is in (
+      accepted _ c.args.taps.now c.test_and_ready-of_table.ensures.0 c.in-Accepted.is
+          (unless_passed TapLength e.0
+          (unless_passed (TapWord (first_bad c.args.taps.now)) (scanned_good _ c.first_bad-bad.ensures c.if-bad-taps.false) refl)),
+      c.test_and_ready-of_table.ensures.1,
+    )

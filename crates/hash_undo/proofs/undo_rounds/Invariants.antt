@@ -9,6 +9,3 @@ use Rattle.hash_undo.proofs.undo_rounds.Given as goal
 abbrev pub invariant-loop-undone : goal.invariant-loop-undone
 invariant-loop-undone l =
     (l.undone ≤ 10) × CanonicalTo 12 l.state × (rounds_undone l.table (10 - l.undone) l.state ≡ rounds_undone l.table 10 l.initial.state)
-
-abbrev pub decreases-loop-undone : goal.decreases-loop-undone
-decreases-loop-undone l = 10 - l.undone

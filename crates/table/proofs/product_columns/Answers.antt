@@ -1,15 +1,9 @@
-use Prim.Native.Nat.{ℕ}
 use mathlib.Core.Path.{refl, subst}
-use mathlib.Core.List.{List}
 use native.Mathlib.Omega.{arith}
-use lib.ListN.{replicate}
-use Rattle.lists.proofs.Tab.{Fills, fills_none, fills_more, fills_all}
-use Rattle.table.proofs.Tested.{column_canonical, by_columns, next_cell}
+use Rattle.lists.proofs.Tab.{fills_none, fills_more, fills_all}
+use Rattle.table.proofs.Tested.{column_canonical, next_cell}
+use Rattle.table.proofs.product_columns.Invariants.{SoFar}
 use Rattle.table.proofs.product_columns.Goals as goal
-
--- the list holds the first t cells of the product, and zeros
-abbrev SoFar : List ℕ → List ℕ → List ℕ → ℕ → Type 0
-SoFar ready n out t = Fills 144 (by_columns ready n) (replicate 144 0) t out
 
 pub loop-k-init : goal.loop-k-init
 loop-k-init c = (omega arith, fills_none refl)
@@ -31,7 +25,7 @@ loop-i-init c =
 
 pub loop-i-preserved : goal.loop-i-preserved
 loop-i-preserved c =
-    let start = (entry c).args in
+    let start = c.args in
     let next =
     next_cell start.ready.now start.n.now _ _ c.loop-k.k c.loop-i.i (omega arith)
     c.column.ensures c.mix-x.ensures.0 in (
@@ -42,7 +36,7 @@ loop-i-preserved c =
 
 pub loop-k-preserved : goal.loop-k-preserved
 loop-k-preserved c =
-    let start = (entry c).args in
+    let start = c.args in
     (omega arith, subst (SoFar start.ready.now start.n.now _) (omega arith) c.loop-i.invariant.1)
 
 pub returns : goal.returns

@@ -2,31 +2,14 @@
 -- Assumes nothing.
 use mathlib.Core.Path.{◌≡◌, refl, sym, ◌∙◌}
 use native.Mathlib.Omega.{arith}
-use borrow.Author.Tests.{not-true, not-false}
 use lib.ListN.{length}
 use Rattle.lists.proofs.Tab.{length_part}
 use Rattle.field_words.proofs.Laws.{good_all}
-use Rattle.refusals.specs.declared.Answer.TheVariants.{Accepted}
-use Rattle.table.specs.Table.{raw_words, raw_test, RawInverse, refuses}
+use Rattle.table.specs.Table.{raw_words, refuses}
 use Rattle.table.proofs.Parts.{part_canonical}
 use Rattle.table_prepare.proofs.Prepared.{wrong_length, wrong_room, wrong_word, raw_accepted, without}
 use Rattle.table_prepare.proofs.Prepared.{inverted, written}
 use Rattle.table_prepare.proofs.prepare.Goals as goal
-use Rattle.table_prepare.proofs.prepare.Goals.{Else-bad-ne-RAW_WORDS, Else-not-invert}
-
--- the tests have accepted
-tested : (c : Else-bad-ne-RAW_WORDS) → let s = c.args in
-    raw_test s.raw.now (length s.destination.now) ≡ Accepted
-tested c =
-    raw_accepted _ _ c.if-raw-ne-RAW_WORDS.left c.if-destination-ne-WORDS.left (sym c.first_bad-bad.ensures ∙ c.if-bad-ne-RAW_WORDS.false)
-
--- and the inverse is found
-found : (c : Else-not-invert) → let s = (entry (lengths c)).args in
-    RawInverse s.raw.now c.invert.new.1.0
-found c =
-    let i = c.invert in
-    let s = c.args in
-    inverted s.raw.now s.destination.now (tested c.before) _ _ _ i.ensures (not-false i.result c.if-not-invert.false)
 
 pub returns-then-raw-ne-RAW_WORDS : goal.returns-then-raw-ne-RAW_WORDS
 returns-then-raw-ne-RAW_WORDS c =
@@ -61,16 +44,23 @@ invert-requires c =
 
 pub returns-then-not-invert : goal.returns-then-not-invert
 returns-then-not-invert c =
-    let i = c.invert in
     let s = c.args in
-    without s.raw.now s.destination.now (tested c.before) _ _ _ i.ensures (not-true i.result c.if-not-invert.true)
+    let good = sym c.first_bad-bad.ensures ∙ c.if-bad-ne-RAW_WORDS.false in
+    let t = raw_accepted s.raw.now (length s.destination.now) c.if-raw-ne-RAW_WORDS.false c.if-destination-ne-WORDS.false good in
+    without s.raw.now s.destination.now t _ _ _ c.invert.ensures c.if-not-invert.true
 
 pub write-requires : goal.write-requires
 write-requires c =
-    let l = lengths c in
-    (l.before.if1.left, (found c.before.before).size, l.if2.left)
+    let s = c.args in
+    let good = sym c.first_bad-bad.ensures ∙ c.if-bad-ne-RAW_WORDS.false in
+    let t = raw_accepted s.raw.now (length s.destination.now) c.if-raw-ne-RAW_WORDS.false c.if-destination-ne-WORDS.false good in
+    let found = inverted s.raw.now s.destination.now t _ _ _ c.invert.ensures c.if-not-invert.false in
+    (c.if-raw-ne-RAW_WORDS.false, found.size, c.if-destination-ne-WORDS.false)
 
 pub returns : goal.returns
 returns c =
     let s = c.args in
-    written s.raw.now s.destination.now (tested c.before.before.before.before.before.before) _ _ (found c.before.before.before.before.before) c.write.ensures
+    let good = sym c.first_bad-bad.ensures ∙ c.if-bad-ne-RAW_WORDS.false in
+    let t = raw_accepted s.raw.now (length s.destination.now) c.if-raw-ne-RAW_WORDS.false c.if-destination-ne-WORDS.false good in
+    let found = inverted s.raw.now s.destination.now t _ _ _ c.invert.ensures c.if-not-invert.false in
+    written s.raw.now s.destination.now t _ _ found c.write.ensures

@@ -1,6 +1,5 @@
 -- `table_prepare::write`: the words passed are those of the prepared table, each by `prepared_word`.
 -- Assumes nothing.
-use Prim.Native.Nat.{◌-◌}
 use Rattle.lists.specs.Lists.{cell}
 use Rattle.lists.proofs.Tab.{Fills}
 use Rattle.table.specs.Table.{table_words, prepared}
@@ -9,7 +8,3 @@ use Rattle.table_prepare.proofs.write.Given as goal
 abbrev pub invariant-loop-t : goal.invariant-loop-t
 invariant-loop-t l =
     Fills table_words (cell (prepared l.raw l.n)) l.initial.destination l.t l.destination
-
-abbrev pub decreases-loop-t : goal.decreases-loop-t
-decreases-loop-t l =
-    table_words - l.t
