@@ -6,20 +6,16 @@ use Rattle.board.specs.Board.{packed, pack_leaves}
 use Rattle.board.proofs.Answers.{pack-accepted}
 use Rattle.board.proofs.pack.Goals as goal
 
-pub returns-in_default : goal.returns-in_default
+pub returns-in_default-clause-destination_after : goal.returns-in_default-clause-destination_after
 unfolding pack_leaves
-returns-in_default c =
-    let e = c.test_pack-answer.ensures in
-    (e, leaves_old e _ c.enum_told-in_default-1.given.1)
+returns-in_default-clause-destination_after c = leaves_old c.test_pack-answer.ensures _ c.in_default.is
 
 pub write_file-requires : goal.write_file-requires
 write_file-requires c =
-    let h = pack-accepted _ _ _ (sym c.test_pack-answer.ensures ∙ c.enum_told-1.given.1) in
+    let h = pack-accepted _ _ _ (sym c.test_pack-answer.ensures ∙ c.in-Accepted.is) in
     (h.permitted.high, h.taps_size, h.size_is)
 
-pub returns : goal.returns
+pub returns-clause-destination_after : goal.returns-clause-destination_after
 unfolding packed pack_leaves
-returns c =
-    let e = c.test_pack-answer.ensures in
-    let a = c.enum_told-1.given.1 in
-    (sym a ∙ e, leaves_new e _ a c.write_file.ensures)
+returns-clause-destination_after c =
+    leaves_new c.test_pack-answer.ensures _ c.in-Accepted.is c.write_file.ensures

@@ -1,70 +1,73 @@
 -- `board::unpack`: nothing is written before all tests have passed; then the taps are, and the claim is returned.
 -- Assumes nothing.
 use mathlib.Core.Path.{◌≡◌, sym, ◌∙◌}
+use mathlib.Core.List.{List}
 use Prim.Native.Nat.{ℕ, ◌+◌, ◌*◌, ◌≤◌, ◌<◌}
 use native.Mathlib.Omega.{arith}
 use lib.Dec.{lit<}
 use lib.ListN.{length}
 use Rattle.lists.specs.Lists.{tab}
 use Rattle.field.specs.Field.{P}
-use Rattle.board_words.specs.Elements.{element_at, elements_at}
+use Rattle.refusals.specs.declared.Answer.{Answer}
+use Rattle.refusals.specs.declared.Answer.TheVariants.{Accepted}
 use Rattle.refusals.proofs.Laws.{digest_turned_back, digest_returned, leaves_old, leaves_new}
-use Rattle.board.specs.Board.{batches_in, claim_in, taps_in, unpack_answer, unpack_leaves, IsBoard}
+use Rattle.board_words.specs.Elements.{element_at, elements_at}
+use Rattle.board.specs.Board.{batches_in, claim_in, taps_in, unpack_test, unpack_answer, unpack_leaves, IsBoard}
 use Rattle.board.proofs.Answers.{unpack-accepted}
 use Rattle.board.proofs.Round.{after_claim}
 use Rattle.board.proofs.unpack.Goals as goal
-use Rattle.board.proofs.unpack.Goals.{In-Accepted}
 
-board : (c : In-Accepted)
-    → let file = c.args.file.now in
-    IsBoard file (batches_in file) × (length c.args.destination.now ≡ 12 * batches_in file + 4)
-board c = unpack-accepted _ _ (sym c.test_unpack-of_file.ensures ∙ c.enum_told-1.given.1)
+-- what the tests' acceptance says
+board : (file : List ℕ) (size : ℕ) {t : Answer} → t ≡ unpack_test file size → t ≡ Accepted
+    → IsBoard file (batches_in file) × (size ≡ 12 * batches_in file + 4)
+board file size e h = unpack-accepted _ _ (sym e ∙ h)
 
 -- so the four elements of the claim are there, and canonical
-element : (c : In-Accepted) (i : ℕ) → i < 4
-    → (4 * (1 + 3 * i) + 12 ≤ length c.args.file.now)
-    × (element_at c.args.file.now (1 + 3 * i) < P)
-element c i h = (omega (arith, (board c).0.size), ((board c).0.elements i (omega arith)).value)
+element : (file : List ℕ) (size : ℕ) {t : Answer} (i : ℕ) → i < 4 → t ≡ unpack_test file size → t ≡ Accepted
+    → (4 * (1 + 3 * i) + 12 ≤ length file) × (element_at file (1 + 3 * i) < P)
+element file size i l e h =
+    let b = board file size e h in
+    (omega (arith, b.0.size), (b.0.elements i (omega arith)).value)
 
-pub refusal-requires : goal.refusal-requires
-refusal-requires c = (c.enum_told-in_default-1.given.0.0, c.enum_told-in_default-1.given.1)
+pub returns-in_default-clause-value : goal.returns-in_default-clause-value
+unfolding unpack_answer
+returns-in_default-clause-value c = digest_turned_back c.test_unpack-of_file.ensures _ c.refusal.ensures
 
-pub returns-in_default : goal.returns-in_default
-unfolding unpack_answer unpack_leaves
-returns-in_default c =
-    let e = c.test_unpack-of_file.ensures in
-    let r = c.refusal.ensures in
-    (digest_turned_back e _ r, leaves_old e _ r)
+pub returns-in_default-clause-destination_after : goal.returns-in_default-clause-destination_after
+unfolding unpack_leaves
+returns-in_default-clause-destination_after c = leaves_old c.test_unpack-of_file.ensures _ c.refusal.ensures
 
 pub read-requires : goal.read-requires
-read-requires c = element c 0 (lit< tt)
+read-requires c = element _ _ 0 (lit< tt) c.test_unpack-of_file.ensures c.in-Accepted.is
 
 pub read-requires-2 : goal.read-requires-2
-read-requires-2 c = element c.before 1 (lit< tt)
+read-requires-2 c = element _ _ 1 (lit< tt) c.test_unpack-of_file.ensures c.in-Accepted.is
 
 pub read-requires-3 : goal.read-requires-3
-read-requires-3 c = element c.before.before 2 (lit< tt)
+read-requires-3 c = element _ _ 2 (lit< tt) c.test_unpack-of_file.ensures c.in-Accepted.is
 
 pub read-requires-4 : goal.read-requires-4
-read-requires-4 c = element c.before.before.before 3 (lit< tt)
+read-requires-4 c = element _ _ 3 (lit< tt) c.test_unpack-of_file.ensures c.in-Accepted.is
 
 pub read_all-requires : goal.read_all-requires
 read_all-requires c =
-    let b = board c in (
+    let b = board _ _ c.test_unpack-of_file.ensures c.in-Accepted.is in (
       omega (arith, b.0.size, b.1),
       λ i h. rw (after_claim i) at (b.0.elements (4 + i) (omega (arith, b.1))).value,
     )
 
-pub returns : goal.returns
-unfolding claim_in taps_in elements_at tab unpack_answer unpack_leaves
-returns c =
-    let e = c.test_unpack-of_file.ensures in
-    let a = c.enum_told-1.given.1 in (
-      digest_returned e a (rw (
-        c.read.ensures,
-        c.read-2.ensures,
-        c.read-3.ensures,
-        c.read-4.ensures,
-      )),
-      leaves_new e _ a (c.read_all.ensures ∙ rw (board c.before.before.before.before).1),
-    )
+pub returns-clause-value : goal.returns-clause-value
+unfolding claim_in elements_at tab unpack_answer
+returns-clause-value c =
+    digest_returned c.test_unpack-of_file.ensures c.in-Accepted.is (rw (
+      c.read.ensures,
+      c.read-2.ensures,
+      c.read-3.ensures,
+      c.read-4.ensures,
+    ))
+
+pub returns-clause-destination_after : goal.returns-clause-destination_after
+unfolding taps_in unpack_leaves
+returns-clause-destination_after c =
+    leaves_new c.test_unpack-of_file.ensures _ c.in-Accepted.is
+    (c.read_all.ensures ∙ rw (board _ _ c.test_unpack-of_file.ensures c.in-Accepted.is).1)

@@ -11,11 +11,17 @@ loop-i-init c =
     let n : a.count - 0 ≡ a.count = omega arith in
     (omega arith, rw (j, n))
 
+pub returns : goal.returns
+returns c =
+    let loop = c.loop-i in
+    let none : c.args.count - loop.i ≡ 0 = omega arith in
+    sym (sym loop.invariant.1 ∙ rw none (tests_none _ _))
+
 pub returns-in_default : goal.returns-in_default
 returns-in_default c =
     let loop = c.loop-i in
     let of-element = c.test-of_element in
-    tests_stop _ _ _ loop.i of-element.result _ (omega arith) of-element.ensures c.enum_told-in_default-1.given.1
+    tests_stop _ _ _ loop.i of-element.result _ (omega arith) of-element.ensures c.in_default.is
     ∙ loop.invariant.1
 
 pub loop-i-preserved : goal.loop-i-preserved
@@ -23,12 +29,6 @@ loop-i-preserved c =
     let loop = c.loop-i in
     let of-element = c.test-of_element in (
       omega arith,
-      tests_on _ _ _ loop.i of-element.result (omega arith) of-element.ensures c.enum_told-1.given.1
+      tests_on _ _ _ loop.i of-element.result (omega arith) of-element.ensures c.in-Accepted.is
           ∙ loop.invariant.1,
     )
-
-pub returns : goal.returns
-returns c =
-    let loop = c.loop-i in
-    let none : c.args.count - loop.i ≡ 0 = omega arith in
-    sym (sym loop.invariant.1 ∙ rw none (tests_none _ _))

@@ -26,15 +26,13 @@ loop-i-preserved c =
           (read.0 ∙ ap (short_at _) loop.invariant.2) loop.invariant.3,
     )
 
-pub returns : goal.returns
+pub returns-clause-destination_after : goal.returns-clause-destination_after
 unfolding shorts_at
-returns c =
+returns-clause-destination_after c =
     let loop = c.loop-i in
     let a = c.args in
-    let all : loop.i ≡ length a.destination.now = omega arith in (
-      loop.invariant.2 ∙ rw all,
-      loop.invariant.3
-          ∙ rw all
-          (filled_all (length a.destination.now)
-          (λ n. short_at a.file.now (first_word a.file.now a.index n)) a.destination.now refl),
-    )
+    let all : loop.i ≡ length a.destination.now = omega arith in
+    loop.invariant.3
+    ∙ rw all
+    (filled_all (length a.destination.now) (λ n. short_at a.file.now (first_word a.file.now a.index n))
+    a.destination.now refl)

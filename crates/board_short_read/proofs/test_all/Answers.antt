@@ -1,11 +1,10 @@
 use mathlib.Core.Path.{◌≡◌, refl, sym, ◌∙◌}
-use Prim.Native.Nat.{ℕ, ◌+◌, ◌-◌}
+use Prim.Native.Nat.{◌+◌, ◌-◌}
 use native.Mathlib.Omega.{arith}
 use borrow.Author.Tests.{eq-eqb, ne_eqb}
 use Rattle.refusals.proofs.Laws.{unless_refused, unless_passed}
 use Rattle.board_short_read.proofs.Tests.{accepted, next_within, tests_next, tests_stop, tests_end}
 use Rattle.board_short_read.proofs.test_all.Goals as goal
-use Rattle.board_short_read.proofs.test_all.Goals.{In-Accepted}
 
 pub loop-init : goal.loop-init
 loop-init c =
@@ -13,28 +12,22 @@ loop-init c =
     let n : a.count - 0 ≡ a.count = omega arith in
     (omega arith, omega arith, rw n)
 
--- the number of elements that is lent
-abbrev loop-count : In-Accepted → ℕ
-loop-count t = t.args.count
-
-pub test-of_element-requires : goal.test-of_element-requires
-test-of_element-requires c = tt
-
 pub returns-in_default : goal.returns-in_default
 returns-in_default c =
     let of-element = c.test-of_element in
     let loop = c.loop in
-    tests_stop _ _ _ of-element.result _ (omega arith) of-element.ensures c.enum_told-in_default-1.given.1 ∙ loop.invariant.2
+    tests_stop _ _ _ of-element.result _ (omega arith) of-element.ensures c.in_default.is ∙ loop.invariant.2
 
 pub read-at-requires : goal.read-at-requires
-read-at-requires c = sym c.test-of_element.ensures ∙ c.enum_told-1.given.1
+read-at-requires c = sym c.test-of_element.ensures ∙ c.in-Accepted.is
 
 pub loop-preserved : goal.loop-preserved
 loop-preserved c =
     let of-element = c.test-of_element in
     let loop = c.loop in
-    let a = c.enum_told-1.given.1 in
-    let n : loop-count c.before - (loop.counter + 1) ≡ loop-count c.before - loop.counter - 1 = omega arith in (
+    let a = c.in-Accepted.is in
+    let count = c.args.count in
+    let n : count - (loop.counter + 1) ≡ count - loop.counter - 1 = omega arith in (
       omega arith,
       omega (arith, c.read-at.ensures.1, next_within _ _ (accepted _ _ (sym of-element.ensures ∙ a))),
       rw (c.read-at.ensures.1, n)

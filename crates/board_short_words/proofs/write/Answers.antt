@@ -3,7 +3,7 @@
 use Rattle.board_short_words.proofs.Words.{write_last}
 use Rattle.board_short_words.proofs.write.Goals as goal
 
-pub returns : goal.returns
-returns c =
+pub returns-clause-destination_after : goal.returns-clause-destination_after
+returns-clause-destination_after c =
     let first = c.write_first-last.ensures in
-    (first.0, write_last _ _ _ _ _ _ first.0 first.1 c.write_low.ensures)
+    write_last _ _ _ _ _ _ first.result_value first.destination_after c.write_low.ensures
