@@ -12,7 +12,7 @@ use borrow.Author.Tests.{eq-eqb, ne_eqb, eqb-true, eqb-false, le-leb, lt-leb, le
 use lib.Dec.{eqb, leb}
 use lib.ListN.{length, length-append}
 use Rattle.lists.specs.Lists.{cell}
-use Rattle.numbers.specs.Numbers.{tap_words, permitted, tap_word_batches}
+use Rattle.numbers.specs.Numbers.{tap_words, tap_word_batches}
 use Rattle.refusals.specs.Refusals.{told, digest, digest_words}
 use Rattle.refusals.specs.Answers.{after}
 use Rattle.refusals.specs.declared.Refusal.{Refusal}

@@ -5,7 +5,6 @@ use mathlib.Core.List.{List}
 use Prim.Native.Nat.{ℕ}
 use native.Mathlib.Nat.{mod-lt}
 use native.Mathlib.Omega.{arith}
-use lib.ListN.{length}
 use Rattle.lists.specs.Lists.{cell}
 use Rattle.lists.proofs.Tab.{cell_tab}
 use Rattle.field.specs.Field.{Canonical, sub}

@@ -2,7 +2,7 @@
 -- back" for the order of the refusals). T is the lent table, w the lent list of taps, size the length of the
 -- destination.
 -- Assumes nothing.
-use Rattle.std.specs.Prelude.{List, ℕ, ◌*◌, eqb, length}
+use Rattle.std.specs.Prelude.{List, ℕ, eqb, length}
 use Rattle.field_words.specs.Words.{first_bad, canonical_words}
 use Rattle.numbers.specs.Numbers.{trace_words, most_batches, is_tap_length, tap_word_batches}
 use Rattle.refusals.specs.declared.Refusal.TheVariants.{TapLength, TapWord, DestinationLength}

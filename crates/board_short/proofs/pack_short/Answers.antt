@@ -10,16 +10,16 @@ pub returns-in_default : goal.returns-in_default
 unfolding pack_short_leaves
 returns-in_default c =
     let e = c.test_pack-answer.ensures in
-    (e, leaves_old e _ c.enum_told-in_default-1.given.1)
+    record { value = e; destination_after = leaves_old e _ c.in_default.is }
 
 pub write_file-requires : goal.write_file-requires
 write_file-requires c =
-    let h = pack-accepted _ _ _ (sym c.test_pack-answer.ensures ∙ c.enum_told-1.given.1) in
+    let h = pack-accepted _ _ _ (sym c.test_pack-answer.ensures ∙ c.in-Accepted.is) in
     (h.permitted.high, h.size_is)
 
 pub returns : goal.returns
 unfolding packed_short pack_short_leaves
 returns c =
     let e = c.test_pack-answer.ensures in
-    let a = c.enum_told-1.given.1 in
-    (sym a ∙ e, leaves_new e _ a c.write_file.ensures)
+    let a = c.in-Accepted.is in
+    record { value = sym a ∙ e; destination_after = leaves_new e _ a c.write_file.ensures }

@@ -1,7 +1,10 @@
 -- `board_short::test_unpack`: each return is the case of the definition that the tests before it left.
 -- Assumes nothing.
 use mathlib.Core.Path.{◌≡◌, refl, sym, ap, ◌∙◌}
+use mathlib.Core.List.{List}
+use Prim.Native.Nat.{ℕ, ◌≤◌}
 use borrow.Author.Tests.{eq-eqb, ne_eqb, le-leb, lt-leb}
+use lib.ListN.{length}
 use Rattle.numbers.specs.Numbers.{tap_words}
 use Rattle.refusals.specs.Answers.{after}
 use Rattle.refusals.specs.declared.Answer.{Answer}
@@ -12,27 +15,17 @@ use Rattle.board_short_read.specs.Reading.{shorts_test}
 use Rattle.board_short.specs.ShortBoard.{short_count_test, unpack_short_test, short_count_in, short_batches_in}
 use Rattle.board_short.proofs.Answers.{fromRoom}
 use Rattle.board_short.proofs.test_unpack.Goals as goal
-use Rattle.board_short.proofs.test_unpack.Goals.{Else-file-lt4, After-test_count-of_count, After-count_in-k}
 
 -- word 0 is there
-four : (f : Else-file-lt4) {o : Answer} → let a = f.args in
-    o ≡ after (short_count_test (word_at a.file.now 0)) (fromRoom a.file.now a.size)
-    → o ≡ unpack_short_test a.file.now a.size
+four : (file : List ℕ) (size : ℕ) {o : Answer} → 4 ≤ length file
+    → o ≡ after (short_count_test (word_at file 0)) (fromRoom file size) → o ≡ unpack_short_test file size
 unfolding unpack_short_test
-four f e = unless_passed _ (le-leb _ _ f.if-file-lt4.false) e
+four file size h e = unless_passed _ (le-leb _ _ h) e
 
-of-count : (t : After-test_count-of_count) →
-    t.test_count-of_count.result ≡ short_count_test (word_at t.args.file.now 0)
-of-count t = t.test_count-of_count.ensures ∙ ap short_count_test t.read-word.ensures
-
-counted : (c : After-count_in-k) {o : Answer} → let a = c.args in
-    o ≡ fromRoom a.file.now a.size → o ≡ unpack_short_test a.file.now a.size
-counted c e =
-    four c.before.before.before.before.before (after_accepted (of-count c.before.before.before) c.enum_told-1.given.1 e)
-
-batches : (c : After-count_in-k) → short_batches_in c.args.file.now ≡ c.count_in-k.result
+-- and k is read from it
+batches : (file : List ℕ) (word k : ℕ) → word ≡ word_at file 0 → k ≡ short_count_in word → short_batches_in file ≡ k
 unfolding short_batches_in
-batches c = ap short_count_in (sym c.read-word.ensures) ∙ sym c.count_in-k.ensures
+batches file word k e f = ap short_count_in (sym e) ∙ sym f
 
 pub returns-then-file-lt4 : goal.returns-then-file-lt4
 unfolding unpack_short_test
@@ -40,15 +33,22 @@ returns-then-file-lt4 c = unless_refused _ (lt-leb _ _ c.if-file-lt4.true) refl
 
 pub returns-in_default : goal.returns-in_default
 returns-in_default c =
-    four c.before.before.before.before (after_refused _ (of-count c.before.before) c.enum_told-in_default-1.given.1)
+    let of_count = c.test_count-of_count.ensures ∙ ap short_count_test c.read-word.ensures in
+    four c.args.file.now c.args.size c.if-file-lt4.false (after_refused _ of_count c.in_default.is)
 
 pub returns-then-size-k : goal.returns-then-size-k
 returns-then-size-k c =
-    let k = batches c.before in
-    counted c.before (unless_refused _ (ne_eqb _ _ (λ e. c.if-size-k.true (e ∙ ap tap_words k))) refl)
+    let of_count = c.test_count-of_count.ensures ∙ ap short_count_test c.read-word.ensures in
+    let k = batches c.args.file.now _ _ c.read-word.ensures c.count_in-k.ensures in
+    four c.args.file.now c.args.size c.if-file-lt4.false
+    (after_accepted of_count c.in-Accepted.is
+    (unless_refused _ (ne_eqb _ _ (λ e. c.if-size-k.true (e ∙ ap tap_words k))) refl))
 
 pub returns : goal.returns
 returns c =
-    let k = sym (batches c.before.before) in
+    let of_count = c.test_count-of_count.ensures ∙ ap short_count_test c.read-word.ensures in
+    let k = sym (batches c.args.file.now _ _ c.read-word.ensures c.count_in-k.ensures) in
     let elements = c.test_all.ensures ∙ ap (λ b. shorts_test c.args.file.now 1 (element_count b)) k in
-    counted c.before.before (unless_passed _ (eq-eqb _ _ (c.if-size-k.false ∙ ap tap_words k)) elements)
+    four c.args.file.now c.args.size c.if-file-lt4.false
+    (after_accepted of_count c.in-Accepted.is
+    (unless_passed _ (eq-eqb _ _ (c.if-size-k.false ∙ ap tap_words k)) elements))

@@ -10,15 +10,14 @@ pub returns-in_default : goal.returns-in_default
 unfolding to_full_leaves
 returns-in_default c =
     let e = c.test-answer.ensures in
-    (e, leaves_old e _ c.enum_told-in_default-1.given.1)
+    record { value = e; destination_after = leaves_old e _ c.in_default.is }
 
 pub write-requires : goal.write-requires
-write-requires c =
-    accepted _ _ (sym c.test-answer.ensures ∙ c.enum_told-1.given.1)
+write-requires c = accepted _ _ (sym c.test-answer.ensures ∙ c.in-Accepted.is)
 
 pub returns : goal.returns
 unfolding to_full_leaves
 returns c =
     let e = c.test-answer.ensures in
-    let a = c.enum_told-1.given.1 in
-    (sym a ∙ e, leaves_new e _ a c.write.ensures)
+    let a = c.in-Accepted.is in
+    record { value = sym a ∙ e; destination_after = leaves_new e _ a c.write.ensures }

@@ -13,6 +13,3 @@ invariant-loop-i l =
     (l.i ≤ l.count) × (l.threes ≤ l.i)
     × (l.threes ≡ sum l.i (λ n. choose (is_small (cell (elements_at l.file 1 l.count) n)) 0 1))
     × (elements_test l.file (1 + 3 * l.i) (l.count - l.i) ≡ elements_test l.file 1 l.count)
-
-abbrev pub decreases-loop-i : goal.decreases-loop-i
-decreases-loop-i l = l.count - l.i

@@ -6,7 +6,7 @@ use Prim.Native.Nat.{ℕ, ◌+◌, ◌*◌}
 use native.Mathlib.Omega.{arith}
 use lib.ListN.{length}
 use Rattle.numbers.specs.Numbers.{tap_word_batches}
-use Rattle.board_words.specs.Words.{bytes_of}
+use Rattle.board_words.specs.Words.{word_at, bytes_of}
 use Rattle.board_words.specs.Elements.{elements_at}
 use Rattle.board_words.proofs.Laws.{write_file}
 use Rattle.board.specs.Board.{element_count, count_in, batches_in, taps_in}
@@ -16,56 +16,51 @@ use Rattle.board_short_words.proofs.Words.{all_needed}
 use Rattle.board_short.specs.ShortBoard.{short_count_word, short_file_of, packed_short}
 use Rattle.board_to_short.proofs.Answers.{size_is}
 use Rattle.board_to_short.proofs.write.Goals as goal
-use Rattle.board_to_short.proofs.write.Goals.{After-count_in-k}
-
-abbrev file : After-count_in-k → List ℕ
-file c = c.args.file.now
 
 -- k is the file's
-k-is : (c : After-count_in-k) → c.count_in-k.result ≡ batches_in (file c)
+k_is : (file : List ℕ) (word k : ℕ) → word ≡ word_at file 0 → k ≡ count_in word → k ≡ batches_in file
 unfolding batches_in
-k-is c = c.count_in-k.ensures ∙ ap count_in c.read.ensures
-
--- what the destination has room for
-room : (c : After-count_in-k)
-    → length c.args.destination.now
-    ≡ 4 + all_bytes_needed (elements_at (file c) 1 (element_count (batches_in (file c))))
-room c = c.requires.1 ∙ sym (size_is (file c))
+k_is file word k e f = f ∙ ap count_in e
 
 pub read-requires : goal.read-requires
 read-requires c = omega (arith, c.requires.0.size)
 
 pub count_word-requires : goal.count_word-requires
-count_word-requires c = omega (arith, k-is c, c.requires.0.permitted.high)
+count_word-requires c =
+    let k = k_is c.args.file.now _ _ c.read.ensures c.count_in-k.ensures in
+    omega (arith, k, c.requires.0.permitted.high)
 
 pub write-requires : goal.write-requires
-write-requires c = omega (arith, room c.before.before)
+write-requires c = omega (arith, c.requires.1, sym (size_is c.args.file.now))
 
 pub overflow_mul-k : goal.overflow_mul-k
-overflow_mul-k c = omega (arith, k-is c.before.before.before.before.before)
+overflow_mul-k c =
+    let k = k_is c.args.file.now _ _ c.read.ensures c.count_in-k.ensures in
+    omega (arith, k, c.requires.0.permitted.high)
 
 pub write_elements-requires : goal.write_elements-requires
 write_elements-requires c =
     let h = c.requires.0 in
-    let f = file c.before.before.before.before.before.before in
-    let kept = c.write.auto.1.1.0 in (
-      omega (arith, k-is c.before.before.before.before.before.before, h.size),
-      (λ i l. (h.elements i (omega (arith, k-is c.before.before.before.before.before.before))).value),
-      rw (k-is c.before.before.before.before.before.before) (omega (arith, kept, room c.before.before.before.before.before.before)),
+    let k = k_is c.args.file.now _ _ c.read.ensures c.count_in-k.ensures in
+    let kept = c.write.auto.destination in (
+      omega (arith, k, h.size),
+      (λ i l. (h.elements i (omega (arith, k))).value),
+      rw k (omega (arith, kept, c.requires.1, sym (size_is c.args.file.now))),
     )
 
 pub returns : goal.returns
 unfolding packed_short short_file_of
 returns c =
-    let f = file c.before.before.before.before.before.before.before.before.before in
+    let f = c.args.file.now in
     let k = c.count_in-k.result in
+    let same = k_is f _ _ c.read.ensures c.count_in-k.ensures in
     let xs : List ℕ = elements_at f 1 (element_count k) in
     let size : length c.args.destination.now ≡ 4 * (1 + length (short_words_of xs)) =
-    room c.before.before.before.before.before.before.before.before.before
-    ∙ ap (λ b. 4 + all_bytes_needed (elements_at f 1 (element_count b))) (sym (k-is c.before.before.before.before.before.before.before.before.before))
+    c.requires.1 ∙ sym (size_is f)
+    ∙ ap (λ b. 4 + all_bytes_needed (elements_at f 1 (element_count b))) (sym same)
     ∙ omega (arith, all_needed xs) in
     let batches : batches_in f ≡ tap_word_batches (length (taps_in f)) = omega (arith, taps_length f) in
     write_file c.args.destination.now _ _ (short_words_of xs) _ (short_count_word k) size
     c.count_word.ensures c.write.ensures c.write_elements.ensures
-    ∙ ap (λ b. bytes_of (short_count_word b ∷ short_words_of (elements_at f 1 (element_count b)))) (k-is c.before.before.before.before.before.before.before.before.before)
+    ∙ ap (λ b. bytes_of (short_count_word b ∷ short_words_of (elements_at f 1 (element_count b)))) same
     ∙ ap₂ (λ b s. bytes_of (short_count_word b ∷ short_words_of s)) batches (sym (board_elements f))

@@ -7,8 +7,8 @@ use Rattle.call_answers.proofs.hash_no_room.Goals as goal
 
 pub returns-in_default : goal.returns-in_default
 unfolding hash_no_room
-returns-in_default c = after_refused _ c.test-of_table.ensures c.enum_told-in_default-1.given.1
+returns-in_default c = after_refused _ c.test-of_table.ensures c.in_default.is
 
 pub returns : goal.returns
 unfolding hash_no_room
-returns c = after_accepted c.test-of_table.ensures c.enum_told-1.given.1 refl
+returns c = after_accepted c.test-of_table.ensures c.in-Accepted.is refl

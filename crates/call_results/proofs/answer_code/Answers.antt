@@ -5,7 +5,7 @@ use Rattle.call_results.proofs.Handed.{answer_accepted, answer_refused}
 use Rattle.call_results.proofs.answer_code.Goals as goal
 
 pub returns-in-Accepted : goal.returns-in-Accepted
-returns-in-Accepted c = answer_accepted _ c.enum_told-1.given.1
+returns-in-Accepted c = answer_accepted _ c.in-Accepted.is
 
 pub returns-in-Refused : goal.returns-in-Refused
-returns-in-Refused c = c.refusal_code.ensures ∙ answer_refused _ _ c.answer-1.given.1
+returns-in-Refused c = c.refusal_code.ensures ∙ answer_refused _ _ c.in-Refused.is

@@ -6,7 +6,7 @@ use Rattle.call_results.proofs.hand_over_state.Goals as goal
 
 pub returns-in-Accepted : goal.returns-in-Accepted
 returns-in-Accepted c =
-    state_handed_accepted _ _ _ _ c.answer-1.given.1 (c.put.ensures ∙ c.cells.ensures)
+    state_handed_accepted _ _ _ _ c.in-Accepted.is (c.put.ensures ∙ c.cells.ensures)
 
 pub returns-in-Refused : goal.returns-in-Refused
-returns-in-Refused c = state_handed_refused _ _ _ _ c.answer-in-Refused-1.given.1 c.refusal_code.ensures
+returns-in-Refused c = state_handed_refused _ _ _ _ c.in-Refused.is c.refusal_code.ensures

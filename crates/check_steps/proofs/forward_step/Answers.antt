@@ -1,19 +1,13 @@
 use mathlib.Core.Path.{◌≡◌, refl, ap, ◌∙◌}
-use mathlib.Core.List.{List}
-use Prim.Native.Nat.{ℕ}
 use native.Mathlib.Omega.{arith}
 use lib.ListN.{replicate}
 use Rattle.lists.specs.Lists.{cell}
 use Rattle.lists.proofs.Tab.{filled, fills_none, fills_more}
 use Rattle.field.specs.Field.{add}
-use Rattle.table.specs.Table.{second_step_constant}
 use Rattle.table.proofs.Ready.{ready_is}
 use Rattle.check_steps.proofs.Made.{second_made}
+use Rattle.check_steps.proofs.forward_step.Invariants.{plus_constant}
 use Rattle.check_steps.proofs.forward_step.Goals as goal
-
--- what the loop stores in column n
-abbrev plus-constant : List ℕ → ℕ → List ℕ → ℕ → ℕ
-plus-constant table round mixed n = add (cell mixed n) (cell (second_step_constant table round) n)
 
 pub mix-mixed-requires : goal.mix-mixed-requires
 mix-mixed-requires c =
@@ -43,4 +37,4 @@ returns c =
     loop.out a.round a.count c.requires.4 c.requires.1 c.montgomery_cubes.ensures.0
     c.mix-mixed.ensures.0
     (loop.invariant.1.so_far
-    ∙ ap (λ n. filled n (plus-constant a.table.now a.round c.mix-mixed.result) (replicate 12 0)) e)
+    ∙ ap (λ n. filled n (plus_constant a.table.now a.round c.mix-mixed.result) (replicate 12 0)) e)

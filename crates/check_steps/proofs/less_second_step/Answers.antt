@@ -24,4 +24,4 @@ unfolding minus
 returns c =
     let start = c.args in
     let made = fills_all c.loop-j.invariant (omega arith) in
-    (made, minus_canonical start.t3 (second_step_constant start.table.now start.round) made)
+    (made, minus_canonical start.s (second_step_constant start.table.now start.round) made)

@@ -1,16 +1,12 @@
 -- `check_trace::check`: each return is the case of the definition that the tests before it left.
 -- Assumes nothing.
 use mathlib.Core.Path.{refl, sym, ◌∙◌}
-use Prim.Native.Nat.{◌^◌, ◌<◌}
-use lib.ListN.{length}
-use Rattle.numbers.specs.Numbers.{trace_word_batches}
 use Rattle.refusals.proofs.Laws.{after_refused, after_accepted, tests_turned_back}
 use Rattle.table.proofs.Theorems.{ready_left_lem, left_size}
 use Rattle.check_steps.proofs.Made.{back_is}
 use Rattle.check_trace.specs.Answers.{check_test, check_answer}
-use Rattle.check_trace.proofs.Answers.{Opened, opened-by, walked}
+use Rattle.check_trace.proofs.Answers.{opened-by, walked}
 use Rattle.check_trace.proofs.check.Goals as goal
-use Rattle.check_trace.proofs.check.Goals.{In-Accepted}
 
 pub returns-in_default : goal.returns-in_default
 unfolding check_answer check_test
@@ -18,25 +14,19 @@ returns-in_default c =
     let tested = c.test_opening-opening.ensures.0 in
     tests_turned_back (after_refused _ (sym c.refusal.ensures ∙ tested) refl) _ refl
 
--- what is known then
-known : (c : In-Accepted) → let a = c.args in
-    let k = trace_word_batches (length a.trace.now) in
-    Opened a.table.now a.trace.now a.c k × (k < 2 ^ 32)
-known c = opened-by _ _ _ c.test_opening-opening.ensures.0 c.enum_told-1.given.1
-
 pub make_inverse_ready-requires : goal.make_inverse_ready-requires
-make_inverse_ready-requires c = ((known c.before).0.table, refl)
+make_inverse_ready-requires c = ((opened-by _ c.args.trace.now _ c.test_opening-opening.ensures.0 c.in-Accepted.is).0.table, refl)
 
 pub slice_bounds-test_trace-end : goal.slice_bounds-test_trace-end
 slice_bounds-test_trace-end c =
-    sym (left_size _ _ (known c.before.before.before).0.table c.test_opening-opening.ensures.1)
+    sym (left_size _ _ (opened-by _ c.args.trace.now _ c.test_opening-opening.ensures.0 c.in-Accepted.is).0.table c.test_opening-opening.ensures.1)
 
 pub slice_bounds-test_trace-end-2 : goal.slice_bounds-test_trace-end-2
 slice_bounds-test_trace-end-2 c = sym (back_is _ _ c.make_inverse_ready.ensures).size
 
 pub test_trace-requires : goal.test_trace-requires
 test_trace-requires c =
-    let s = known c.before.before.before.before.before in (
+    let s = opened-by _ c.args.trace.now _ c.test_opening-opening.ensures.0 c.in-Accepted.is in (
       s.0.table,
       s.0.size,
       s.0.high,
@@ -49,4 +39,4 @@ pub returns : goal.returns
 unfolding check_answer check_test
 returns c =
     walked _ _ c.test_trace.ensures
-    (after_accepted c.test_opening-opening.ensures.0 c.enum_told-1.given.1 refl)
+    (after_accepted c.test_opening-opening.ensures.0 c.in-Accepted.is refl)

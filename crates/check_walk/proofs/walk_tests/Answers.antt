@@ -1,10 +1,8 @@
 use mathlib.Core.Path.{◌≡◌, sym, ◌∙◌}
-use mathlib.Core.Logic.{⊎_elim}
 use mathlib.Core.List.{List}
 use Prim.Native.Nat.{ℕ, ◌+◌, ◌-◌, ◌*◌, ◌^◌, ◌<◌}
 use native.Mathlib.Nat.{sub-zero}
 use native.Mathlib.Omega.{arith}
-use borrow.Author.Tests.{not-true, not-false}
 use lib.ListN.{length}
 use Rattle.field_words.specs.Words.{AllCanonical}
 use Rattle.check_applies.proofs.SpanLaws.{spanned}
@@ -13,11 +11,12 @@ use Rattle.check_walk.proofs.WalkSteps.{start, skip, pass, fail, enter}
 use Rattle.check_walk.proofs.WalkSteps.{leave}
 use Rattle.check_walk.proofs.WalkSteps.{done}
 use Rattle.check_walk.proofs.walk_tests.Goals as goal
+use Rattle.check_walk.proofs.walk_tests.Goals.{then-applies+else-not-holds, else-applies}
 
 -- a row that is walked lies in the trace
-abbrev in-trace : {t : List ℕ} {i : ℕ} (k : ℕ) → AllCanonical t → length t ≡ 384 * k → k < 2 ^ 32 → i < 32 * k →
+abbrev in_trace : {t : List ℕ} {i : ℕ} (k : ℕ) → AllCanonical t → length t ≡ 384 * k → k < 2 ^ 32 → i < 32 * k →
     InTrace t i
-in-trace k canonical size few inside =
+in_trace k canonical size few inside =
     record { k = k; canonical = canonical; size = size; few = few; inside = inside }
 
 pub walk-init : goal.walk-init
@@ -26,12 +25,12 @@ walk-init c = (omega arith, omega arith, rw sub-zero (start _ _ _ _ _))
 pub forward_of-forward-requires : goal.forward_of-forward-requires
 forward_of-forward-requires c =
     let p = c.requires in
-    (p.2, p.0, in-trace c.args.k p.3 p.4 p.6 c.if-rows-i.false)
+    (p.2, p.0, in_trace c.args.k p.3 p.4 p.6 c.if-rows-i.false)
 
 pub back_after-back-requires : goal.back_after-back-requires
 back_after-back-requires c =
     let p = c.requires in
-    (p.2, p.1, in-trace c.args.k p.3 p.4 p.6 c.if-rows-i.false)
+    (p.2, p.1, in_trace c.args.k p.3 p.4 p.6 c.if-rows-i.false)
 
 pub loop-constraint-init : goal.loop-constraint-init
 loop-constraint-init c =
@@ -53,7 +52,7 @@ holds-requires c =
     let p = c.requires in (
       p.2,
       record {
-        place = in-trace c.args.k p.3 p.4 p.6 c.if-rows-i.false;
+        place = in_trace c.args.k p.3 p.4 p.6 c.if-rows-i.false;
         c = c.args.c;
         applied = sym c.applies.ensures ∙ c.if-applies.true;
       },
@@ -68,32 +67,32 @@ loop-constraint-preserved c =
     let a = c.args in
     let n = 32 * a.k - (i + 1) in
     let applied = sym c.applies.ensures in
-    ⊎_elim
-    (λ w. (
-      omega arith,
-      omega arith,
-      l.invariant.2,
-      omega arith,
-      rw w.5
-          (sym
-          (pass a.table.now a.trace.now a.claim.now a.c a.k i l.constraint n l.tests
-          (omega arith)
-          (applied ∙ w.0.taken) (sym w.3.ensures ∙ not-false _ w.4.left))
-          ∙ l.invariant.4),
-    ))
-    (λ w. (
-      omega arith,
-      omega arith,
-      l.invariant.2,
-      omega arith,
-      rw w.1
-          (sym
-          (skip a.table.now a.trace.now a.claim.now a.c a.k i l.constraint n l.tests
-          (omega arith)
-          (applied ∙ w.0.left))
-          ∙ l.invariant.4),
-    ))
-    c.if-applies.branch
+    elim c.if-applies.branch [
+      | then-applies+else-not-holds w ↦ (
+        omega arith,
+        omega arith,
+        l.invariant.2,
+        omega arith,
+        rw w.tests-is
+            (sym
+            (pass a.table.now a.trace.now a.claim.now a.c a.k i l.constraint n l.tests
+            (omega arith)
+            (applied ∙ w.if-applies.true) (sym w.holds.ensures ∙ w.if-not-holds.false))
+            ∙ l.invariant.4),
+      )
+      | else-applies w ↦ (
+        omega arith,
+        omega arith,
+        l.invariant.2,
+        omega arith,
+        rw w.tests-is
+            (sym
+            (skip a.table.now a.trace.now a.claim.now a.c a.k i l.constraint n l.tests
+            (omega arith)
+            (applied ∙ w.if-applies.false))
+            ∙ l.invariant.4),
+      )
+    ]
 
 pub walk-preserved : goal.walk-preserved
 walk-preserved c =

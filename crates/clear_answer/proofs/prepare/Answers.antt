@@ -8,4 +8,4 @@ pub returns : goal.returns
 returns c =
     let p = c.prepare in
     let table = c.args.table.now in
-    subst (λ raw. Prepares raw table p.result p.new.1.0) c.read_table.ensures p.ensures
+    subst (λ raw. Prepares raw table p.result p.new.destination) c.read_table.ensures p.ensures

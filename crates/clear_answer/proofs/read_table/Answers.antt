@@ -3,7 +3,7 @@ use native.Mathlib.Omega.{arith}
 use lib.ListN.{length-set}
 use Rattle.lists.proofs.Tab.{filled_none, filled_more, filled_all}
 use Rattle.table.specs.Table.{raw_words}
-use Rattle.clear_answer.specs.Clearing.{raw_word, raw_in}
+use Rattle.clear_answer.specs.Clearing.{raw_in}
 use Rattle.clear_answer.proofs.read_table.Goals as goal
 
 pub loop-j-init : goal.loop-j-init

@@ -1,8 +1,7 @@
 -- `clear_line::put_refused`: by how many values are told, the numbers that are written are those of the definition.
 -- Assumes nothing.
 use mathlib.Core.Path.{◌≡◌, ap, ◌∙◌}
-use mathlib.Core.List.{List, [], ◌∷◌}
-use Prim.Native.Nat.{ℕ}
+use mathlib.Core.List.{[], ◌∷◌}
 use borrow.Author.Tests.{eq-eqb, ne_eqb}
 use lib.ListN.{length}
 use lib.Seq.{sets}
@@ -20,25 +19,26 @@ module _ (p : Particulars) where
   place : (p.values ≡ 0 → ⊥) → (p.values ≡ 1 → ⊥) → p.number ∷ p.row ∷ p.constraint ∷ [] ≡ numbers_of p
   place z o = rw (ne_eqb _ _ z, ne_eqb _ _ o)
 
-  -- the line of the numbers that are written
-  told_line : (s out new : List ℕ) (r : ℕ) → s ≡ numbers_of p
-      → (r ≡ length (line (ascii "refused") s)) × (new ≡ sets out 0 (line (ascii "refused") s))
-      → (r ≡ length (line (ascii "refused") (numbers_of p))) × (new ≡ sets out 0 (line (ascii "refused") (numbers_of p)))
-  told_line s out new r e w =
-      let same = ap (line (ascii "refused")) e in
-      (w.0 ∙ ap length same, w.1 ∙ ap (sets out 0) same)
-
 pub returns-then-told-eq0 : goal.returns-then-told-eq0
 returns-then-told-eq0 c =
-    let told = c.args.told in
-    told_line told _ _ _ _ (none told c.if-told-eq0.true) c.put_line.ensures
+    let same = ap (line (ascii "refused")) (none c.args.told c.if-told-eq0.true) in
+    record {
+      value = c.put_line.ensures.0 ∙ ap length same;
+      out_after = c.put_line.ensures.1 ∙ ap (sets c.args.out.now 0) same;
+    }
 
 pub returns-then-told-eq1 : goal.returns-then-told-eq1
 returns-then-told-eq1 c =
-    let told = c.args.told in
-    told_line told _ _ _ _ (index told c.if-told-eq0.false c.if-told-eq1.true) c.put_line-then-told-eq1.ensures
+    let same = ap (line (ascii "refused")) (index c.args.told c.if-told-eq0.false c.if-told-eq1.true) in
+    record {
+      value = c.put_line-then-told-eq1.ensures.0 ∙ ap length same;
+      out_after = c.put_line-then-told-eq1.ensures.1 ∙ ap (sets c.args.out.now 0) same;
+    }
 
 pub returns-else-told-eq1 : goal.returns-else-told-eq1
 returns-else-told-eq1 c =
-    let told = c.args.told in
-    told_line told _ _ _ _ (place told c.if-told-eq0.false c.if-told-eq1.false) c.put_line-else-told-eq1.ensures
+    let same = ap (line (ascii "refused")) (place c.args.told c.if-told-eq0.false c.if-told-eq1.false) in
+    record {
+      value = c.put_line-else-told-eq1.ensures.0 ∙ ap length same;
+      out_after = c.put_line-else-told-eq1.ensures.1 ∙ ap (sets c.args.out.now 0) same;
+    }

@@ -24,17 +24,20 @@ pub returns-in-Accepted : goal.returns-in-Accepted
 unfolding text_of
 returns-in-Accepted c =
     let written = c.put_line.ensures in
-    told_line _ _ _ _ _ _ c.requires c.outcome-1.given.1 refl written.0 written.1
+    let told = told_line _ _ _ _ _ _ c.requires c.in-Accepted.is refl written.0 written.1 in
+    record { value = told.0; out_after = told.1 }
 
 pub returns-in-Refused : goal.returns-in-Refused
 unfolding text_of
 returns-in-Refused c =
-    let line-is = ap (λ p. line (ascii "refused") (numbers_of p)) (sym c.told.ensures) in
+    let line_is = ap (λ p. line (ascii "refused") (numbers_of p)) (sym c.told.ensures) in
     let written = c.put_refused.ensures in
-    told_line _ _ _ _ _ _ c.requires c.outcome-in-Refused-1.given.1 line-is written.0 written.1
+    let told = told_line _ _ _ _ _ _ c.requires c.in-Refused.is line_is written.value written.out_after in
+    record { value = told.0; out_after = told.1 }
 
 pub returns-in-TooLong : goal.returns-in-TooLong
 unfolding text_of line fields each
 returns-in-TooLong c =
     let written = c.put_word.ensures in
-    told_line _ _ _ _ _ _ c.requires c.enum_told-1.given.1 refl written.0 written.1
+    let told = told_line _ _ _ _ _ _ c.requires c.in-TooLong.is refl written.0 written.1 in
+    record { value = told.0; out_after = told.1 }

@@ -3,16 +3,13 @@
 -- Assumes nothing.
 use mathlib.Core.Path.{sym, ap, ◌∙◌}
 use native.Mathlib.Omega.{arith}
-use lib.ListN.{length}
-use Rattle.numbers.specs.Numbers.{tap_word_batches}
 use Rattle.refusals.specs.Refusals.{digest}
 use Rattle.refusals.proofs.Laws.{digest_turned_back, digest_returned, leaves_old, leaves_new}
 use Rattle.table.proofs.Theorems.{ready_left_lem, left_size}
 use Rattle.hash_chain.proofs.Answers.{digest-take}
 use Rattle.trace.specs.Answers.{build_answer, build_leaves}
-use Rattle.trace.proofs.Answers.{BuildInputs, build-inputs}
+use Rattle.trace.proofs.Answers.{build-inputs}
 use Rattle.trace.proofs.build.Goals as goal
-use Rattle.trace.proofs.build.Goals.{In-Accepted}
 
 pub returns-in_default : goal.returns-in_default
 unfolding build_answer build_leaves
@@ -21,19 +18,15 @@ returns-in_default c =
     let r = c.refusal.ensures in
     (digest_turned_back e _ r, leaves_old e _ r)
 
--- where the tests have passed, what they say of the table, the taps and the room, and M is left made ready
-inputs : (c : In-Accepted) → let start = c.args in
-    BuildInputs start.table.now start.taps.now (length start.destination.now)
-    (tap_word_batches (length start.taps.now))
-inputs c = build-inputs _ _ _ (sym c.test_build-answer.ensures.0 ∙ c.enum_told-1.given.1)
-
 pub slice_bounds-write_hashes-end : goal.slice_bounds-write_hashes-end
 slice_bounds-write_hashes-end c =
-    sym (left_size _ _ (inputs c.before).table c.test_build-answer.ensures.1)
+    let i = build-inputs _ _ _ (sym c.test_build-answer.ensures.0 ∙ c.in-Accepted.is) in
+    sym (left_size _ _ i.table c.test_build-answer.ensures.1)
 
 pub write_hashes-last-requires : goal.write_hashes-last-requires
 write_hashes-last-requires c =
-    let i = inputs c.before.before in (
+    -- where the tests have passed, what they say of the table, the taps and the room, and M is left made ready
+    let i = build-inputs _ _ _ (sym c.test_build-answer.ensures.0 ∙ c.in-Accepted.is) in (
       i.table,
       i.canonical,
       omega (arith, i.permitted.high),
@@ -46,7 +39,7 @@ pub returns : goal.returns
 unfolding build_answer build_leaves
 returns c =
     let e = c.test_build-answer.ensures.0 in
-    let a = c.enum_told-1.given.1 in (
+    let a = c.in-Accepted.is in (
       digest_returned e a (digest-take c.write_hashes-last.result ∙ ap digest c.write_hashes-last.ensures.0),
       leaves_new e _ a c.write_hashes-last.ensures.1,
     )

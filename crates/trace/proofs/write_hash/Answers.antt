@@ -7,7 +7,7 @@ use Rattle.trace.proofs.write_hash.Goals as goal
 pub write_rounds-state-requires : goal.write_rounds-state-requires
 write_rounds-state-requires c =
     let first = c.first_row.ensures in
-    let kept = c.write_input.auto.0 in (
+    let kept = c.write_input.auto.destination in (
       c.requires.0,
       c.requires.1,
       omega (arith, c.requires.2, first),

@@ -37,7 +37,7 @@ loop-h-preserved c =
     let T = start.table.now in
     let w = start.taps.now in (
       omega arith,
-      c.write_hash-next.auto.1.1.1.1.0 ∙ loop.invariant.1,
+      c.write_hash-next.auto.destination ∙ loop.invariant.1,
       goes_on T w loop.h loop.state _ loop.invariant.2 c.input_of-input.ensures _
           c.write_hash-next.ensures.0,
       more_rows T w 0 loop.h _ start.destination.now loop.destination _ (omega arith)

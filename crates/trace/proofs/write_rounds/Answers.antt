@@ -9,12 +9,8 @@ use Rattle.hash.proofs.States.{first_step_state, second_step_state, state_at_sta
 use Rattle.hash.proofs.CodeStates.{canonical_state}
 use Rattle.trace.specs.RowHelpers.{with_rows}
 use Rattle.trace.proofs.WrittenRows.{rows_none, rows_join, rows_ext}
+use Rattle.trace.proofs.write_rounds.Invariants.{Passed}
 use Rattle.trace.proofs.write_rounds.Goals as goal
-
--- what holds before a round, from the input s: the state, and the rows written so far
-record Passed (T s : List ℕ) (first : ℕ) (old new state : List ℕ) (round : ℕ) : Type 0 where
-  at : state ≡ state_at T s round
-  rows : new ≡ with_rows (λ i. middle_state T s (i - first)) first (first + round) old
 
 next : (T s : List ℕ) (first : ℕ) (old new state : List ℕ) (round : ℕ) (new₂ middle state₂ : List ℕ) →
     12 * (first + round) ≤ length old →
@@ -87,10 +83,10 @@ loop-round-preserved c =
     let loop = c.loop-round in (
       omega arith,
       canonical_state c.second_step-next.ensures (second_step_state _ _ _),
-      c.write_row.auto.0 ∙ loop.inv.2,
+      c.write_row.auto.destination ∙ loop.invariant.2,
       λ s e. next start.table.now s start.row.0 start.destination.now loop.destination loop.state
           loop.round _ _ _ (omega (arith, c.requires.3)) c.first_step-middle.ensures c.write_row.ensures
-          c.second_step-next.ensures (loop.inv.3 s e),
+          c.second_step-next.ensures (loop.invariant.3 s e),
     )
 
 pub shape_of-destination : goal.shape_of-destination

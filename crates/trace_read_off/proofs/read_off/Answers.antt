@@ -2,7 +2,8 @@
 -- written after the last of the tests, and is the list that they accepted.
 -- Assumes nothing.
 use mathlib.Core.Path.{◌≡◌, refl, sym, ◌∙◌}
-use Prim.Native.Nat.{◌+◌, ◌*◌, ◌^◌, ◌<◌}
+use mathlib.Core.List.{List}
+use Prim.Native.Nat.{ℕ, ◌+◌, ◌*◌}
 use native.Mathlib.Omega.{arith}
 use borrow.Author.Tests.{eq-eqb, ne_eqb}
 use lib.Dec.{eqb}
@@ -11,16 +12,34 @@ use Rattle.numbers.specs.Numbers.{trace_word_batches}
 use Rattle.refusals.specs.declared.Refusal.TheVariants.{DestinationLength}
 use Rattle.refusals.specs.declared.Answer.{Answer}
 use Rattle.refusals.specs.declared.Answer.TheVariants.{Accepted}
-use Rattle.refusals.specs.Answers.{unless}
+use Rattle.refusals.specs.Answers.{unless, tests_after}
 use Rattle.refusals.proofs.Laws.{unless_refused, unless_passed, after_refused, after_accepted}
 use Rattle.table.proofs.Theorems.{ready_left_lem, left_size}
 use Rattle.check_steps.proofs.Made.{back_is}
-use Rattle.check_trace.specs.Answers.{trace_test}
-use Rattle.check_trace.proofs.Answers.{Opened, opened-by, walked}
+use Rattle.refusals.specs.declared.TestsAnswer.{TestsAnswer}
+use Rattle.check_constraints.specs.Constraints.{tests}
+use Rattle.check_trace.specs.Answers.{opening_test, trace_test}
+use Rattle.check_trace.proofs.Answers.{opened-by, walked}
 use Rattle.trace_read_off.specs.Answers.{read_off_test, read_off_answer}
 use Rattle.trace_read_off.proofs.Answers.{read-off-inputs, turned_back, accepted, kept, read}
 use Rattle.trace_read_off.proofs.read_off.Goals as goal
-use Rattle.trace_read_off.proofs.read_off.Goals.{In-Accepted, After-test_trace-answer, Else-destination-k, Start, In-Accepted-answer}
+
+-- the opening tests are passed, and the destination is to be tested
+opened : (T t claim : List ℕ) (n size : ℕ) {a o : Answer} → let k = trace_word_batches (length t) in
+    a ≡ opening_test T t n → a ≡ Accepted
+    → o ≡ unless (eqb size (12 * k + 4)) DestinationLength (trace_test T t claim n k)
+    → o ≡ read_off_test T t claim n size
+unfolding read_off_test
+opened T t claim n size q a e = after_accepted q a e
+
+-- the destination has room: what the last tests answer is the answer
+answered : (T t claim : List ℕ) (n size : ℕ) {a : Answer} {o : TestsAnswer} → let k = trace_word_batches (length t) in
+    a ≡ opening_test T t n → a ≡ Accepted → size ≡ 12 * k + 4
+    → o ≡ tests_after (trace_test T t claim n k) (length (tests k n))
+    → o ≡ read_off_answer T t claim n size
+unfolding read_off_answer
+answered T t claim n size q a z e =
+    walked _ _ e (opened T t claim n size q a (unless_passed _ (eq-eqb _ _ z) refl))
 
 pub returns-in_default : goal.returns-in_default
 unfolding read_off_test
@@ -28,43 +47,33 @@ returns-in_default c =
     let tested = c.test_opening-opening.ensures.0 in
     turned_back _ _ _ _ _ (after_refused _ (sym c.refusal.ensures ∙ tested) refl)
 
--- the opening tests are passed: what is known then
-few : (c : In-Accepted) → let a = c.args in
-    let k = trace_word_batches (length a.trace.now) in
-    Opened a.table.now a.trace.now a.c k × (k < 2 ^ 32)
-few c = opened-by _ _ _ c.test_opening-opening.ensures.0 c.enum_told-1.given.1
-
--- and the destination is to be tested
-opened : (c : In-Accepted) {o : Answer} → let a = c.args in
-    let k = trace_word_batches (length a.trace.now) in
-    o ≡ unless (eqb (length a.destination.now) (12 * k + 4)) DestinationLength
-    (trace_test a.table.now a.trace.now a.t3 a.c k)
-    → o ≡ read_off_test a.table.now a.trace.now a.t3 a.c (length a.destination.now)
-unfolding read_off_test
-opened c e = after_accepted c.test_opening-opening.ensures.0 c.enum_told-1.given.1 e
-
 pub overflow_mul-k : goal.overflow_mul-k
-overflow_mul-k c = omega (arith, (few c).1)
+overflow_mul-k c = omega (arith, (opened-by _ _ _ c.test_opening-opening.ensures.0 c.in-Accepted.is).1)
 
 pub overflow_add-k : goal.overflow_add-k
-overflow_add-k c = omega (arith, (few c).1)
+overflow_add-k c = omega (arith, (opened-by _ _ _ c.test_opening-opening.ensures.0 c.in-Accepted.is).1)
 
 pub returns-then-destination-k : goal.returns-then-destination-k
-returns-then-destination-k c = turned_back _ _ _ _ _ (opened c.before (unless_refused _ (ne_eqb _ _ c.if-destination-k.true) refl))
+returns-then-destination-k c =
+    let a = c.args in
+    turned_back _ _ _ _ _
+    (opened a.table.now a.trace.now a.claim a.c _ c.test_opening-opening.ensures.0 c.in-Accepted.is
+    (unless_refused _ (ne_eqb _ _ c.if-destination-k.true) refl))
 
 pub make_inverse_ready-requires : goal.make_inverse_ready-requires
-make_inverse_ready-requires c = ((few c.before.before).0.table, refl)
+make_inverse_ready-requires c = ((opened-by _ _ _ c.test_opening-opening.ensures.0 c.in-Accepted.is).0.table, refl)
 
 pub slice_bounds-test_trace-end : goal.slice_bounds-test_trace-end
 slice_bounds-test_trace-end c =
-    sym (left_size _ _ (few c.before.before.before.before).0.table c.test_opening-opening.ensures.1)
+    let s = opened-by _ _ _ c.test_opening-opening.ensures.0 c.in-Accepted.is in
+    sym (left_size _ _ s.0.table c.test_opening-opening.ensures.1)
 
 pub slice_bounds-test_trace-end-2 : goal.slice_bounds-test_trace-end-2
 slice_bounds-test_trace-end-2 c = sym (back_is _ _ c.make_inverse_ready.ensures).size
 
 pub test_trace-answer-requires : goal.test_trace-answer-requires
 test_trace-answer-requires c =
-    let s = few c.before.before.before.before.before.before in (
+    let s = opened-by _ _ _ c.test_opening-opening.ensures.0 c.in-Accepted.is in (
       s.0.table,
       s.0.size,
       s.0.high,
@@ -73,33 +82,12 @@ test_trace-answer-requires c =
       c.make_inverse_ready.ensures,
     )
 
-abbrev room : After-test_trace-answer → Else-destination-k
-room t = t
-
-abbrev start : After-test_trace-answer → Start
-start t = entry (room t).before.before.before
-
--- what these answer is the answer
-answered : (t : After-test_trace-answer) → let a = (start t).args in
-    t.test_trace-answer.result ≡ read_off_answer a.table.now a.trace.now a.t3 a.c (length a.destination.now)
-unfolding read_off_answer
-answered t =
-    walked _ _ t.test_trace-answer.ensures
-    (opened (room t).before (unless_passed _ (eq-eqb _ _ (room t).if1.false) refl))
-
 pub returns-in_default-answer : goal.returns-in_default-answer
 returns-in_default-answer c =
-    let a = (start c.before.before).args in (
-      answered c.before.before,
-      kept a.table.now a.trace.now a.t3 a.destination.now a.c (answered c.before.before) c.enum_told-in_default-answer-1.given.1,
-    )
-
--- every test is passed
-passes : (c : In-Accepted-answer) → let a = (start c.before.before).args in
-    read_off_test a.table.now a.trace.now a.t3 a.c (length a.destination.now) ≡ Accepted
-passes c =
-    let a = (start c.before.before).args in
-    accepted a.table.now a.trace.now a.t3 a.destination.now a.c (answered c.before.before) c.enum_told-in-Accepted-answer-1.given.1
+    let a = c.args in
+    let q = answered a.table.now a.trace.now a.claim a.c (length a.destination.now) c.test_opening-opening.ensures.0
+    c.in-Accepted.is c.if-destination-k.false c.test_trace-answer.ensures in
+    (q, kept a.table.now a.trace.now a.claim a.destination.now a.c q c.in_default-answer.is)
 
 pub slice_bounds-write_taps-end : goal.slice_bounds-write_taps-end
 slice_bounds-write_taps-end c =
@@ -107,7 +95,11 @@ slice_bounds-write_taps-end c =
 
 pub write_taps-requires : goal.write_taps-requires
 write_taps-requires c =
-    let i = read-off-inputs _ _ _ _ _ (passes c.before.before) in
+    let a = c.args in
+    let q = answered a.table.now a.trace.now a.claim a.c (length a.destination.now) c.test_opening-opening.ensures.0
+    c.in-Accepted.is c.if-destination-k.false c.test_trace-answer.ensures in
+    let passes = accepted a.table.now a.trace.now a.claim a.destination.now a.c q c.in-Accepted-answer.is in
+    let i = read-off-inputs _ _ _ _ _ passes in
     let o = i.1.opening in (
       c.make_inverse_ready.ensures,
       o.table,
@@ -120,8 +112,7 @@ write_taps-requires c =
 
 pub returns : goal.returns
 returns c =
-    let a = (start c.before.before.before.before.before.before.before).args in (
-      answered c.before.before.before.before.before.before.before,
-      read a.table.now a.trace.now a.t3 a.destination.now a.c (answered c.before.before.before.before.before.before.before)
-          c.enum_told-in-Accepted-answer-1.given.1 c.write_taps.ensures,
-    )
+    let a = c.args in
+    let q = answered a.table.now a.trace.now a.claim a.c (length a.destination.now) c.test_opening-opening.ensures.0
+    c.in-Accepted.is c.if-destination-k.false c.test_trace-answer.ensures in
+    (q, read a.table.now a.trace.now a.claim a.destination.now a.c q c.in-Accepted-answer.is c.write_taps.ensures)

@@ -8,7 +8,7 @@ use Rattle.trace_rewrite.proofs.last_before.Goals as goal
 pub returns-then-tap-eq0 : goal.returns-then-tap-eq0
 returns-then-tap-eq0 c =
     let a = c.args in
-    new_start a.table.now a.trace.now a.tap.0 a.t5 c.if-tap-eq0.true (search rules)
+    new_start a.table.now a.trace.now a.tap.0 a.words c.if-tap-eq0.true (search rules)
     c.chain_start.ensures
 
 pub read_input-requires : goal.read_input-requires
@@ -30,5 +30,5 @@ read_input-requires c =
 pub returns : goal.returns
 returns c =
     let a = c.args in
-    held_start a.table.now a.trace.now a.tap.0 a.t5 c.if-tap-eq0.false _ c.hash.ensures
+    held_start a.table.now a.trace.now a.tap.0 a.words c.if-tap-eq0.false _ c.hash.ensures
     c.read_input.ensures

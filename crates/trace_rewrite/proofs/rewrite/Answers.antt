@@ -13,13 +13,21 @@ use Rattle.trace.proofs.WrittenRows.{rows_none}
 use Rattle.trace.proofs.WrittenHashes.{before_monotone, before_within, all_before, is_input, more_rows}
 use Rattle.check_constraints.specs.ReadOff.{read_taps}
 use Rattle.trace_rewrite.specs.Edit.{altered}
-use Rattle.trace_rewrite.specs.EditHelpers.{tap_of}
+use Rattle.trace_rewrite.specs.EditHelpers.{Rewritable, tap_of}
 use Rattle.trace_rewrite.proofs.Rewriting as law
 use Rattle.trace_rewrite.proofs.rewrite.Goals as goal
-use Rattle.trace_rewrite.proofs.rewrite.Goals.{Start, At-loop-h, After-next_input-input}
 
-four : (start : Start) → length start.args.words ≡ 4
-four start = search rules
+-- the input that is made is that of the altered list
+made : (T t : List ℕ) (k n : ℕ) (new state : List ℕ) {rows next made : List ℕ} → Rewritable T t k n new
+    → length new ≡ 4 → (h : ℕ) → n - 1 ≤ h → h < 3 * k → let v = altered (read_taps T t k) n new in
+    rows ≡ with_rows (trace_row T v) (rows_before (n - 1)) (rows_before h) t
+    → next ≡ tap_of T rows n new (h + 1)
+    → made ≡ input (take 4 state) next
+    → made ≡ input (take 4 state) (tap v (h + 1))
+made T t k n new state r four h low high at q e =
+    e
+    ∙ ap (input (take 4 state))
+    (q ∙ ap (λ u. tap_of T u n new (h + 1)) at ∙ law.next_is T t k n new r four h low high)
 
 pub overflow_mul-hashes : goal.overflow_mul-hashes
 overflow_mul-hashes c = omega (arith, c.requires.1.few)
@@ -36,12 +44,13 @@ loop-h-init c =
     let T = a.table.now in
     let t = a.trace.now in
     let v = altered (read_taps T t a.k) a.tap.0 a.words in
-    let first = c.hash-first.ensures in (
+    let first = c.hash-first.ensures in
+    let four : length a.words ≡ 4 = search rules in (
       omega arith,
       omega (arith, r.inside, r.some, first),
       refl,
       ap (take 4) c.last_before-state.ensures
-          ∙ law.starts T t a.k a.tap.0 a.words r (four c.before.before.before.before.before.before.before)
+          ∙ law.starts T t a.k a.tap.0 a.words r four
           ∙ ap (output_at T v) (sym first),
       sym
           (ap (λ n. with_rows (trace_row T v) (rows_before (a.tap.0 - 1)) (rows_before n) t) first
@@ -49,52 +58,33 @@ loop-h-init c =
     )
 
 -- what the rows hold before a turn is canonical, and the hash's tap is read of them
-first_of : (head : At-loop-h) → let a = head.args in a.tap.0 - 1 ≤ head.loop-h.h
-first_of head = omega (arith, head.hash-first.ensures, head.loop-h.invariant.0)
-
-canonical : (head : At-loop-h) → head.loop-h.h < 3 * head.args.k
-    → AllCanonical head.loop-h.trace
-canonical head l =
-    let a = head.args in
-    subst AllCanonical (sym head.loop-h.invariant.4)
-    (law.canonical_rows a.table.now a.trace.now a.k a.tap.0 a.words head.requires.1
-    (four head)
-    head.loop-h.h (first_of head) l)
-
 pub next_tap-next-requires : goal.next_tap-next-requires
 next_tap-next-requires c =
+    let a = c.args in
     let r = c.requires.1 in
-    (c.requires.0, r.table, law.has_tap r (canonical c.before.before (omega arith)) c.loop-h.invariant.2 (omega arith))
-
-abbrev altered-of : At-loop-h → List ℕ
-altered-of head =
-    let a = head.args in
-    altered (read_taps a.table.now a.trace.now a.k) a.tap.0 a.words
-
-made : (m : After-next_input-input) → m.loop-h.h < 3 * m.args.k
-    → m.next_input-input.result ≡ input (take 4 m.loop-h.state) (tap (altered-of m) (m.loop-h.h + 1))
-made m l =
-    let a = m.args in
-    m.next_input-input.ensures
-    ∙ ap (input (take 4 m.loop-h.state))
-    (m.next_tap-next.ensures
-    ∙ ap (λ u. tap_of a.table.now u a.tap.0 a.words (m.loop-h.h + 1)) m.loop-h.inv.4
-    ∙ law.next_is a.table.now a.trace.now a.k a.tap.0 a.words m.requires.1
-    (four m)
-    m.loop-h.h (first_of m) l)
+    let four : length a.words ≡ 4 = search rules in
+    let canonical = subst AllCanonical (sym c.loop-h.invariant.4)
+    (law.canonical_rows a.table.now a.trace.now a.k a.tap.0 a.words r four c.loop-h.h
+    (omega (arith, c.hash-first.ensures, c.loop-h.invariant.0)) (omega arith)) in
+    (c.requires.0, r.table, law.has_tap r canonical c.loop-h.invariant.2 (omega arith))
 
 pub write_hash-last-requires : goal.write_hash-last-requires
 write_hash-last-requires c =
     let a = c.args in
     let r = c.requires.1 in
     let loop = c.loop-h in
-    let size = law.size_v a.table.now a.trace.now a.k a.tap.0 a.words r (four c.before) in (
+    let v = altered (read_taps a.table.now a.trace.now a.k) a.tap.0 a.words in
+    let four : length a.words ≡ 4 = search rules in
+    let size = law.size_v a.table.now a.trace.now a.k a.tap.0 a.words r four in
+    let e = made a.table.now a.trace.now a.k a.tap.0 a.words loop.state r four loop.h
+    (omega (arith, c.hash-first.ensures, loop.invariant.0)) (omega arith) loop.invariant.4 c.next_tap-next.ensures
+    c.next_input-input.ensures in (
       r.table,
-      input_canonical a.table.now (altered-of c.before) loop.h loop.state _ loop.inv.3 (made c.before (omega arith))
-          (law.canonical_v a.table.now a.trace.now a.k a.tap.0 a.words r (four c.before))
+      input_canonical a.table.now v loop.h loop.state _ loop.invariant.3 e
+          (law.canonical_v a.table.now a.trace.now a.k a.tap.0 a.words r four)
           (omega (arith, size)),
       omega (arith, r.few),
-      omega (arith, before_within a.k (loop.h + 1) (omega arith), r.size, loop.inv.2),
+      omega (arith, before_within a.k (loop.h + 1) (omega arith), r.size, loop.invariant.2),
       c.requires.2,
     )
 
@@ -104,16 +94,19 @@ loop-h-preserved c =
     let r = c.requires.1 in
     let loop = c.loop-h in
     let T = a.table.now in
-    let v = altered-of c.before.before.before.before in
-    let e = made c.before.before.before.before (omega arith) in (
+    let v = altered (read_taps T a.trace.now a.k) a.tap.0 a.words in
+    let four : length a.words ≡ 4 = search rules in
+    let low : a.tap.0 - 1 ≤ loop.h = omega (arith, c.hash-first.ensures, loop.invariant.0) in
+    let e = made T a.trace.now a.k a.tap.0 a.words loop.state r four loop.h low (omega arith) loop.invariant.4
+    c.next_tap-next.ensures c.next_input-input.ensures in (
       omega arith,
       omega arith,
-      c.write_hash-last.auto.1.1.1.1.0 ∙ loop.inv.2,
-      goes_on T v loop.h loop.state _ loop.inv.3 e _ c.write_hash-last.ensures.0,
+      c.write_hash-last.auto.destination ∙ loop.invariant.2,
+      goes_on T v loop.h loop.state _ loop.invariant.3 e _ c.write_hash-last.ensures.0,
       more_rows T v (rows_before (a.tap.0 - 1)) loop.h _ a.trace.now loop.trace _
-          (before_monotone (a.tap.0 - 1) loop.h (first_of c.before.before.before.before))
+          (before_monotone (a.tap.0 - 1) loop.h low)
           (omega (arith, before_within a.k (loop.h + 1) (omega arith), r.size))
-          (is_input T v loop.h loop.state _ loop.inv.3 e) loop.inv.4 c.write_hash-last.ensures.1,
+          (is_input T v loop.h loop.state _ loop.invariant.3 e) loop.invariant.4 c.write_hash-last.ensures.1,
     )
 
 pub shape_of-trace : goal.shape_of-trace
@@ -123,9 +116,10 @@ pub returns : goal.returns
 returns c =
     let a = c.args in
     let loop = c.loop-h in
+    let v = altered (read_taps a.table.now a.trace.now a.k) a.tap.0 a.words in
+    let four : length a.words ≡ 4 = search rules in
     let e : loop.h ≡ 3 * a.k = omega arith in
     loop.invariant.4
-    ∙ ap (λ n. with_rows (trace_row a.table.now (altered-of c.before)) (rows_before (a.tap.0 - 1)) n a.trace.now)
+    ∙ ap (λ n. with_rows (trace_row a.table.now v) (rows_before (a.tap.0 - 1)) n a.trace.now)
     (ap rows_before e ∙ all_before a.k)
-    ∙ law.rewritten a.table.now a.trace.now a.k a.tap.0 a.words c.requires.1
-    (four c)
+    ∙ law.rewritten a.table.now a.trace.now a.k a.tap.0 a.words c.requires.1 four

@@ -4,12 +4,11 @@
 use mathlib.Core.Path.{◌≡◌}
 use Prim.Native.Nat.{◌-◌, ◌≤◌}
 use lib.ListN.{length, take}
-use Rattle.hash.specs.Hash.{tap, output_at}
+use Rattle.hash.specs.Hash.{output_at}
 use Rattle.trace.specs.Trace.{trace_row}
 use Rattle.trace.specs.RowHelpers.{with_rows, rows_before}
 use Rattle.check_constraints.specs.ReadOff.{read_taps}
 use Rattle.trace_rewrite.specs.Edit.{altered}
-use Rattle.trace_rewrite.proofs.Rewriting as law
 use Rattle.trace_rewrite.proofs.rewrite.Given as goal
 
 abbrev pub invariant-loop-h : goal.invariant-loop-h

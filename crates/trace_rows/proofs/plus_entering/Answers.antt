@@ -5,12 +5,12 @@ use Rattle.field.specs.Field.{add}
 use Rattle.table.specs.Table.{initial_constant}
 use Rattle.trace_rows.proofs.RowLaws.{entering_filled}
 use native.Mathlib.Omega.{arith}
+use borrow.Author.Rules.{rules}
 use Rattle.trace_rows.proofs.plus_entering.Goals as goal
 
 pub loop-j-init : goal.loop-j-init
 loop-j-init c =
-    let g = c.well-formed.1.0.1.0.1 in
-    (omega arith, g, g, filled_none _ _)
+    (omega arith, search rules, search rules, filled_none _ _)
 
 pub add-requires : goal.add-requires
 add-requires c =
