@@ -7,4 +7,4 @@ use Rattle.lemoncolumn.proofs.lemoncolumn_pack.Goals as goal
 pub returns : goal.returns
 returns c =
     let called = c.pack.ensures in
-    record { coded = c.answer_code.ensures ∙ ap answer_code called.0; file = called.1 }
+    record { coded = c.answer_code.ensures ∙ ap answer_code called.value; file = called.destination_after }

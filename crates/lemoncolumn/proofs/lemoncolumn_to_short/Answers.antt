@@ -7,4 +7,4 @@ use Rattle.lemoncolumn.proofs.lemoncolumn_to_short.Goals as goal
 pub returns : goal.returns
 returns c =
     let called = c.to_short.ensures in
-    record { coded = c.answer_code.ensures ∙ ap answer_code called.0; short = called.1 }
+    record { coded = c.answer_code.ensures ∙ ap answer_code called.value; short = called.destination_after }

@@ -11,10 +11,10 @@ returns-then-pair-ne-PAIR_WORDS c =
 
 pub returns-in-Accepted : goal.returns-in-Accepted
 returns-in-Accepted c =
-    unhash-handed _ _ _ c.if-pair-ne-PAIR_WORDS.false _ _ (sym c.unhash.ensures ∙ c.found-1.given.1)
+    unhash-handed _ _ _ c.if-pair-ne-PAIR_WORDS.false _ _ (sym c.unhash.ensures ∙ c.in-Accepted.is)
     c.put_pair.ensures
 
 pub returns-in-Refused : goal.returns-in-Refused
 returns-in-Refused c =
-    unhash-refused _ _ _ c.if-pair-ne-PAIR_WORDS.false _ _ (sym c.unhash.ensures ∙ c.r-1.given.1)
+    unhash-refused _ _ _ c.if-pair-ne-PAIR_WORDS.false _ _ (sym c.unhash.ensures ∙ c.in-Refused.is)
     c.refusal_code.ensures

@@ -12,17 +12,17 @@ pub returns-then-claim-ne4 : goal.returns-then-claim-ne4
 returns-then-claim-ne4 c =
     let without = c.if-claim-ne4.true in
     record {
-      four = unpack-stopped _ _ _ without _ _ (c.digest_code.ensures ∙ ap digest_code c.unpack.ensures.0);
+      four = unpack-stopped _ _ _ without _ _ (c.digest_code.ensures ∙ ap digest_code c.unpack.ensures.value);
       list =
-          list-kept c.unpack.new.1.0 _ c.unpack.auto.1.0
+          list-kept c.unpack.new.destination _ c.unpack.auto.destination
           ∙ kept _ _ (unpack-without _ _ _ without) (no-list-refuses _) _ _;
     }
 
 pub returns : goal.returns
 returns c =
     let room = c.if-claim-ne4.false in
-    let same = c.unpack-2.ensures.0 ∙ unpack-answer _ room _ _ in
+    let same = c.unpack-2.ensures.value ∙ unpack-answer _ room _ _ in
     record {
       four = handed_as _ _ _ _ _ same c.hand_over.ensures;
-      list = c.unpack-2.ensures.1 ∙ unpack-left _ room _ _;
+      list = c.unpack-2.ensures.destination_after ∙ unpack-left _ room _ _;
     }

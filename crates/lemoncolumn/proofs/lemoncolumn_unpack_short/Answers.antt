@@ -12,19 +12,19 @@ use Rattle.lemoncolumn.proofs.lemoncolumn_unpack_short.Goals as goal
 pub returns-then-claim-ne4 : goal.returns-then-claim-ne4
 returns-then-claim-ne4 c =
     let without = c.if-claim-ne4.true in
-    let coded = c.digest_code.ensures ∙ ap digest_code c.unpack_short.ensures.0 in
+    let coded = c.digest_code.ensures ∙ ap digest_code c.unpack_short.ensures.value in
     record {
       four = unpack-short-stopped _ _ _ without _ _ coded;
       list =
-          list-kept c.unpack_short.new.1.0 _ c.unpack_short.auto.1.0
+          list-kept c.unpack_short.new.destination _ c.unpack_short.auto.destination
           ∙ kept _ _ (unpack-short-without _ _ _ without) (no-short-list-refuses _) _ _;
     }
 
 pub returns : goal.returns
 returns c =
     let room = c.if-claim-ne4.false in
-    let same = c.unpack_short-2.ensures.0 ∙ unpack-short-answer _ room _ _ in
+    let same = c.unpack_short-2.ensures.value ∙ unpack-short-answer _ room _ _ in
     record {
       four = handed_as _ _ _ _ _ same c.hand_over.ensures;
-      list = c.unpack_short-2.ensures.1 ∙ unpack-short-left _ room _ _;
+      list = c.unpack_short-2.ensures.destination_after ∙ unpack-short-left _ room _ _;
     }
