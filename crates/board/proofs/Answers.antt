@@ -35,10 +35,10 @@ pub record IsPacked (taps claim : List ℕ) (size k : ℕ) : Type 0 where
   pub claim_canonical : AllCanonical claim
   pub taps_canonical : AllCanonical taps
 
-pub pack-accepted : (taps claim : List ℕ) (size : ℕ) → pack_test taps claim size ≡ Accepted
+pub pack_accepted : (taps claim : List ℕ) (size : ℕ) → pack_test taps claim size ≡ Accepted
     → IsPacked taps claim size (tap_word_batches (length taps))
 unfolding pack_test
-pack-accepted taps claim size e =
+pack_accepted taps claim size e =
     let a = passed (is_tap_length most_file_batches (length taps)) TapLength _ e in
     let b = passed (eqb size (file_size (tap_word_batches (length taps)))) DestinationLength _ a.1 in
     let c = passed (canonical_words claim) (ClaimWord (first_bad claim)) _ b.1 in
@@ -52,10 +52,10 @@ pack-accepted taps claim size e =
       taps_canonical = good_test taps d.0;
     }
 
-pub pack-complete : (taps claim : List ℕ) (size k : ℕ) → IsPacked taps claim size k
+pub pack_complete : (taps claim : List ℕ) (size k : ℕ) → IsPacked taps claim size k
     → pack_test taps claim size ≡ Accepted
 unfolding pack_test
-pack-complete taps claim size k h =
+pack_complete taps claim size k h =
     let t = tap_length_complete most_file_batches (length taps) k h.taps_size h.permitted in
     let s = h.size_is ∙ sym (ap file_size t.1) in
     rw (t.0, eq-eqb _ _ s, test_good claim h.claim_canonical, test_good taps h.taps_canonical)
@@ -63,20 +63,20 @@ pack-complete taps claim size k h =
 -- ---- word 0
 
 -- word 0 is accepted exactly where it is the count word of a permitted k
-pub count-accepted : (w : ℕ) → count_test w ≡ Accepted
+pub count_accepted : (w : ℕ) → count_test w ≡ Accepted
     → (w ≡ count_word (count_in w)) × IsPermittedTo most_file_batches (count_in w)
 unfolding count_test
-count-accepted w e =
+count_accepted w e =
     let a = passed (eqb (kind_of w) 0) (WrongKind 0) _ e in
     let b = passed (eqb (spare_in w) 0) (WrongValue 0) _ a.1 in
     let c = passed (permitted most_file_batches (count_in w)) (WrongValue 0) _ b.1 in
     let word : w ≡ count_word (count_in w) = omega (arith, eqb-true (kind_of w) 0 a.0, eqb-true (spare_in w) 0 b.0) in
     (word, permitted_sound most_file_batches (count_in w) c.0)
 
-pub count-complete : (k : ℕ) → IsPermittedTo most_file_batches k
+pub count_complete : (k : ℕ) → IsPermittedTo most_file_batches k
     → (count_in (count_word k) ≡ k) × (count_test (count_word k) ≡ Accepted)
 unfolding count_test
-count-complete k p =
+count_complete k p =
     let k-is : count_in (count_word k) ≡ k = omega (arith, p.high) in
     let kind : kind_of (count_word k) ≡ 0 = omega (arith, p.high) in
     let spare : spare_in (count_word k) ≡ 0 = omega (arith, p.high) in
@@ -94,7 +94,7 @@ unfolding count_test
 count_value w z n = one_cause (WrongValue 0) (count_test w) ends none
   where
     none : count_test w ≡ Accepted → ⊥
-    none e = let c = count-accepted w e in n (count_in w) c.1 c.0
+    none e = let c = count_accepted w e in n (count_in w) c.1 c.0
 
     Q : Refusal → Type 0
     Q s = s ≡ WrongValue 0
@@ -108,21 +108,21 @@ count_value w z n = one_cause (WrongValue 0) (count_test w) ends none
 -- ---- Unpack
 
 -- once word 0 and the lengths have passed, the elements decide
-pub unpack-elements : (file : List ℕ) (size : ℕ) → 4 ≤ length file → count_test (word_at file 0) ≡ Accepted
+pub unpack_elements : (file : List ℕ) (size : ℕ) → 4 ≤ length file → count_test (word_at file 0) ≡ Accepted
     → length file ≡ file_size (batches_in file) → size ≡ 12 * batches_in file + 4
     → unpack_test file size ≡ elements_test file 1 (12 * batches_in file + 8)
 unfolding unpack_test
-unpack-elements file size h e l s = rw (le-leb _ _ h, e, eq-eqb _ _ l, eq-eqb _ _ s)
+unpack_elements file size h e l s = rw (le-leb _ _ h, e, eq-eqb _ _ l, eq-eqb _ _ s)
 
-pub unpack-accepted : (file : List ℕ) (size : ℕ) → unpack_test file size ≡ Accepted
+pub unpack_accepted : (file : List ℕ) (size : ℕ) → unpack_test file size ≡ Accepted
     → IsBoard file (batches_in file) × (size ≡ 12 * batches_in file + 4)
 unfolding unpack_test batches_in
-unpack-accepted file size e =
+unpack_accepted file size e =
     let a = passed (leb 4 (length file)) FileLength _ e in
     let b = both_accepted (count_test (word_at file 0)) _ a.1 in
     let c = passed (eqb (length file) (file_size (batches_in file))) FileLength _ b.1 in
     let d = passed (eqb size (12 * batches_in file + 4)) DestinationLength _ c.1 in
-    let w = count-accepted (word_at file 0) b.0 in (
+    let w = count_accepted (word_at file 0) b.0 in (
       record {
         permitted = w.1;
         word = w.0;
@@ -133,31 +133,31 @@ unpack-accepted file size e =
     )
 
 -- its number of batches is the one that is read
-pub batches-is : (file : List ℕ) (k : ℕ) → IsBoard file k → batches_in file ≡ k
+pub batches_is : (file : List ℕ) (k : ℕ) → IsBoard file k → batches_in file ≡ k
 unfolding batches_in
-batches-is file k h = ap count_in h.word ∙ (count-complete k h.permitted).0
+batches_is file k h = ap count_in h.word ∙ (count_complete k h.permitted).0
 
-pub unpack-complete : (file : List ℕ) (k : ℕ) → IsBoard file k → unpack_test file (12 * k + 4) ≡ Accepted
-unpack-complete file k h =
-    let b = batches-is file k h in
-    let count = ap count_test h.word ∙ (count-complete k h.permitted).1 in
-    unpack-elements file (12 * k + 4) (omega (arith, h.size)) count (rw b h.size) (rw b)
+pub unpack_complete : (file : List ℕ) (k : ℕ) → IsBoard file k → unpack_test file (12 * k + 4) ≡ Accepted
+unpack_complete file k h =
+    let b = batches_is file k h in
+    let count = ap count_test h.word ∙ (count_complete k h.permitted).1 in
+    unpack_elements file (12 * k + 4) (omega (arith, h.size)) count (rw b h.size) (rw b)
     ∙ rw b (all_accepted file 1 (12 * k + 8) h.elements)
 
 -- a board file is refused with 8 where the destination has another length than its taps
-pub unpack-no-room : (file : List ℕ) (size k : ℕ) → IsBoard file k → (size ≡ 12 * k + 4 → ⊥)
+pub unpack_no_room : (file : List ℕ) (size k : ℕ) → IsBoard file k → (size ≡ 12 * k + 4 → ⊥)
     → unpack_test file size ≡ Refused DestinationLength
 unfolding unpack_test
-unpack-no-room file size k h n =
-    let b = batches-is file k h in
-    let count = ap count_test h.word ∙ (count-complete k h.permitted).1 in
+unpack_no_room file size k h n =
+    let b = batches_is file k h in
+    let count = ap count_test h.word ∙ (count_complete k h.permitted).1 in
     rw (le-leb 4 (length file) (omega (arith, h.size)), count, b, eq-eqb _ _ h.size, ne_eqb _ _ n)
 
 -- what is returned: the claim, or the refusal
-pub unpack-returns : (file : List ℕ) (size : ℕ) → unpack_test file size ≡ Accepted
+pub unpack_returns : (file : List ℕ) (size : ℕ) → unpack_test file size ≡ Accepted
     → unpack_answer file size ≡ digest-answer.Accepted (digest (claim_in file))
 unfolding unpack_answer
-unpack-returns file size e = rw e
+unpack_returns file size e = rw e
 
 pub unpack_refuses : (file : List ℕ) (size : ℕ) (r : Refusal) → unpack_test file size ≡ Refused r
     → unpack_answer file size ≡ digest-answer.Refused r

@@ -20,7 +20,7 @@ use Rattle.board_words.proofs.Laws.{length_words}
 use Rattle.board_words.proofs.Round.{read_accepted, read_back, words_back, length_elements}
 use Rattle.board_words.proofs.Round.{elements_append, elements_canonical}
 use Rattle.board.specs.Board.{most_file_batches, count_word, file_of, batches_in, claim_in, taps_in, IsBoard}
-use Rattle.board.proofs.Answers.{batches-is}
+use Rattle.board.proofs.Answers.{batches_is}
 use Rattle.board.proofs.Files as files
 
 -- ---- the file of canonical taps and a canonical claim is a board file, and is read as those
@@ -46,7 +46,7 @@ module _ (taps claim : List ℕ) (k : ℕ) (permitted : IsPermittedTo most_file_
   unfolding claim_in taps_in
   parts =
       let file : List ℕ = file_of taps claim k in
-      let b = batches-is file k packed_board in
+      let b = batches_is file k packed_board in
       let n : 4 + (12 * batches_in file + 4) ≡ length (claim ++ taps) = omega (arith, b, count) in
       sym (elements_append file 1 4 (12 * batches_in file + 4))
       ∙ ap (elements_at file 1) n

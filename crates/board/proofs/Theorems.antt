@@ -19,8 +19,8 @@ use Rattle.board_words.specs.Elements.{element_at}
 use Rattle.board_words.proofs.Tests.{too_large, first_refused}
 use Rattle.board.specs.Board.{most_file_batches, file_of, pack_test, packed, batches_in, claim_in, taps_in, unpack_answer}
 use Rattle.board.specs.Board.{IsBoard, ReadTo}
-use Rattle.board.proofs.Answers.{pack-accepted, pack-complete, unpack-accepted, unpack-complete}
-use Rattle.board.proofs.Answers.{unpack-elements, unpack-returns, unpack_refuses, returned}
+use Rattle.board.proofs.Answers.{pack_accepted, pack_complete, unpack_accepted, unpack_complete}
+use Rattle.board.proofs.Answers.{unpack_elements, unpack_returns, unpack_refuses, returned}
 use Rattle.board.proofs.Files as files
 use Rattle.board.proofs.Round.{packed_board, packed_claim, packed_taps, board_packs}
 use Rattle.board.proofs.Round.{board_canonical, claim_is, taps_length}
@@ -39,7 +39,7 @@ unpack_pack taps claim k p t ts c cs =
     let file : List ℕ = file_of taps claim k in
     let board = packed_board taps claim k p t ts c cs in (
       ap (unpack_answer file) t
-          ∙ unpack-returns file (12 * k + 4) (unpack-complete file k board)
+          ∙ unpack_returns file (12 * k + 4) (unpack_complete file k board)
           ∙ ap (λ s. Accepted (digest s)) (packed_claim taps claim k p t ts c cs),
       packed_taps taps claim k p t ts c cs,
     )
@@ -49,7 +49,7 @@ pub unpack_packed : (taps claim : List ℕ) (size : ℕ) → length claim ≡ 4 
     → (unpack_answer (packed taps claim) (length taps) ≡ Accepted (digest claim)) × (taps_in (packed taps claim) ≡ taps)
 unfolding packed
 unpack_packed taps claim size c e =
-    let h = pack-accepted taps claim size e in
+    let h = pack_accepted taps claim size e in
     let k = tap_word_batches (length taps) in
     unpack_pack taps claim k h.permitted h.taps_size h.taps_canonical c h.claim_canonical
 
@@ -60,11 +60,11 @@ pub pack_unpack : (file : List ℕ) (size : ℕ) (d : Digest) → AllBytes file 
 unfolding packed
 pack_unpack file size d bytes e =
     let r = returned file size d e in
-    let h = (unpack-accepted file size r.0).0 in
+    let h = (unpack_accepted file size r.0).0 in
     let c = claim_is file d r.1 in
     let canonical = board_canonical file h in
     let k-is : tap_word_batches (length (taps_in file)) ≡ batches_in file = omega (arith, taps_length file) in (
-      pack-complete (taps_in file) (digest_words d) (length file) (batches_in file) (record {
+      pack_complete (taps_in file) (digest_words d) (length file) (batches_in file) (record {
         permitted = h.permitted;
         taps_size = taps_length file;
         size_is = h.size;
@@ -85,7 +85,7 @@ pub accepted_board : (file : List ℕ) (size : ℕ) (d : Digest) → unpack_answ
     → IsBoard file (batches_in file) × (size ≡ 12 * batches_in file + 4) × (claim_in file ≡ digest_words d)
 accepted_board file size d e =
     let r = returned file size d e in
-    let h = unpack-accepted file size r.0 in
+    let h = unpack_accepted file size r.0 in
     (h.0, h.1, claim_is file d r.1)
 
 -- an element from p on is refused at its first word, however large the number that its payloads spell
@@ -93,6 +93,6 @@ pub no_wrap : (file : List ℕ) (size i : ℕ) → ReadTo file size i → P ≤ 
     → unpack_answer file size ≡ Refused (WrongValue (1 + 3 * i))
 no_wrap file size i h large =
     unpack_refuses file size (WrongValue (1 + 3 * i))
-    (unpack-elements file size h.four h.count h.bytes h.room
+    (unpack_elements file size h.four h.count h.bytes h.room
     ∙ first_refused file 1 (12 * batches_in file + 8) i (WrongValue (1 + 3 * i)) h.within h.before
     (too_large file (1 + 3 * i) h.high h.middle h.low large))

@@ -39,7 +39,7 @@ accepts file mark h = rw (le-leb _ _ h.four, eq-eqb _ _ h.kind, eq-eqb _ _ h.mar
 pub data EditionFault (file : List ℕ) (mark : ℕ) (r : Refusal) : Type 0 where
   no_count : length file < 4 → r ≡ FileLength → EditionFault file mark r
   count_kind : 4 ≤ length file → (kind_of (word_at file 0) ≡ 0 → ⊥) → r ≡ WrongKind 0 → EditionFault file mark r
-  other-mark : 4 ≤ length file → kind_of (word_at file 0) ≡ 0 → (mark_in (word_at file 0) ≡ mark → ⊥) → r ≡ SameEdition
+  other_mark : 4 ≤ length file → kind_of (word_at file 0) ≡ 0 → (mark_in (word_at file 0) ≡ mark → ⊥) → r ≡ SameEdition
       → EditionFault file mark r
 
 pub fault_refused : (file : List ℕ) (mark : ℕ) (r : Refusal) → EditionFault file mark r
@@ -47,7 +47,7 @@ pub fault_refused : (file : List ℕ) (mark : ℕ) (r : Refusal) → EditionFaul
 unfolding edition_test
 fault_refused file mark r (no_count h e) = rw (lt-leb _ _ h, e)
 fault_refused file mark r (count_kind h n e) = rw (le-leb _ _ h, ne_eqb _ _ n, e)
-fault_refused file mark r (other-mark h z n e) = rw (le-leb _ _ h, eq-eqb _ _ z, ne_eqb _ _ n, e)
+fault_refused file mark r (other_mark h z n e) = rw (le-leb _ _ h, eq-eqb _ _ z, ne_eqb _ _ n, e)
 
 pub faulty : (file : List ℕ) (mark : ℕ) (r : Refusal) → edition_test file mark ≡ Refused r → EditionFault file mark r
 faulty file mark r e = counted (dec_lt (length file) 4)
@@ -59,7 +59,7 @@ faulty file mark r e = counted (dec_lt (length file) 4)
         → EditionFault file mark r
     marked h z (yes m) =
         absurd (not_accepted r (sym e ∙ accepts file mark (record { four = h; kind = z; mark_is = m })))
-    marked h z (no n) = other-mark h z n (same SameEdition (other-mark h z n refl))
+    marked h z (no n) = other_mark h z n (same SameEdition (other_mark h z n refl))
 
     kinded : 4 ≤ length file → Dec (kind_of (word_at file 0) ≡ 0) → EditionFault file mark r
     kinded h (yes z) = marked h z (ℕ_discrete (mark_in (word_at file 0)) mark)

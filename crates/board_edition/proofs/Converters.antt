@@ -26,7 +26,7 @@ use Rattle.board_words.specs.Words.{kind_of, word_at}
 use Rattle.board_short.specs.ShortBoard.{mark_in}
 use Rattle.board_edition.specs.Edition.{edition_test, HasMark, ConverterFault, already, no_form, malformed}
 use Rattle.board_edition.specs.Edition.{no_room, ConverterAnswers}
-use Rattle.board_edition.proofs.Answers.{accepted, EditionFault, no_count, count_kind, other-mark, faulty}
+use Rattle.board_edition.proofs.Answers.{accepted, EditionFault, no_count, count_kind, other_mark, faulty}
 use Rattle.board_edition.proofs.Answers.{fault_refused}
 
 -- a refusal with another number than n
@@ -44,7 +44,7 @@ pub record Reader (file : List ℕ) (other : ℕ) (tests : Answer) : Type 0 wher
 module _ (file : List ℕ) (mark other : ℕ) (marks : (mark_in (word_at file 0) ≡ mark → ⊥) → mark_in (word_at file 0) ≡ other)
     (apart : mark ≡ other → ⊥) (tests : Answer) (claim : Digest) (b : Bool) (fits : Type 0) (fit : b ≡ true → fits)
     (unfit : b ≡ false → fits → ⊥) (rest : Answer) (reader : Reader file other tests) (formless : Type 0)
-    (form : Dec formless) (its-mark : formless → HasMark file mark)
+    (form : Dec formless) (its_mark : formless → HasMark file mark)
     (without : formless → after (edition_test file mark) rest ≡ answer.Refused (WrongValue 0))
     (marked : HasMark file mark → (formless → ⊥)
     → after (edition_test file mark) rest ≡ after tests (unless b DestinationLength answer.Accepted)) where
@@ -61,7 +61,7 @@ module _ (file : List ℕ) (mark other : ℕ) (marks : (mark_in (word_at file 0)
       fault : (r : Refusal) → EditionFault file mark r → ⊥
       fault r (no_count h e) = not_accepted FileLength (sym (reader.no_count h) ∙ t)
       fault r (count_kind h n e) = not_accepted (WrongKind 0) (sym (reader.count_kind h n) ∙ t)
-      fault r (other-mark h z n e) = reader.other_edition (record { four = h; kind = z; mark_is = marks n }) t
+      fault r (other_mark h z n e) = reader.other_edition (record { four = h; kind = z; mark_is = marks n }) t
 
       go : (a : Answer) → edition_test file mark ≡ a → HasMark file mark
       go answer.Accepted e = accepted file mark e
@@ -104,12 +104,12 @@ module _ (file : List ℕ) (mark other : ℕ) (marks : (mark_in (word_at file 0)
   -- from the tests of the edition
   by_edition : (r : Refusal) → EditionFault file mark r → Fault r
   by_edition r (no_count h e) =
-      malformed (λ o. omega (arith, o.four, h)) (λ f. omega (arith, (its-mark f).four, h))
+      malformed (λ o. omega (arith, o.four, h)) (λ f. omega (arith, (its_mark f).four, h))
       (ap (λ x. digest_after x claim) (reader.no_count h) ∙ ap Refused (sym e))
   by_edition r (count_kind h n e) =
-      malformed (λ o. n o.kind) (λ f. n (its-mark f).kind)
+      malformed (λ o. n o.kind) (λ f. n (its_mark f).kind)
       (ap (λ x. digest_after x claim) (reader.count_kind h n) ∙ ap Refused (sym e))
-  by_edition r (other-mark h z n e) = already (record { four = h; kind = z; mark_is = marks n }) e
+  by_edition r (other_mark h z n e) = already (record { four = h; kind = z; mark_is = marks n }) e
 
   -- from those of the reader, and the last
   by_reader : (r : Refusal) → HasMark file mark → (formless → ⊥) → (t : Answer) (c : Bool) → tests ≡ t → b ≡ c
@@ -140,7 +140,7 @@ module _ (file : List ℕ) (mark other : ℕ) (marks : (mark_in (word_at file 0)
       same : (q : Refusal) → EditionFault file mark q → q ≡ r
       same q (no_count h e) = e ∙ refused_same (sym (reader.no_count h) ∙ t)
       same q (count_kind h m e) = e ∙ refused_same (sym (reader.count_kind h m) ∙ t)
-      same q (other-mark h z m e) = absurd (n (record { four = h; kind = z; mark_is = marks m }))
+      same q (other_mark h z m e) = absurd (n (record { four = h; kind = z; mark_is = marks m }))
 
       go : (a : Answer) → edition_test file mark ≡ a → converter ≡ answer.Refused r
       go answer.Accepted f =
@@ -150,7 +150,7 @@ module _ (file : List ℕ) (mark other : ℕ) (marks : (mark_in (word_at file 0)
   back : (r : Refusal) → Fault r → converter ≡ answer.Refused r
   back r (already o e) =
       let n : mark_in (word_at file 0) ≡ mark → ⊥ = λ q. apart (sym q ∙ o.mark_is) in
-      ap (λ x. after x rest) (fault_refused file mark r (other-mark o.four o.kind n e))
+      ap (λ x. after x rest) (fault_refused file mark r (other_mark o.four o.kind n e))
   back r (no_form o e) = without o ∙ ap answer.Refused (sym e)
   back r (malformed n m e) = read_refused r (digest_refused tests claim r e) n m
   back r (no_room d e m n f) =

@@ -42,10 +42,10 @@ pub record IsPacked (taps claim : List ℕ) (size k : ℕ) : Type 0 where
   pub claim_canonical : AllCanonical claim
   pub taps_canonical : AllCanonical taps
 
-pub pack-accepted : (taps claim : List ℕ) (size : ℕ) → pack_short_test taps claim size ≡ Accepted
+pub pack_accepted : (taps claim : List ℕ) (size : ℕ) → pack_short_test taps claim size ≡ Accepted
     → IsPacked taps claim size (tap_word_batches (length taps))
 unfolding pack_short_test
-pack-accepted taps claim size e =
+pack_accepted taps claim size e =
     let a = passed (is_tap_length most_batches (length taps)) TapLength _ e in
     let b = passed (eqb size (short_file_size taps claim)) DestinationLength _ a.1 in
     let c = passed (canonical_words claim) (ClaimWord (first_bad claim)) _ b.1 in
@@ -59,20 +59,20 @@ pack-accepted taps claim size e =
       taps_canonical = good_test taps d.0;
     }
 
-pub pack-complete : (taps claim : List ℕ) (size k : ℕ) → IsPacked taps claim size k
+pub pack_complete : (taps claim : List ℕ) (size k : ℕ) → IsPacked taps claim size k
     → pack_short_test taps claim size ≡ Accepted
 unfolding pack_short_test
-pack-complete taps claim size k h =
+pack_complete taps claim size k h =
     let t = tap_length_complete most_batches (length taps) k h.taps_size h.permitted in
     rw (t.0, eq-eqb _ _ h.size_is, test_good claim h.claim_canonical, test_good taps h.taps_canonical)
 
 -- ---- word 0
 
 -- it is accepted exactly where it is the count word of a permitted k
-pub count-accepted : (w : ℕ) → short_count_test w ≡ Accepted
+pub count_accepted : (w : ℕ) → short_count_test w ≡ Accepted
     → (w ≡ short_count_word (short_count_in w)) × IsPermitted (short_count_in w)
 unfolding short_count_test
-count-accepted w e =
+count_accepted w e =
     let a = passed (eqb (kind_of w) 0) (WrongKind 0) _ e in
     let b = passed (eqb (mark_in w) 1) (WrongValue 0) _ a.1 in
     let c = passed (eqb (short_spare_in w) 0) (WrongValue 0) _ b.1 in
@@ -100,10 +100,10 @@ unmarked w rest o n e = go (ℕ_discrete (mark_in w) 1)
         let spare : short_spare_in w ≡ 0 → ⊥ = λ z. n (omega (arith, h, z)) in
         unless_passed _ (eq-eqb _ _ h) (unless_refused _ (ne_eqb _ _ spare) e)
 
-pub count-complete : (k : ℕ) → IsPermitted k
+pub count_complete : (k : ℕ) → IsPermitted k
     → (short_count_in (short_count_word k) ≡ k) × (short_count_test (short_count_word k) ≡ Accepted)
 unfolding short_count_test
-count-complete k p =
+count_complete k p =
     let k-is : short_count_in (short_count_word k) ≡ k = omega (arith, p.high) in
     let kind : kind_of (short_count_word k) ≡ 0 = omega (arith, p.high) in
     let mark : mark_in (short_count_word k) ≡ 1 = omega (arith, p.high) in
@@ -115,7 +115,7 @@ count-complete k p =
 pub counts : (file : List ℕ) (k : ℕ) → word_at file 0 ≡ short_count_word k → IsPermitted k
     → (short_batches_in file ≡ k) × (short_count_test (word_at file 0) ≡ Accepted)
 unfolding short_batches_in
-counts file k w p = let c = count-complete k p in (ap short_count_in w ∙ c.0, ap short_count_test w ∙ c.1)
+counts file k w p = let c = count_complete k p in (ap short_count_in w ∙ c.0, ap short_count_test w ∙ c.1)
 
 -- what it is refused for: its kind, or that it is no such word
 pub data CountFault (w : ℕ) (r : Refusal) : Type 0 where
@@ -123,12 +123,12 @@ pub data CountFault (w : ℕ) (r : Refusal) : Type 0 where
   value : kind_of w ≡ 0 → ((k : ℕ) → IsPermitted k → w ≡ short_count_word k → ⊥) → r ≡ WrongValue 0
       → CountFault w r
 
-pub count-faulty : (w : ℕ) (r : Refusal) → short_count_test w ≡ Refused r → CountFault w r
+pub count_faulty : (w : ℕ) (r : Refusal) → short_count_test w ≡ Refused r → CountFault w r
 unfolding short_count_test
-count-faulty w r e = go (ℕ_discrete (kind_of w) 0)
+count_faulty w r e = go (ℕ_discrete (kind_of w) 0)
   where
     none : (k : ℕ) → IsPermitted k → w ≡ short_count_word k → ⊥
-    none k p q = not_accepted r (sym e ∙ ap short_count_test q ∙ (count-complete k p).1)
+    none k p q = not_accepted r (sym e ∙ ap short_count_test q ∙ (count_complete k p).1)
 
     Q : Refusal → Type 0
     Q s = s ≡ WrongValue 0
@@ -143,9 +143,9 @@ count-faulty w r e = go (ℕ_discrete (kind_of w) 0)
         unless_ends Q (permitted most_batches (short_count_in w)) (WrongValue 0) _ (λ c. refl) λ c. tt)
         (rw (eq-eqb _ _ z) at e))
 
-pub count-fault-refused : (w : ℕ) (r : Refusal) → CountFault w r → short_count_test w ≡ Refused r
+pub count_fault_refused : (w : ℕ) (r : Refusal) → CountFault w r → short_count_test w ≡ Refused r
 unfolding short_count_test
-count-fault-refused w r fault = go (short_count_test w) refl
+count_fault_refused w r fault = go (short_count_test w) refl
   where
     same : (s : Refusal) → CountFault w s → CountFault w r → s ≡ r
     same s (kind n e) (kind m f) = e ∙ sym f
@@ -155,36 +155,36 @@ count-fault-refused w r fault = go (short_count_test w) refl
 
     accepted : short_count_test w ≡ Accepted → CountFault w r → ⊥
     accepted a (kind n e) = n (eqb-true _ _ (passed (eqb (kind_of w) 0) (WrongKind 0) _ a).0)
-    accepted a (value z n e) = let c = count-accepted w a in n (short_count_in w) c.1 c.0
+    accepted a (value z n e) = let c = count_accepted w a in n (short_count_in w) c.1 c.0
 
     go : (t : Answer) → short_count_test w ≡ t → short_count_test w ≡ Refused r
     go Accepted a = absurd (accepted a fault)
-    go (Refused s) a = a ∙ ap Refused (same s (count-faulty w s a) fault)
+    go (Refused s) a = a ∙ ap Refused (same s (count_faulty w s a) fault)
 
 -- ---- the reader
 
 -- its tests from the destination's length on
-abbrev pub fromRoom : List ℕ → ℕ → Answer
-fromRoom file size =
+abbrev pub from_room : List ℕ → ℕ → Answer
+from_room file size =
     unless (eqb size (tap_words (short_batches_in file))) DestinationLength
     (shorts_test file 1 (element_count (short_batches_in file)))
 
 -- once word 0 and the destination's length have passed, the elements decide
-pub unpack-elements : (file : List ℕ) (size k : ℕ) → ReadsOn file size k
+pub unpack_elements : (file : List ℕ) (size k : ℕ) → ReadsOn file size k
     → unpack_short_test file size ≡ shorts_test file 1 (element_count k)
 unfolding unpack_short_test
-unpack-elements file size k h =
+unpack_elements file size k h =
     let c = counts file k h.word h.permitted in
     rw (le-leb _ _ h.four, c.1, c.0, eq-eqb _ _ h.room)
 
-pub unpack-accepted : (file : List ℕ) (size : ℕ) → unpack_short_test file size ≡ Accepted
+pub unpack_accepted : (file : List ℕ) (size : ℕ) → unpack_short_test file size ≡ Accepted
     → IsShortBoard file (short_batches_in file) × (size ≡ tap_words (short_batches_in file))
 unfolding unpack_short_test short_batches_in
-unpack-accepted file size e =
+unpack_accepted file size e =
     let a = passed (leb 4 (length file)) FileLength _ e in
     let b = both_accepted (short_count_test (word_at file 0)) _ a.1 in
     let c = passed (eqb size (tap_words (short_batches_in file))) DestinationLength _ b.1 in
-    let w = count-accepted (word_at file 0) b.0 in
+    let w = count_accepted (word_at file 0) b.0 in
     let all = each_accepted file 1 (element_count (short_batches_in file)) c.1 in (
       record {
         permitted = w.1;
@@ -197,30 +197,30 @@ unpack-accepted file size e =
     )
 
 -- its number of batches is the one that is read
-pub batches-is : (file : List ℕ) (k : ℕ) → IsShortBoard file k → short_batches_in file ≡ k
-batches-is file k h = (counts file k h.word h.permitted).0
+pub batches_is : (file : List ℕ) (k : ℕ) → IsShortBoard file k → short_batches_in file ≡ k
+batches_is file k h = (counts file k h.word h.permitted).0
 
 pub reads_on : (file : List ℕ) (k : ℕ) → IsShortBoard file k → ReadsOn file (tap_words k) k
 reads_on file k h = record { four = h.four; permitted = h.permitted; word = h.word; room = refl }
 
-pub unpack-complete : (file : List ℕ) (k : ℕ) → IsShortBoard file k → unpack_short_test file (tap_words k) ≡ Accepted
-unpack-complete file k h =
-    unpack-elements file (tap_words k) k (reads_on file k h)
+pub unpack_complete : (file : List ℕ) (k : ℕ) → IsShortBoard file k → unpack_short_test file (tap_words k) ≡ Accepted
+unpack_complete file k h =
+    unpack_elements file (tap_words k) k (reads_on file k h)
     ∙ all_accepted file 1 (element_count k) (record { elements = h.elements; ends = h.ends })
 
 -- a short file is refused with 8 where the destination has another length than its taps
-pub unpack-no-room : (file : List ℕ) (size k : ℕ) → IsShortBoard file k → (size ≡ tap_words k → ⊥)
+pub unpack_no_room : (file : List ℕ) (size k : ℕ) → IsShortBoard file k → (size ≡ tap_words k → ⊥)
     → unpack_short_test file size ≡ Refused DestinationLength
 unfolding unpack_short_test
-unpack-no-room file size k h n =
+unpack_no_room file size k h n =
     let c = counts file k h.word h.permitted in
     rw (le-leb 4 (length file) h.four, c.1, c.0, ne_eqb _ _ n)
 
 -- what is returned: the claim, or the refusal
-pub unpack-returns : (file : List ℕ) (size : ℕ) → unpack_short_test file size ≡ Accepted
+pub unpack_returns : (file : List ℕ) (size : ℕ) → unpack_short_test file size ≡ Accepted
     → unpack_short_answer file size ≡ digest-answer.Accepted (digest (short_claim_in file))
 unfolding unpack_short_answer
-unpack-returns file size e = rw e
+unpack_returns file size e = rw e
 
 pub unpack_refuses : (file : List ℕ) (size : ℕ) (r : Refusal) → unpack_short_test file size ≡ Refused r
     → unpack_short_answer file size ≡ digest-answer.Refused r

@@ -22,7 +22,7 @@ use Rattle.board_short_read.proofs.Round.{Stands, stands_rest, stands_both, stan
 use Rattle.board_short_read.proofs.Round.{WrittenAll, written_all, length_shorts, shorts_append, shorts_canonical}
 use Rattle.board_short.specs.ShortBoard.{short_count_word, short_file_of, short_claim_in, short_taps_in, IsShortBoard}
 use Rattle.board_short.specs.ShortBoard.{short_batches_in}
-use Rattle.board_short.proofs.Answers.{batches-is}
+use Rattle.board_short.proofs.Answers.{batches_is}
 use Rattle.board_short.proofs.Files as files
 
 -- ---- the file of canonical taps and a canonical claim is a short file, and is read as those
@@ -60,7 +60,7 @@ module _ (taps claim : List ℕ) (k : ℕ) (permitted : IsPermitted k) (t : leng
   parts =
       let file : List ℕ = short_file_of taps claim k in
       let n : 4 + tap_words (short_batches_in file) ≡ length (claim ++ taps) =
-      omega (arith, batches-is file k packed_board, count) in
+      omega (arith, batches_is file k packed_board, count) in
       sym (shorts_append file 1 4 (tap_words (short_batches_in file))) ∙ ap (shorts_at file 1) n ∙ read.values
 
   pub packed_claim : short_claim_in (short_file_of taps claim k) ≡ claim

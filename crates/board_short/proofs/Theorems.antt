@@ -36,10 +36,10 @@ use Rattle.board_short.specs.ShortBoard.{short_spare_in, short_taps_in, short_cl
 use Rattle.board_short.specs.ShortBoard.{unpack_short_answer, ReadsOn, ThreeForOne, FirstFault, no_count, count_kind}
 use Rattle.board_short.specs.ShortBoard.{count_value, no_room, short_batches_in}
 use Rattle.board_short.specs.ShortBoard as faults
-use Rattle.board_short.proofs.Answers.{pack-accepted, pack-complete, count-accepted, counts}
-use Rattle.board_short.proofs.Answers.{unpack-elements, unpack-accepted, unpack-complete, unpack-returns}
-use Rattle.board_short.proofs.Answers.{returned, fromRoom, CountFault, kind, value, count-faulty}
-use Rattle.board_short.proofs.Answers.{count-fault-refused}
+use Rattle.board_short.proofs.Answers.{pack_accepted, pack_complete, count_accepted, counts}
+use Rattle.board_short.proofs.Answers.{unpack_elements, unpack_accepted, unpack_complete, unpack_returns}
+use Rattle.board_short.proofs.Answers.{returned, from_room, CountFault, kind, value, count_faulty}
+use Rattle.board_short.proofs.Answers.{count_fault_refused}
 use Rattle.board_short.proofs.Files as files
 use Rattle.board_short.proofs.Round.{packed_board, packed_claim, packed_taps, board_packs, board_canonical}
 use Rattle.board_short.proofs.Round.{claim_is, taps_length}
@@ -53,12 +53,12 @@ pub unpack_packed : (taps claim : List ℕ) (size : ℕ) → length claim ≡ 4
     × (short_taps_in (packed_short taps claim) ≡ taps)
 unfolding packed_short
 unpack_packed taps claim size c e =
-    let h = pack-accepted taps claim size e in
+    let h = pack_accepted taps claim size e in
     let k = tap_word_batches (length taps) in
     let file : List ℕ = short_file_of taps claim k in
     let board = packed_board taps claim k h.permitted h.taps_size h.taps_canonical c h.claim_canonical in (
       ap (unpack_short_answer file) h.taps_size
-          ∙ unpack-returns file (tap_words k) (unpack-complete file k board)
+          ∙ unpack_returns file (tap_words k) (unpack_complete file k board)
           ∙ ap (λ s. Accepted (digest s))
           (packed_claim taps claim k h.permitted h.taps_size h.taps_canonical c h.claim_canonical),
       packed_taps taps claim k h.permitted h.taps_size h.taps_canonical c h.claim_canonical,
@@ -71,14 +71,14 @@ pub pack_unpack : (file : List ℕ) (size : ℕ) (d : Digest) → AllBytes file 
 unfolding packed_short
 pack_unpack file size d bytes e =
     let r = returned file size d e in
-    let h = (unpack-accepted file size r.0).0 in
+    let h = (unpack_accepted file size r.0).0 in
     let c = claim_is file d r.1 in
     let canonical = board_canonical file h in
     let k-is : tap_word_batches (length (short_taps_in file)) ≡ short_batches_in file = omega (arith, taps_length file) in
     let same = board_packs file h bytes in
     let size_is : length file ≡ short_file_size (short_taps_in file) (short_claim_in file) =
     ap length (sym same) ∙ files.file_length (short_taps_in file) (short_claim_in file) (short_batches_in file) in (
-      pack-complete (short_taps_in file) (digest_words d) (length file) (short_batches_in file) (record {
+      pack_complete (short_taps_in file) (digest_words d) (length file) (short_batches_in file) (record {
         permitted = h.permitted;
         taps_size = taps_length file;
         size_is = rw c at size_is;
@@ -97,7 +97,7 @@ one_file f g m n d bf bg ef eg t =
 -- the room that a reader accepted is that of the taps
 pub accepted_room : (file : List ℕ) (size : ℕ) (d : Digest) → unpack_short_answer file size ≡ Accepted d
     → size ≡ length (short_taps_in file)
-accepted_room file size d e = (unpack-accepted file size (returned file size d e).0).1 ∙ sym (taps_length file)
+accepted_room file size d e = (unpack_accepted file size (returned file size d e).0).1 ∙ sym (taps_length file)
 
 -- ---- lengths
 
@@ -134,12 +134,12 @@ walked file size k r on (tail b q f) = faults.tail k on b q f
 
 module _ (file : List ℕ) (size : ℕ) where
   room_faults : 4 ≤ length file → short_count_test (word_at file 0) ≡ answer.Accepted
-      → AnswerEnds (FirstFault file size) (fromRoom file size)
+      → AnswerEnds (FirstFault file size) (from_room file size)
   unfolding short_batches_in
   room_faults four g =
       let Q = FirstFault file size in
       let k = short_batches_in file in
-      let w = count-accepted (word_at file 0) g in
+      let w = count_accepted (word_at file 0) g in
       unless_ends Q (eqb size (tap_words k)) DestinationLength _
       (λ h. no_room four k w.1 w.0 (eqb-false _ _ h) refl) λ h.
       let on : ReadsOn file size k = record { four = four; permitted = w.1; word = w.0; room = eqb-true _ _ h } in
@@ -149,15 +149,15 @@ module _ (file : List ℕ) (size : ℕ) where
   count_faults : 4 ≤ length file → AnswerEnds (FirstFault file size) (short_count_test (word_at file 0))
   count_faults four =
       refusal_ends (FirstFault file size) (short_count_test (word_at file 0))
-      (λ s g. counted file size s four (count-faulty (word_at file 0) s g))
+      (λ s g. counted file size s four (count_faulty (word_at file 0) s g))
 
   faults_all : AnswerEnds (FirstFault file size) (unpack_short_test file size)
   unfolding unpack_short_test
   faults_all =
       let Q = FirstFault file size in
-      unless_ends Q (leb 4 (length file)) FileLength (after (short_count_test (word_at file 0)) (fromRoom file size))
+      unless_ends Q (leb 4 (length file)) FileLength (after (short_count_test (word_at file 0)) (from_room file size))
       (λ f. no_count (leb-false _ _ f) refl)
-      (λ f. after_ends Q (short_count_test (word_at file 0)) (fromRoom file size) (count_faults (leb-true _ _ f))
+      (λ f. after_ends Q (short_count_test (word_at file 0)) (from_room file size) (count_faults (leb-true _ _ f))
       (room_faults (leb-true _ _ f)))
 
   pub first_fault : (r : Refusal) → unpack_short_test file size ≡ answer.Refused r → FirstFault file size r
@@ -168,17 +168,17 @@ pub fault_first : (file : List ℕ) (size : ℕ) (r : Refusal) → FirstFault fi
 unfolding unpack_short_test
 fault_first file size r (no_count h e) = rw (lt-leb _ _ h, e)
 fault_first file size r (count_kind h n e) =
-    rw (le-leb _ _ h, count-fault-refused (word_at file 0) r (kind n e))
+    rw (le-leb _ _ h, count_fault_refused (word_at file 0) r (kind n e))
 fault_first file size r (count_value h z n e) =
-    rw (le-leb _ _ h, count-fault-refused (word_at file 0) r (value z n e))
+    rw (le-leb _ _ h, count_fault_refused (word_at file 0) r (value z n e))
 fault_first file size r (no_room h k p w n e) =
     let c = counts file k w p in
     rw (le-leb _ _ h, c.1, c.0, ne_eqb _ _ n, e)
 fault_first file size r (faults.element k i on l b q) =
-    unpack-elements file size k on
+    unpack_elements file size k on
     ∙ first_refused file 1 (element_count k) i r l b (fault_refused file (first_word file 1 i) r q)
 fault_first file size r (faults.tail k on b q e) =
-    unpack-elements file size k on ∙ bytes_after file 1 (element_count k) b q ∙ ap answer.Refused (sym e)
+    unpack_elements file size k on ∙ bytes_after file 1 (element_count k) b q ∙ ap answer.Refused (sym e)
 
 -- 18 is said of an element alone, and of no other fault of it
 module _ (file : List ℕ) (size j : ℕ) where

@@ -18,39 +18,39 @@ use Rattle.board_words.specs.Words.{word_at}
 use Rattle.board.specs.Board.{most_file_batches, element_count, file_size}
 use Rattle.board_short_read.specs.Reading.{shorts_test}
 use Rattle.board_short.specs.ShortBoard.{short_batches_in, short_count_test, unpack_short_test, IsShortBoard}
-use Rattle.board_short.proofs.Answers.{count-accepted, counts, unpack-accepted}
+use Rattle.board_short.proofs.Answers.{count_accepted, counts, unpack_accepted}
 use Rattle.board_edition.specs.Edition.{short_mark, edition_test, HasMark}
 use Rattle.board_edition.proofs.Answers as edition
 use Rattle.board_to_full.specs.ToFull.{to_full_test, NoFullForm}
 
 -- ---- the last test, and those from the elements on
-abbrev pub lastTest : List ℕ → ℕ → Answer
-lastTest file size = unless (eqb size (file_size (short_batches_in file))) DestinationLength Accepted
+abbrev pub last_test : List ℕ → ℕ → Answer
+last_test file size = unless (eqb size (file_size (short_batches_in file))) DestinationLength Accepted
 
-abbrev pub fromElements : List ℕ → ℕ → Answer
-fromElements file size = after (shorts_test file 1 (element_count (short_batches_in file))) (lastTest file size)
+abbrev pub from_elements : List ℕ → ℕ → Answer
+from_elements file size = after (shorts_test file 1 (element_count (short_batches_in file))) (last_test file size)
 
-abbrev pub fromMost : List ℕ → ℕ → Answer
-fromMost file size =
-    unless (leb (short_batches_in file) most_file_batches) (WrongValue 0) (fromElements file size)
+abbrev pub from_most : List ℕ → ℕ → Answer
+from_most file size =
+    unless (leb (short_batches_in file) most_file_batches) (WrongValue 0) (from_elements file size)
 
 -- ---- in a file with the short edition's mark and at most as many batches as a full file has: all that its reader
 -- tests, lent room for the taps, and 8 last
-as-small : (file : List ℕ) (size : ℕ) → edition_test file short_mark ≡ Accepted → short_batches_in file ≤ most_file_batches
-    → to_full_test file size ≡ after (unpack_short_test file (tap_words (short_batches_in file))) (lastTest file size)
+as_small : (file : List ℕ) (size : ℕ) → edition_test file short_mark ≡ Accepted → short_batches_in file ≤ most_file_batches
+    → to_full_test file size ≡ after (unpack_short_test file (tap_words (short_batches_in file))) (last_test file size)
 unfolding to_full_test unpack_short_test
-as-small file size e small =
+as_small file size e small =
     let k = short_batches_in file in
     let room = eq-eqb (tap_words k) (tap_words k) refl in
     let elements = shorts_test file 1 (element_count k) in
     rw (e, le-leb _ _ (edition.accepted file short_mark e).four, le-leb _ _ small, room)
-    (sym (after_after (short_count_test (word_at file 0)) elements (lastTest file size)))
+    (sym (after_after (short_count_test (word_at file 0)) elements (last_test file size)))
 
 -- ---- a file without a full form
 
 -- it has the short edition's mark, and word 0 is accepted
-pub its-mark : (file : List ℕ) → NoFullForm file → HasMark file short_mark
-its-mark file h = record {
+pub its_mark : (file : List ℕ) → NoFullForm file → HasMark file short_mark
+its_mark file h = record {
   four = h.four;
   kind = omega (arith, h.word, h.permitted.high);
   mark_is = omega (arith, h.word, h.permitted.high);
@@ -60,7 +60,7 @@ pub without : (file : List ℕ) (size : ℕ) → NoFullForm file → to_full_tes
 unfolding to_full_test
 without file size h =
     let c = counts file h.k h.word h.permitted in
-    rw (edition.accepts file short_mark (its-mark file h), c.1, c.0, lt-leb _ _ h.above)
+    rw (edition.accepts file short_mark (its_mark file h), c.1, c.0, lt-leb _ _ h.above)
 
 -- its k
 pub above_most : (file : List ℕ) → NoFullForm file → most_file_batches < short_batches_in file
@@ -79,25 +79,25 @@ form file =
     go Accepted e (no n) above = no λ h. n h.four
     go Accepted e (yes y) (no n) = no λ h. n (above_most file h)
     go Accepted e (yes y) (yes above) =
-        let w = count-accepted (word_at file 0) e in
+        let w = count_accepted (word_at file 0) e in
         yes (record { k = short_batches_in file; four = y; word = w.0; permitted = w.1; above = above })
 
 -- ---- in a file with the short edition's mark that has a full form: all that its reader tests, lent room for the taps,
 -- and 8 last
-pub as-reader : (file : List ℕ) (size : ℕ) → HasMark file short_mark → (NoFullForm file → ⊥)
-    → to_full_test file size ≡ after (unpack_short_test file (tap_words (short_batches_in file))) (lastTest file size)
+pub as_reader : (file : List ℕ) (size : ℕ) → HasMark file short_mark → (NoFullForm file → ⊥)
+    → to_full_test file size ≡ after (unpack_short_test file (tap_words (short_batches_in file))) (last_test file size)
 unfolding to_full_test unpack_short_test short_batches_in
-as-reader file size m n = go (short_count_test (word_at file 0)) refl (dec_lt most_file_batches (short_batches_in file))
+as_reader file size m n = go (short_count_test (word_at file 0)) refl (dec_lt most_file_batches (short_batches_in file))
   where
     marked : edition_test file short_mark ≡ Accepted
     marked = edition.accepts file short_mark m
 
     go : (a : Answer) → short_count_test (word_at file 0) ≡ a → Dec (most_file_batches < short_batches_in file)
-        → to_full_test file size ≡ after (unpack_short_test file (tap_words (short_batches_in file))) (lastTest file size)
+        → to_full_test file size ≡ after (unpack_short_test file (tap_words (short_batches_in file))) (last_test file size)
     go (Refused r) e d = rw (marked, le-leb _ _ m.four, e) refl
-    go Accepted e (no small) = as-small file size marked (omega (arith, small))
+    go Accepted e (no small) = as_small file size marked (omega (arith, small))
     go Accepted e (yes above) =
-        let w = count-accepted (word_at file 0) e in
+        let w = count_accepted (word_at file 0) e in
         absurd (n (record { k = short_batches_in file; four = m.four; word = w.0; permitted = w.1; above = above }))
 
 -- what acceptance says of word 0
@@ -116,7 +116,7 @@ pub accepted : (file : List ℕ) (size : ℕ) → to_full_test file size ≡ Acc
     × (short_batches_in file ≤ most_file_batches) × (size ≡ file_size (short_batches_in file))
 accepted file size e =
     let f = formed file size e in
-    let whole = sym (as-small file size f.0 f.1) ∙ e in
+    let whole = sym (as_small file size f.0 f.1) ∙ e in
     let b = both_accepted (unpack_short_test file (tap_words (short_batches_in file))) _ whole in
     let c = passed (eqb size (file_size (short_batches_in file))) DestinationLength _ b.1 in
-    ((unpack-accepted file (tap_words (short_batches_in file)) b.0).0, f.1, eqb-true _ _ c.0)
+    ((unpack_accepted file (tap_words (short_batches_in file)) b.0).0, f.1, eqb-true _ _ c.0)

@@ -15,11 +15,11 @@ use Rattle.refusals.specs.declared.Answer.TheVariants.{Accepted}
 use Rattle.board.specs.Board.{most_file_batches, pack_test, packed, pack_leaves}
 use Rattle.board_short.specs.ShortBoard.{short_batches_in, short_claim_in, short_taps_in, unpack_short_test}
 use Rattle.board_short.specs.ShortBoard.{IsShortBoard}
-use Rattle.board_short.proofs.Answers.{unpack-accepted}
+use Rattle.board_short.proofs.Answers.{unpack_accepted}
 use Rattle.board_short.proofs.Round.{board_canonical, taps_length}
 use Rattle.board_edition.specs.Edition.{short_mark, HasMark}
 use Rattle.board_to_full.specs.ToFull.{to_full_test, to_full_leaves, NoFullForm}
-use Rattle.board_to_full.proofs.Answers.{lastTest, as-reader}
+use Rattle.board_to_full.proofs.Answers.{last_test, as_reader}
 
 -- a short file has the short edition's mark
 board_mark : (file : List ℕ) (k : ℕ) → IsShortBoard file k → HasMark file short_mark
@@ -37,7 +37,7 @@ module _ (file : List ℕ) (n : ℕ) (e : unpack_short_test file n ≡ Accepted)
       go : Dec (most_file_batches < short_batches_in file) → short_batches_in file ≤ most_file_batches
       go (no l) = omega (arith, l)
       go (yes l) =
-          let h = (unpack-accepted file n e).0 in
+          let h = (unpack_accepted file n e).0 in
           absurd (formed (record {
             k = short_batches_in file;
             four = h.four;
@@ -47,18 +47,18 @@ module _ (file : List ℕ) (n : ℕ) (e : unpack_short_test file n ≡ Accepted)
           }))
 
   -- nothing but the destination's length is left to test, by the converter
-  converter_left : (size : ℕ) → to_full_test file size ≡ lastTest file size
+  converter_left : (size : ℕ) → to_full_test file size ≡ last_test file size
   converter_left size =
-      let u = unpack-accepted file n e in
+      let u = unpack_accepted file n e in
       let room : n ≡ tap_words (short_batches_in file) = u.1 in
-      as-reader file size (board_mark file (short_batches_in file) u.0) formed
-      ∙ ap (λ a. after a (lastTest file size)) (ap (unpack_short_test file) (sym room) ∙ e)
+      as_reader file size (board_mark file (short_batches_in file) u.0) formed
+      ∙ ap (λ a. after a (last_test file size)) (ap (unpack_short_test file) (sym room) ∙ e)
 
   -- and by the writer
-  writer_left : (size : ℕ) → pack_test (short_taps_in file) (short_claim_in file) size ≡ lastTest file size
+  writer_left : (size : ℕ) → pack_test (short_taps_in file) (short_claim_in file) size ≡ last_test file size
   unfolding pack_test
   writer_left size =
-      let h = (unpack-accepted file n e).0 in
+      let h = (unpack_accepted file n e).0 in
       let canonical = board_canonical file h in
       let k = short_batches_in file in
       let p = permitted_to most_file_batches k h.permitted small in

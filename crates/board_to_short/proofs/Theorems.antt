@@ -12,13 +12,13 @@ use Rattle.numbers.proofs.Laws.{permitted_to, tap_length_complete}
 use Rattle.refusals.specs.Answers.{after, leaves}
 use Rattle.refusals.specs.declared.Answer.TheVariants.{Accepted}
 use Rattle.board.specs.Board.{batches_in, claim_in, taps_in, unpack_test, IsBoard}
-use Rattle.board.proofs.Answers.{unpack-accepted}
+use Rattle.board.proofs.Answers.{unpack_accepted}
 use Rattle.board.proofs.Round.{board_canonical, taps_length}
 use Rattle.board_short.specs.ShortBoard.{pack_short_test, packed_short, pack_short_leaves}
 use Rattle.board_edition.specs.Edition.{full_mark, HasMark}
 use Rattle.board_edition.proofs.Answers as edition
 use Rattle.board_to_short.specs.ToShort.{to_short_test, to_short_leaves}
-use Rattle.board_to_short.proofs.Answers.{lastTest, as-reader}
+use Rattle.board_to_short.proofs.Answers.{last_test, as_reader}
 
 -- a board file has the full edition's mark
 board_mark : (file : List ℕ) (k : ℕ) → IsBoard file k → HasMark file full_mark
@@ -30,18 +30,18 @@ board_mark file k h = record {
 
 module _ (file : List ℕ) (n : ℕ) (e : unpack_test file n ≡ Accepted) where
   -- nothing but the destination's length is left to test, by the converter
-  converter_left : (size : ℕ) → to_short_test file size ≡ lastTest file size
+  converter_left : (size : ℕ) → to_short_test file size ≡ last_test file size
   converter_left size =
-      let u = unpack-accepted file n e in
+      let u = unpack_accepted file n e in
       let room : n ≡ tap_words (batches_in file) = u.1 in
-      as-reader file size (edition.accepts file full_mark (board_mark file (batches_in file) u.0))
-      ∙ ap (λ a. after a (lastTest file size)) (ap (unpack_test file) (sym room) ∙ e)
+      as_reader file size (edition.accepts file full_mark (board_mark file (batches_in file) u.0))
+      ∙ ap (λ a. after a (last_test file size)) (ap (unpack_test file) (sym room) ∙ e)
 
   -- and by the writer
-  writer_left : (size : ℕ) → pack_short_test (taps_in file) (claim_in file) size ≡ lastTest file size
+  writer_left : (size : ℕ) → pack_short_test (taps_in file) (claim_in file) size ≡ last_test file size
   unfolding pack_short_test
   writer_left size =
-      let h = (unpack-accepted file n e).0 in
+      let h = (unpack_accepted file n e).0 in
       let canonical = board_canonical file h in
       let k = batches_in file in
       let p = permitted_to most_batches k h.permitted (omega (arith, h.permitted.high)) in

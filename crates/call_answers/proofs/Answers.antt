@@ -33,7 +33,7 @@ use Rattle.hash_undo.specs.Unhash.{taps_before}
 use Rattle.hash_undo.specs.Answers.{unhash_test, unhash_answer}
 use Rattle.hash_undo.proofs.Theorems.{taps_size}
 use Rattle.board.specs.Board.{batches_in, claim_in, taps_in, unpack_test, unpack_answer, unpack_leaves}
-use Rattle.board.proofs.Answers.{unpack-accepted}
+use Rattle.board.proofs.Answers.{unpack_accepted}
 use Rattle.board_short.specs.ShortBoard.{short_claim_in, short_taps_in, unpack_short_test, unpack_short_answer}
 use Rattle.board_short.specs.ShortBoard.{unpack_short_leaves, short_batches_in}
 use Rattle.board_short.proofs.Answers as short
@@ -55,16 +55,16 @@ module _ (t called : Answer) (same : called ≡ t) (refuses : IsRefusal t) where
       (ap (λ a. digest_after a d) (same ∙ refuses.1))
       (e ∙ sym (answer_refused t refuses.0 refuses.1))
 
-  pub state-stopped : (s : State) (code : ℕ) (old : List ℕ) → code ≡ answer_code t
+  pub state_stopped : (s : State) (code : ℕ) (old : List ℕ) → code ≡ answer_code t
       → HandsOverState (state_after called s) code old old
-  state-stopped s code old e =
+  state_stopped s code old e =
       state_handed_refused (state_after called s) refuses.0 code old
       (ap (λ a. state_after a s) (same ∙ refuses.1))
       (e ∙ sym (answer_refused t refuses.0 refuses.1))
 
-  digest-stopped : (d : Digest) (code : ℕ) (old : List ℕ) → code ≡ digest_code (digest_after t d)
+  digest_stopped : (d : Digest) (code : ℕ) (old : List ℕ) → code ≡ digest_code (digest_after t d)
       → HandsOver (digest_after called d) code old old
-  digest-stopped d code old e =
+  digest_stopped d code old e =
       handed_refused (digest_after called d) refuses.0 code old
       (ap (λ a. digest_after a d) (same ∙ refuses.1))
       (e ∙ sym (digest_refused (digest_after t d) refuses.0 (ap (λ a. digest_after a d) refuses.1)))
@@ -74,69 +74,69 @@ module _ (t called : Answer) (same : called ≡ t) (refuses : IsRefusal t) where
 
 -- ---- the calls' tests, by the length of that destination
 module _ (T words : List ℕ) (size : ℕ) where
-  pub hash-room : size ≡ 12 → hash_test T words ≡ hash_call_test T words size
+  pub hash_room : size ≡ 12 → hash_test T words ≡ hash_call_test T words size
   unfolding hash_test hash_call_test
-  hash-room e = rw (eq-eqb size 12 e)
+  hash_room e = rw (eq-eqb size 12 e)
 
-  pub hash-without : (size ≡ 12 → ⊥) → hash_call_test T words size ≡ hash_no_room T
+  pub hash_without : (size ≡ 12 → ⊥) → hash_call_test T words size ≡ hash_no_room T
   unfolding hash_call_test hash_no_room
-  hash-without e = rw (ne_eqb size 12 e)
+  hash_without e = rw (ne_eqb size 12 e)
 
 module _ (T s : List ℕ) (size : ℕ) where
-  pub unhash-room : size ≡ 8 → unhash_test T s ≡ unhash_call_test T s size
+  pub unhash_room : size ≡ 8 → unhash_test T s ≡ unhash_call_test T s size
   unfolding unhash_test unhash_call_test
-  unhash-room e = rw (eq-eqb size 8 e)
+  unhash_room e = rw (eq-eqb size 8 e)
 
-  pub unhash-without : (size ≡ 8 → ⊥) → unhash_call_test T s size ≡ hash_no_room T
+  pub unhash_without : (size ≡ 8 → ⊥) → unhash_call_test T s size ≡ hash_no_room T
   unfolding unhash_call_test hash_no_room
-  unhash-without e = rw (ne_eqb size 8 e)
+  unhash_without e = rw (ne_eqb size 8 e)
 
 module _ (T w : List ℕ) (size : ℕ) where
-  pub chain-room : size ≡ 4 → chain_test T w ≡ chain_call_test T w size
+  pub chain_room : size ≡ 4 → chain_test T w ≡ chain_call_test T w size
   unfolding chain_test chain_call_test
-  chain-room e = rw (eq-eqb size 4 e)
+  chain_room e = rw (eq-eqb size 4 e)
 
-  pub chain-without : (size ≡ 4 → ⊥) → chain_call_test T w size ≡ chain_no_room T w
+  pub chain_without : (size ≡ 4 → ⊥) → chain_call_test T w size ≡ chain_no_room T w
   unfolding chain_call_test chain_no_room
-  chain-without e = rw (ne_eqb size 4 e)
+  chain_without e = rw (ne_eqb size 4 e)
 
-  pub build-room : (rows : ℕ) → size ≡ 4 → build_test T w rows ≡ build_call_test T w rows size
+  pub build_room : (rows : ℕ) → size ≡ 4 → build_test T w rows ≡ build_call_test T w rows size
   unfolding build_test build_call_test
-  build-room rows e = rw (eq-eqb size 4 e)
+  build_room rows e = rw (eq-eqb size 4 e)
 
-  pub build-without : (rows : ℕ) → (size ≡ 4 → ⊥) → build_call_test T w rows size ≡ chain_no_room T w
+  pub build_without : (rows : ℕ) → (size ≡ 4 → ⊥) → build_call_test T w rows size ≡ chain_no_room T w
   unfolding build_call_test chain_no_room
-  build-without rows e = rw (ne_eqb size 4 e)
+  build_without rows e = rw (ne_eqb size 4 e)
 
 module _ (T t claim : List ℕ) (c n : ℕ) (new : List ℕ) (size : ℕ) where
-  pub edit-room : size ≡ 4 → edit_test T t claim c n new ≡ edit_call_test T t claim c n new size
+  pub edit_room : size ≡ 4 → edit_test T t claim c n new ≡ edit_call_test T t claim c n new size
   unfolding edit_test edit_call_test
-  edit-room e = rw (eq-eqb size 4 e)
+  edit_room e = rw (eq-eqb size 4 e)
 
-  pub edit-without : (size ≡ 4 → ⊥) → edit_call_test T t claim c n new size ≡ edit_no_room T t c n
+  pub edit_without : (size ≡ 4 → ⊥) → edit_call_test T t claim c n new size ≡ edit_no_room T t c n
   unfolding edit_call_test edit_no_room
-  edit-without e = rw (ne_eqb size 4 e)
+  edit_without e = rw (ne_eqb size 4 e)
 
-pub hash-no-room-refuses : (T : List ℕ) → IsRefusal (hash_no_room T)
+pub hash_no_room_refuses : (T : List ℕ) → IsRefusal (hash_no_room T)
 unfolding hash_no_room
-hash-no-room-refuses T = go (table_test T)
+hash_no_room_refuses T = go (table_test T)
   where
     go : (t : Answer) → IsRefusal (after t (answer.Refused DestinationLength))
     go (answer.Refused r) = (r, refl)
     go answer.Accepted = (DestinationLength, refl)
 
-pub chain-no-room-refuses : (T w : List ℕ) → IsRefusal (chain_no_room T w)
+pub chain_no_room_refuses : (T w : List ℕ) → IsRefusal (chain_no_room T w)
 unfolding chain_no_room
-chain-no-room-refuses T w = go (table_test T) (is_tap_length most_batches (length w))
+chain_no_room_refuses T w = go (table_test T) (is_tap_length most_batches (length w))
   where
     go : (t : Answer) (b : Bool) → IsRefusal (after t (unless b TapLength (answer.Refused DestinationLength)))
     go (answer.Refused r) b = (r, refl)
     go answer.Accepted true = (DestinationLength, refl)
     go answer.Accepted false = (TapLength, refl)
 
-pub edit-no-room-refuses : (T t : List ℕ) (c n : ℕ) → IsRefusal (edit_no_room T t c n)
+pub edit_no_room_refuses : (T t : List ℕ) (c n : ℕ) → IsRefusal (edit_no_room T t c n)
 unfolding edit_no_room
-edit-no-room-refuses T t c n = go (opening_test T t c) (leb n (3 * trace_word_batches (length t)))
+edit_no_room_refuses T t c n = go (opening_test T t c) (leb n (3 * trace_word_batches (length t)))
   where
     go : (a : Answer) (b : Bool) → IsRefusal (after a (unless b NoSuchTap (answer.Refused DestinationLength)))
     go (answer.Refused r) b = (r, refl)
@@ -144,138 +144,138 @@ edit-no-room-refuses T t c n = go (opening_test T t c) (leb n (3 * trace_word_ba
     go answer.Accepted false = (NoSuchTap, refl)
 
 module _ (file : List ℕ) (taps size : ℕ) where
-  pub unpack-room : size ≡ 4 → unpack_test file taps ≡ unpack_call_test file taps size
+  pub unpack_room : size ≡ 4 → unpack_test file taps ≡ unpack_call_test file taps size
   unfolding unpack_test unpack_call_test
-  unpack-room e = rw (eq-eqb size 4 e)
+  unpack_room e = rw (eq-eqb size 4 e)
 
-  pub unpack-without : (size ≡ 4 → ⊥) → unpack_call_test file taps size ≡ unpack_test file 0
+  pub unpack_without : (size ≡ 4 → ⊥) → unpack_call_test file taps size ≡ unpack_test file 0
   unfolding unpack_test unpack_call_test
-  unpack-without e = rw (ne_eqb size 4 e, ne_eqb 0 (12 * batches_in file + 4) (λ q. omega arith))
+  unpack_without e = rw (ne_eqb size 4 e, ne_eqb 0 (12 * batches_in file + 4) (λ q. omega arith))
 
 -- the same of the short edition
 module _ (file : List ℕ) (taps size : ℕ) where
-  pub unpack-short-room : size ≡ 4 → unpack_short_test file taps ≡ unpack_short_call_test file taps size
+  pub unpack_short_room : size ≡ 4 → unpack_short_test file taps ≡ unpack_short_call_test file taps size
   unfolding unpack_short_test unpack_short_call_test
-  unpack-short-room e = rw (eq-eqb size 4 e)
+  unpack_short_room e = rw (eq-eqb size 4 e)
 
-  pub unpack-short-without : (size ≡ 4 → ⊥) → unpack_short_call_test file taps size ≡ unpack_short_test file 0
+  pub unpack_short_without : (size ≡ 4 → ⊥) → unpack_short_call_test file taps size ≡ unpack_short_test file 0
   unfolding unpack_short_test unpack_short_call_test
-  unpack-short-without e = rw (ne_eqb size 4 e, ne_eqb 0 (12 * short_batches_in file + 4) (λ q. omega arith))
+  unpack_short_without e = rw (ne_eqb size 4 e, ne_eqb 0 (12 * short_batches_in file + 4) (λ q. omega arith))
 
 -- no list of taps has 0 words
-no-list : (t : Answer) (k : ℕ) → (t ≡ answer.Accepted → 0 ≡ 12 * k + 4) → IsRefusal t
-no-list (answer.Refused r) k e = (r, refl)
-no-list answer.Accepted k e = absurd (omega (arith, e refl))
+no_list : (t : Answer) (k : ℕ) → (t ≡ answer.Accepted → 0 ≡ 12 * k + 4) → IsRefusal t
+no_list (answer.Refused r) k e = (r, refl)
+no_list answer.Accepted k e = absurd (omega (arith, e refl))
 
-pub no-list-refuses : (file : List ℕ) → IsRefusal (unpack_test file 0)
-no-list-refuses file = no-list (unpack_test file 0) (batches_in file) (λ e. (unpack-accepted file 0 e).1)
+pub no_list_refuses : (file : List ℕ) → IsRefusal (unpack_test file 0)
+no_list_refuses file = no_list (unpack_test file 0) (batches_in file) (λ e. (unpack_accepted file 0 e).1)
 
-pub no-short-list-refuses : (file : List ℕ) → IsRefusal (unpack_short_test file 0)
-no-short-list-refuses file =
-    no-list (unpack_short_test file 0) (short_batches_in file) (λ e. (short.unpack-accepted file 0 e).1)
+pub no_short_list_refuses : (file : List ℕ) → IsRefusal (unpack_short_test file 0)
+no_short_list_refuses file =
+    no_list (unpack_short_test file 0) (short_batches_in file) (λ e. (short.unpack_accepted file 0 e).1)
 
 -- so that the answer for such a destination is the one that stops at 8
 module _ (file : List ℕ) (taps size : ℕ) (without : size ≡ 4 → ⊥) where
-  pub unpack-stopped : (code : ℕ) (old : List ℕ) → code ≡ digest_code (unpack_answer file 0)
+  pub unpack_stopped : (code : ℕ) (old : List ℕ) → code ≡ digest_code (unpack_answer file 0)
       → HandsOver (unpack_call file taps size) code old old
   unfolding unpack_answer unpack_call
-  unpack-stopped code old e =
-      digest-stopped (unpack_test file 0) (unpack_call_test file taps size) (unpack-without file taps size without)
-      (no-list-refuses file) (digest (claim_in file)) code old e
+  unpack_stopped code old e =
+      digest_stopped (unpack_test file 0) (unpack_call_test file taps size) (unpack_without file taps size without)
+      (no_list_refuses file) (digest (claim_in file)) code old e
 
-  pub unpack-short-stopped : (code : ℕ) (old : List ℕ) → code ≡ digest_code (unpack_short_answer file 0)
+  pub unpack_short_stopped : (code : ℕ) (old : List ℕ) → code ≡ digest_code (unpack_short_answer file 0)
       → HandsOver (unpack_short_call file taps size) code old old
   unfolding unpack_short_answer unpack_short_call
-  unpack-short-stopped code old e =
-      digest-stopped (unpack_short_test file 0) (unpack_short_call_test file taps size)
-      (unpack-short-without file taps size without) (no-short-list-refuses file) (digest (short_claim_in file)) code old e
+  unpack_short_stopped code old e =
+      digest_stopped (unpack_short_test file 0) (unpack_short_call_test file taps size)
+      (unpack_short_without file taps size without) (no_short_list_refuses file) (digest (short_claim_in file)) code old e
 
 -- where there is room, answer and content are the operation's
-pub hash-answer : (size : ℕ) → size ≡ 12 → (T words : List ℕ) → hash_answer T words ≡ hash_call T words size
+pub hash_answer_lem : (size : ℕ) → size ≡ 12 → (T words : List ℕ) → hash_answer T words ≡ hash_call T words size
 unfolding hash_answer hash_call
-hash-answer size e T words =
-    ap (λ t. state_after t (state (final_state T (input (take 4 words) (drop 4 words))))) (hash-room T words size e)
+hash_answer_lem size e T words =
+    ap (λ t. state_after t (state (final_state T (input (take 4 words) (drop 4 words))))) (hash_room T words size e)
 
 module _ (size : ℕ) (four : size ≡ 4) where
-  pub chain-answer : (T w : List ℕ) → chain_answer T w ≡ chain_call T w size
+  pub chain_answer_lem : (T w : List ℕ) → chain_answer T w ≡ chain_call T w size
   unfolding chain_answer chain_call
-  chain-answer T w =
-      ap (λ t. digest_after t (digest (chain T w (tap_word_batches (length w))))) (chain-room T w size four)
+  chain_answer_lem T w =
+      ap (λ t. digest_after t (digest (chain T w (tap_word_batches (length w))))) (chain_room T w size four)
 
-  pub build-answer : (T w : List ℕ) (rows : ℕ) → build_answer T w rows ≡ build_call T w rows size
+  pub build_answer_lem : (T w : List ℕ) (rows : ℕ) → build_answer T w rows ≡ build_call T w rows size
   unfolding build_answer build_call
-  build-answer T w rows =
-      ap (λ t. digest_after t (digest (chain T w (tap_word_batches (length w))))) (build-room T w size rows four)
+  build_answer_lem T w rows =
+      ap (λ t. digest_after t (digest (chain T w (tap_word_batches (length w))))) (build_room T w size rows four)
 
-  pub build-left : (T w old : List ℕ) → build_leaves T w old
+  pub build_left : (T w old : List ℕ) → build_leaves T w old
       ≡ leaves (build_call_test T w (length old) size) (trace T w (tap_word_batches (length w))) old
   unfolding build_leaves
-  build-left T w old =
-      ap (λ t. leaves t (trace T w (tap_word_batches (length w))) old) (build-room T w size (length old) four)
+  build_left T w old =
+      ap (λ t. leaves t (trace T w (tap_word_batches (length w))) old) (build_room T w size (length old) four)
 
-  pub edit-answer : (T t claim : List ℕ) (c n : ℕ) (new : List ℕ)
+  pub edit_answer_lem : (T t claim : List ℕ) (c n : ℕ) (new : List ℕ)
       → edit_answer T t claim c n new ≡ edit_call T t claim c n new size
   unfolding edit_answer edit_call
-  edit-answer T t claim c n new =
+  edit_answer_lem T t claim c n new =
       ap (λ a. digest_after a (digest (chain T (first_taps c (altered_taps T t n new)) c)))
-      (edit-room T t claim c n new size four)
+      (edit_room T t claim c n new size four)
 
-  pub edit-left : (T t claim : List ℕ) (c n : ℕ) (new : List ℕ) → edit_leaves T t claim c n new
+  pub edit_left : (T t claim : List ℕ) (c n : ℕ) (new : List ℕ) → edit_leaves T t claim c n new
       ≡ leaves (edit_call_test T t claim c n new size) (trace T (altered_taps T t n new) (trace_word_batches (length t))) t
   unfolding edit_leaves
-  edit-left T t claim c n new =
+  edit_left T t claim c n new =
       ap (λ a. leaves a (trace T (altered_taps T t n new) (trace_word_batches (length t))) t)
-      (edit-room T t claim c n new size four)
+      (edit_room T t claim c n new size four)
 
-  pub unpack-answer : (file : List ℕ) (taps : ℕ) → unpack_answer file taps ≡ unpack_call file taps size
+  pub unpack_answer_lem : (file : List ℕ) (taps : ℕ) → unpack_answer file taps ≡ unpack_call file taps size
   unfolding unpack_answer unpack_call
-  unpack-answer file taps = ap (λ t. digest_after t (digest (claim_in file))) (unpack-room file taps size four)
+  unpack_answer_lem file taps = ap (λ t. digest_after t (digest (claim_in file))) (unpack_room file taps size four)
 
-  pub unpack-left : (file old : List ℕ)
+  pub unpack_left : (file old : List ℕ)
       → unpack_leaves file old ≡ leaves (unpack_call_test file (length old) size) (taps_in file) old
   unfolding unpack_leaves
-  unpack-left file old = ap (λ t. leaves t (taps_in file) old) (unpack-room file (length old) size four)
+  unpack_left file old = ap (λ t. leaves t (taps_in file) old) (unpack_room file (length old) size four)
 
-  pub unpack-short-answer : (file : List ℕ) (taps : ℕ) → unpack_short_answer file taps ≡ unpack_short_call file taps size
+  pub unpack_short_answer_lem : (file : List ℕ) (taps : ℕ) → unpack_short_answer file taps ≡ unpack_short_call file taps size
   unfolding unpack_short_answer unpack_short_call
-  unpack-short-answer file taps =
-      ap (λ t. digest_after t (digest (short_claim_in file))) (unpack-short-room file taps size four)
+  unpack_short_answer_lem file taps =
+      ap (λ t. digest_after t (digest (short_claim_in file))) (unpack_short_room file taps size four)
 
-  pub unpack-short-left : (file old : List ℕ)
+  pub unpack_short_left : (file old : List ℕ)
       → unpack_short_leaves file old ≡ leaves (unpack_short_call_test file (length old) size) (short_taps_in file) old
   unfolding unpack_short_leaves
-  unpack-short-left file old =
-      ap (λ t. leaves t (short_taps_in file) old) (unpack-short-room file (length old) size four)
+  unpack_short_left file old =
+      ap (λ t. leaves t (short_taps_in file) old) (unpack_short_room file (length old) size four)
 
 -- where no word of a destination was lent
-pub list-kept : (part old : List ℕ) → length part ≡ 0 → part ++ old ≡ old
-list-kept [] old h = refl
-list-kept (x ∷ part) old h = absurd (omega arith)
+pub list_kept : (part old : List ℕ) → length part ≡ 0 → part ++ old ≡ old
+list_kept [] old h = refl
+list_kept (x ∷ part) old h = absurd (omega arith)
 
 -- ---- Unhash, with room for its eight words
 module _ (T s old : List ℕ) (room : length old ≡ 8) where
-  pub unhash-handed : (p : Pair) (new : List ℕ) → unhash_answer T s ≡ eight.Accepted p → new ≡ pair_words p
+  pub unhash_handed : (p : Pair) (new : List ℕ) → unhash_answer T s ≡ eight.Accepted p → new ≡ pair_words p
       → UnhashCall T s 0 old new
   unfolding unhash_answer
-  unhash-handed p new e f =
+  unhash_handed p new e f =
       let a = pair_accepted (unhash_test T s) _ p e in
-      let t = sym (unhash-room T s (length old) room) ∙ a.0 in
+      let t = sym (unhash_room T s (length old) room) ∙ a.0 in
       let words = f ∙ sym (ap pair_words a.1) ∙ eight_words (taps_before T s) (taps_size T s) in
       record { coded = answer_accepted _ t; taps = leaves_new (sym t) old refl words }
 
-  pub unhash-refused : (r : Refusal) (code : ℕ) → unhash_answer T s ≡ eight.Refused r → code ≡ refusal_code r
+  pub unhash_refused : (r : Refusal) (code : ℕ) → unhash_answer T s ≡ eight.Refused r → code ≡ refusal_code r
       → UnhashCall T s code old old
   unfolding unhash_answer
-  unhash-refused r code e f =
-      let t = sym (unhash-room T s (length old) room) ∙ pair_refused (unhash_test T s) _ r e in
+  unhash_refused r code e f =
+      let t = sym (unhash_room T s (length old) room) ∙ pair_refused (unhash_test T s) _ r e in
       record { coded = f ∙ answer_refused _ r t; taps = leaves_old (sym t) _ refl }
 
 -- and without
-pub unhash-stopped : (T s old : List ℕ) (code : ℕ) → (length old ≡ 8 → ⊥) → code ≡ answer_code (hash_no_room T)
+pub unhash_stopped : (T s old : List ℕ) (code : ℕ) → (length old ≡ 8 → ⊥) → code ≡ answer_code (hash_no_room T)
     → UnhashCall T s code old old
-unhash-stopped T s old code without e =
-    let same = unhash-without T s (length old) without in
+unhash_stopped T s old code without e =
+    let same = unhash_without T s (length old) without in
     record {
       coded = e ∙ sym (ap answer_code same);
-      taps = kept (hash_no_room T) _ same (hash-no-room-refuses T) (taps_before T s) old;
+      taps = kept (hash_no_room T) _ same (hash_no_room_refuses T) (taps_before T s) old;
     }

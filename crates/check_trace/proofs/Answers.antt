@@ -68,10 +68,10 @@ pub record CheckInputs (T t claim : List ℕ) (c k : ℕ) : Type 0 where
   pub canonical : AllCanonical t
 
 module _ (T t claim : List ℕ) (c : ℕ) where
-  pub check-inputs : check_test T t claim c ≡ Accepted → let k = trace_word_batches (length t) in
+  pub check_inputs : check_test T t claim c ≡ Accepted → let k = trace_word_batches (length t) in
       CheckInputs T t claim c k × (constraint_test T t claim c k ≡ Accepted)
   unfolding check_test trace_test
-  check-inputs e =
+  check_inputs e =
       let a = both_accepted (opening_test T t c) _ e in
       let b = passed _ _ _ a.1 in
       let d = passed _ _ _ b.1 in (
@@ -84,54 +84,54 @@ module _ (T t claim : List ℕ) (c : ℕ) where
       )
 
   -- such inputs leave the answer to the walk
-  pub check-reaches : (k : ℕ) → CheckInputs T t claim c k → check_test T t claim c ≡ constraint_test T t claim c k
+  pub check_reaches : (k : ℕ) → CheckInputs T t claim c k → check_test T t claim c ≡ constraint_test T t claim c k
   unfolding check_test trace_test
-  check-reaches k h =
+  check_reaches k h =
       let o = h.opening in
       rw (opens T t c k o, test_good claim h.claim_canonical, test_good t h.canonical)
       (ap (constraint_test T t claim c) (trace_length_complete most_batches (length t) k o.size o.permitted).1)
 
-  pub check-passes : (k : ℕ) → CheckInputs T t claim c k → constraint_test T t claim c k ≡ Accepted
+  pub check_passes : (k : ℕ) → CheckInputs T t claim c k → constraint_test T t claim c k ≡ Accepted
       → check_test T t claim c ≡ Accepted
-  check-passes k h e = check-reaches k h ∙ e
+  check_passes k h e = check_reaches k h ∙ e
 
 -- ---- what a function learns from the tests that it passes, one after the other
 
 -- what is left to be tested from 10 on
-abbrev pub fromWords : List ℕ → List ℕ → List ℕ → ℕ → ℕ → Answer
-fromWords T t claim c k = unless (canonical_words t) (TraceWord (first_bad t)) (constraint_test T t claim c k)
+abbrev pub from_words : List ℕ → List ℕ → List ℕ → ℕ → ℕ → Answer
+from_words T t claim c k = unless (canonical_words t) (TraceWord (first_bad t)) (constraint_test T t claim c k)
 
 -- a is what the opening tests answered; and k, which the trace's length tells, is few enough for the walk
-pub opened-by : (T t : List ℕ) (c : ℕ) {a : Answer} → a ≡ opening_test T t c → a ≡ Accepted
+pub opened_by : (T t : List ℕ) (c : ℕ) {a : Answer} → a ≡ opening_test T t c → a ≡ Accepted
     → Opened T t c (trace_word_batches (length t)) × (trace_word_batches (length t) < 2 ^ 32)
-opened-by T t c e q =
+opened_by T t c e q =
     let o = opened T t c (sym e ∙ q) in
     (o, omega (arith, o.permitted.high))
 
 -- a is what the test of the claim's words answered
 module _ (T t claim : List ℕ) (c k : ℕ) {o a : Answer}
     (e : a ≡ unless (canonical_words claim) (ClaimWord (first_bad claim)) Accepted) where
-  pub claim-refused : {r : Refusal} → a ≡ Refused r → o ≡ Refused r → o ≡ trace_test T t claim c k
+  pub claim_refused : {r : Refusal} → a ≡ Refused r → o ≡ Refused r → o ≡ trace_test T t claim c k
   unfolding trace_test
-  claim-refused q p =
-      one_test_refused (canonical_words claim) (ClaimWord (first_bad claim)) e (fromWords T t claim c k) q p
+  claim_refused q p =
+      one_test_refused (canonical_words claim) (ClaimWord (first_bad claim)) e (from_words T t claim c k) q p
 
-  pub claim-passed : a ≡ Accepted → o ≡ fromWords T t claim c k → o ≡ trace_test T t claim c k
+  pub claim_passed : a ≡ Accepted → o ≡ from_words T t claim c k → o ≡ trace_test T t claim c k
   unfolding trace_test
-  claim-passed q p = one_test_passed (canonical_words claim) (ClaimWord (first_bad claim)) e q p
+  claim_passed q p = one_test_passed (canonical_words claim) (ClaimWord (first_bad claim)) e q p
 
 -- and what that of the trace's words did
 module _ (T t claim : List ℕ) (c k : ℕ) {o a : Answer}
     (e : a ≡ unless (canonical_words t) (TraceWord (first_bad t)) Accepted) where
-  pub words-refused : {r : Refusal} → a ≡ Refused r → o ≡ Refused r → o ≡ fromWords T t claim c k
-  words-refused q p = one_test_refused (canonical_words t) (TraceWord (first_bad t)) e _ q p
+  pub words_refused : {r : Refusal} → a ≡ Refused r → o ≡ Refused r → o ≡ from_words T t claim c k
+  words_refused q p = one_test_refused (canonical_words t) (TraceWord (first_bad t)) e _ q p
 
-  pub words-passed : a ≡ Accepted → o ≡ constraint_test T t claim c k → o ≡ fromWords T t claim c k
-  words-passed q p = one_test_passed (canonical_words t) (TraceWord (first_bad t)) e q p
+  pub words_passed : a ≡ Accepted → o ≡ constraint_test T t claim c k → o ≡ from_words T t claim c k
+  words_passed q p = one_test_passed (canonical_words t) (TraceWord (first_bad t)) e q p
 
-pub canonical-words : (t : List ℕ) {a : Answer} → a ≡ unless (canonical_words t) (TraceWord (first_bad t)) Accepted
+pub canonical_words_lem : (t : List ℕ) {a : Answer} → a ≡ unless (canonical_words t) (TraceWord (first_bad t)) Accepted
     → a ≡ Accepted → AllCanonical t
-canonical-words t e q = good_test t (passed (canonical_words t) (TraceWord (first_bad t)) Accepted (sym e ∙ q)).0
+canonical_words_lem t e q = good_test t (passed (canonical_words t) (TraceWord (first_bad t)) Accepted (sym e ∙ q)).0
 
 -- what the last tests answered is the answer of all, where those before leave it to them
 pub walked : (n : ℕ) {o : TestsAnswer} (last : Answer) {all : Answer} → o ≡ tests_after last n → last ≡ all

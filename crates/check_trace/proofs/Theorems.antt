@@ -11,7 +11,7 @@ use Rattle.refusals.specs.Answers.{tests_after}
 use Rattle.table.specs.Table.{IsTable}
 use Rattle.check_constraints.specs.Constraints.{tests, constraint_test}
 use Rattle.check_trace.specs.Answers.{check_answer}
-use Rattle.check_trace.proofs.Answers.{CheckInputs, check-reaches}
+use Rattle.check_trace.proofs.Answers.{CheckInputs, check_reaches}
 
 module _ (T t claim : List ℕ) (c k : ℕ) (table : IsTable T) (permitted : IsPermitted k) (low : 1 ≤ c) (high : c ≤ k)
     (size : length t ≡ 384 * k) (canonical : AllCanonical t) (claim_canonical : AllCanonical claim) where
@@ -23,5 +23,5 @@ module _ (T t claim : List ℕ) (c k : ℕ) (table : IsTable T) (permitted : IsP
         claim_canonical = claim_canonical;
         canonical = canonical;
       } in
-      ap₂ tests_after (check-reaches T t claim c k inputs)
+      ap₂ tests_after (check_reaches T t claim c k inputs)
       (ap (λ n. length (tests n c)) (trace_length_complete most_batches (length t) k size permitted).1)

@@ -20,7 +20,7 @@ use Rattle.check_constraints.specs.Constraints.{tests, constraint_test}
 use Rattle.check_constraints.proofs.TestCount.{length_tests}
 use Rattle.board_words.proofs.Round.{length_elements}
 use Rattle.board.specs.Board.{batches_in, claim_in, taps_in, unpack_test}
-use Rattle.board.proofs.Answers.{batches-is, unpack-accepted, unpack-complete}
+use Rattle.board.proofs.Answers.{batches_is, unpack_accepted, unpack_complete}
 use Rattle.board.proofs.Round.{board_permitted, board_canonical, taps_length}
 use Rattle.clear_answer.specs.declared.Outcome.{Outcome}
 use Rattle.clear_answer.specs.declared.Outcome.TheVariants.{Accepted, Refused}
@@ -49,14 +49,14 @@ pub judged_answer : (input T : List ℕ) (k : ℕ) → IsJudged input T k
 unfolding cleared
 judged_answer input T k h =
     let file = file_in input in
-    let b = batches-is file k h.board in
+    let b = batches_is file k h.board in
     ap (λ n. outcome_after (unpack_test file (12 * n + 4)) (checked_taps T (taps_in file) (claim_in file) n)) b
-    ∙ ap (λ t. outcome_after t (checked_taps T (taps_in file) (claim_in file) k)) (unpack-complete file k h.board)
+    ∙ ap (λ t. outcome_after t (checked_taps T (taps_in file) (claim_in file) k)) (unpack_complete file k h.board)
 
 -- what is known of them then
 module _ (input T : List ℕ) (k : ℕ) (h : IsJudged input T k) where
   file_k : batches_in (file_in input) ≡ k
-  file_k = batches-is (file_in input) k h.board
+  file_k = batches_is (file_in input) k h.board
 
   -- the file's taps and claim
   abbrev w : List ℕ
@@ -129,5 +129,5 @@ module _ (input T : List ℕ) where
         low = low;
         high = high;
         prepared = p;
-        board = (unpack-accepted file (12 * batches_in file + 4) e).0;
+        board = (unpack_accepted file (12 * batches_in file + 4) e).0;
       })

@@ -33,7 +33,7 @@ use Rattle.check_constraints.specs.Constraints.{tests, constraint_test}
 use Rattle.check_trace.specs.Answers.{check_answer}
 use Rattle.check_trace.proofs.Theorems.{check_verdict}
 use Rattle.board.specs.Board.{file_size, batches_in, claim_in, taps_in, unpack_test, unpack_answer, IsBoard}
-use Rattle.board.proofs.Answers.{unpack-complete}
+use Rattle.board.proofs.Answers.{unpack_complete}
 use Rattle.board.proofs.Round.{board_permitted, board_canonical, taps_length}
 use Rattle.board.proofs.Theorems.{accepted_board}
 use Rattle.clear_answer.specs.declared.Outcome.{Outcome}
@@ -136,7 +136,7 @@ module _ (T file : List ℕ) (size : ℕ) (room : size ≡ length file / 12 - 4)
       ∙ ap (λ s. checked_taps T s (digest_words d) (tap_word_batches (length s))) taps
       ∙ ap (checked_taps T (taps_in file) (digest_words d)) (batches_are file b.0)
       ∙ ap (λ s. checked_taps T (taps_in file) s (batches_in file)) (sym b.1)
-      ∙ sym (ap (λ t. outcome_after t rest) (unpack-complete file (batches_in file) b.0))
+      ∙ sym (ap (λ t. outcome_after t rest) (unpack_complete file (batches_in file) b.0))
 
   pub file_refused : (r : Refusal) → a ≡ Refused r → outcome.Refused r ≡ cleared T file
   unfolding cleared unpack_answer

@@ -21,9 +21,9 @@ use Rattle.call_results.specs.HandsOver.{written}
 use Rattle.call_results.proofs.Bits.{zero_returns}
 use Rattle.call_answers.specs.Calls.{chain_no_room, build_call_test, build_call, BuildCall, edit_no_room, edit_call_test, edit_call}
 use Rattle.call_answers.specs.Calls.{EditCall, unpack_call_test, unpack_call, UnpackCall}
-use Rattle.call_answers.proofs.Answers.{chain-no-room-refuses, build-without, build-answer, build-left}
-use Rattle.call_answers.proofs.Answers.{edit-no-room-refuses, edit-without, edit-answer, edit-left}
-use Rattle.call_answers.proofs.Answers.{no-list-refuses, unpack-without, unpack-answer, unpack-left}
+use Rattle.call_answers.proofs.Answers.{chain_no_room_refuses, build_without, build_answer_lem, build_left}
+use Rattle.call_answers.proofs.Answers.{edit_no_room_refuses, edit_without, edit_answer_lem, edit_left}
+use Rattle.call_answers.proofs.Answers.{no_list_refuses, unpack_without, unpack_answer_lem, unpack_left}
 use Rattle.call_answers.proofs.Theorems as bits
 
 -- without room the tests can only refuse
@@ -44,11 +44,11 @@ built T w rows rows' output output' called =
     let tests = build_call_test T w (length rows) size in
     let d = digest (chain T w (tap_word_batches (length w))) in
     let passes = zero_returns tests d (bits.build_bits T w (length rows) size) (sym called.four.coded) in
-    let four = had_room size tests (chain_no_room T w) (build-without T w size (length rows))
-    (chain-no-room-refuses T w) passes in (
+    let four = had_room size tests (chain_no_room T w) (build_without T w size (length rows))
+    (chain_no_room_refuses T w) passes in (
       d,
-      build-answer size four T w (length rows) ∙ ap (λ a. digest_after a d) passes,
-      called.rows ∙ sym (build-left size four T w rows),
+      build_answer_lem size four T w (length rows) ∙ ap (λ a. digest_after a d) passes,
+      called.rows ∙ sym (build_left size four T w rows),
       called.four.output ∙ ap (λ a. written (digest_after a d) output) passes,
     )
 
@@ -63,13 +63,13 @@ edited T t claim c n new t' output output' four-claim four-new called =
     let d = digest (chain T (first_taps c (altered_taps T t n new)) c) in
     let passes = zero_returns tests d (bits.edit_bits T t claim c four-claim n new size four-new)
     (sym called.four.coded) in
-    let four = had_room size tests (edit_no_room T t c n) (edit-without T t claim c n new size)
-    (edit-no-room-refuses T t c n) passes in (
+    let four = had_room size tests (edit_no_room T t c n) (edit_without T t claim c n new size)
+    (edit_no_room_refuses T t c n) passes in (
       four,
       (
         d,
-        edit-answer size four T t claim c n new ∙ ap (λ a. digest_after a d) passes,
-        called.rows ∙ sym (edit-left size four T t claim c n new),
+        edit_answer_lem size four T t claim c n new ∙ ap (λ a. digest_after a d) passes,
+        called.rows ∙ sym (edit_left size four T t claim c n new),
         called.four.output ∙ ap (λ a. written (digest_after a d) output) passes,
       ),
     )
@@ -83,10 +83,10 @@ unpacked file taps taps' claim claim' called =
     let tests = unpack_call_test file (length taps) size in
     let d = digest (claim_in file) in
     let passes = zero_returns tests d (bits.unpack_bits file (length taps) size) (sym called.four.coded) in
-    let four = had_room size tests (unpack_test file 0) (unpack-without file (length taps) size) (no-list-refuses file)
+    let four = had_room size tests (unpack_test file 0) (unpack_without file (length taps) size) (no_list_refuses file)
     passes in (
       d,
-      unpack-answer size four file (length taps) ∙ ap (λ a. digest_after a d) passes,
-      called.list ∙ sym (unpack-left size four file taps),
+      unpack_answer_lem size four file (length taps) ∙ ap (λ a. digest_after a d) passes,
+      called.list ∙ sym (unpack_left size four file taps),
       called.four.output ∙ ap (λ a. written (digest_after a d) claim) passes,
     )

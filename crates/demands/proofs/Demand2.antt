@@ -24,15 +24,15 @@ use Rattle.table.specs.Table.{table_test, IsTable}
 use Rattle.table.proofs.Theorems.{test_sound}
 use Rattle.hash.specs.Hash.{final_state, input, hash, chain, first_taps}
 use Rattle.hash.specs.Answers.{hash_answer}
-use Rattle.hash.proofs.Answers.{hash-passes}
+use Rattle.hash.proofs.Answers.{hash_passes}
 use Rattle.hash.proofs.States.{final_state_state}
 use Rattle.hash.proofs.Inputs.{IsTap, output_tap}
 use Rattle.hash_chain.specs.Answers.{chain_answer}
-use Rattle.hash_chain.proofs.Answers.{ChainInputs, chain-passes}
+use Rattle.hash_chain.proofs.Answers.{ChainInputs, chain_passes}
 use Rattle.hash_chain.proofs.FirstTaps.{chain_first}
 use Rattle.trace.specs.Trace.{trace_row, trace, row}
 use Rattle.trace.specs.Answers.{build_test, build_answer, build_leaves}
-use Rattle.trace.proofs.Answers.{build-inputs}
+use Rattle.trace.proofs.Answers.{build_inputs}
 use Rattle.trace.proofs.TraceCells.{length_trace, trace_canonical, last_row_output}
 use Rattle.trace.proofs.Theorems.{build_accepts, build_leaves_lem}
 use Rattle.check_constraints.specs.Constraints.{tests, constraint_test}
@@ -44,14 +44,14 @@ use Rattle.trace_read_off.proofs.Theorems.{same_for}
 use Rattle.board_words.specs.Words.{AllBytes}
 use Rattle.board.specs.Board.{most_file_batches, file_size}
 use Rattle.board.specs.Board.{pack_test, packed, pack_leaves, unpack_test, unpack_answer, taps_in, claim_in, unpack_leaves}
-use Rattle.board.proofs.Answers.{pack-accepted, pack-complete}
+use Rattle.board.proofs.Answers.{pack_accepted, pack_complete}
 use Rattle.board.proofs.Round.{taps_length}
 use Rattle.board.proofs.Theorems.{unpack_packed, pack_unpack, accepted_board}
 use Rattle.call_results.specs.Code.{answer_code, digest_code, tests_code, Says}
 use Rattle.call_results.specs.HandsOver.{written}
 use Rattle.call_results.proofs.Bits.{says_accepted, zero_accepts}
 use Rattle.call_answers.specs.Calls.{BuildCall, ReadOffCall, PackCall, UnpackCall}
-use Rattle.call_answers.proofs.Answers.{unpack-answer, unpack-left}
+use Rattle.call_answers.proofs.Answers.{unpack_answer_lem, unpack_left}
 use Rattle.call_answers.proofs.Theorems.{pack_bits}
 use Rattle.check_exact.proofs.ReadList.{row_of_trace}
 use Rattle.check_exact.proofs.Exactness.{accepts_built, reading_off_a_built_trace}
@@ -69,7 +69,7 @@ hashes T a b table la ha lb hb =
     let cells = twelve_words (final_state T (input a b)) (final_state_state T (input a b)).size in (
       state (final_state T (input a b)),
       ap (λ t. state_after t (state (final_state T (input (take 4 (a ++ b)) (drop 4 (a ++ b))))))
-          (hash-passes T (a ++ b) (record { table = test_sound T table; canonical = append_canonical a b ha hb }))
+          (hash_passes T (a ++ b) (record { table = test_sound T table; canonical = append_canonical a b ha hb }))
           ∙ ap₂ (λ x y. final.Accepted (state (final_state T (input x y)))) (take_at a b 4 la) (drop_at a b 4 la),
       cells,
       ap (take 4) cells,
@@ -82,7 +82,7 @@ chains T w k table permitted size canonical =
     let inputs : ChainInputs T w k =
     record { table = test_sound T table; permitted = permitted; size = size; canonical = canonical } in
     let batches : tap_word_batches (length w) ≡ k = omega arith in
-    ap (λ t. digest_after t (digest (chain T w (tap_word_batches (length w))))) (chain-passes T w k inputs)
+    ap (λ t. digest_after t (digest (chain T w (tap_word_batches (length w))))) (chain_passes T w k inputs)
     ∙ ap (λ n. Accepted (digest (chain T w n))) batches
 
 -- ---- reading off what was built
@@ -131,7 +131,7 @@ unfolding build_answer
 reads_back T w old room d e l =
     let k = tap_word_batches (length w) in
     let a = digest_accepted (build_test T w (length old)) _ d e in
-    let i = build-inputs T w (length old) a.0 in
+    let i = build_inputs T w (length old) a.0 in
     let four = (output_is_tap T w k i.taps i.canonical k).size in
     let output = sym (ap digest_words a.1) ∙ four_words (chain T w k) four in
     rw (build_leaves_lem T w k i.table i.permitted i.taps i.canonical old i.room, output)
@@ -147,7 +147,7 @@ reads_back_early : (T w old room : List ℕ) (c : ℕ) (d : Digest) → build_an
 unfolding build_answer
 reads_back_early T w old room c d e l low high =
     let k = tap_word_batches (length w) in
-    let i = build-inputs T w (length old) (digest_accepted (build_test T w (length old)) _ d e).0 in
+    let i = build_inputs T w (length old) (digest_accepted (build_test T w (length old)) _ d e).0 in
     let r = reads_off T w k i.table i.permitted i.taps i.canonical c low high room (l ∙ i.taps) in
     let s = shown T w k i.table i.permitted i.taps i.canonical c low high in
     rw (build_leaves_lem T w k i.table i.permitted i.taps i.canonical old i.room, chain_first T w c)
@@ -185,10 +185,10 @@ pack_accepts : (w claim : List ℕ) (size : ℕ) → length claim ≡ 4
     × (size ≡ file_size k))
 pack_accepts w claim size four = (
   λ e.
-      let h = pack-accepted w claim size e in
+      let h = pack_accepted w claim size e in
       (tap_word_batches (length w), h.permitted, h.taps_size, h.taps_canonical, h.claim_canonical, h.size_is),
   λ h.
-      pack-complete w claim size h.0 (record {
+      pack_complete w claim size h.0 (record {
         permitted = h.1;
         taps_size = h.2;
         size_is = h.5;
@@ -223,7 +223,7 @@ call_reads_back T w rows rows' output output' room room' code builds l reads =
     let b = built T w rows rows' output output' builds in
     let r = reads_back T w rows room b.0 b.1 l in
     let tested = (digest_accepted (build_test T w (length rows)) _ b.0 b.1).0 in
-    let most = (build-inputs T w (length rows) tested).permitted.high in
+    let most = (build_inputs T w (length rows) tested).permitted.high in
     let said : code ≡ tests_code (counted.Accepted (372 * k)) =
     reads.coded
     ∙ ap tests_code (ap₂ (λ t d. read_off_answer T t d k (length room)) b.2 b.3 ∙ r.0) in (
@@ -244,12 +244,12 @@ call_unpacks : (w claim file file' room room' four four' : List ℕ) (code : ℕ
 unfolding digest_code
 call_unpacks w claim file file' room room' four four' code c packs l f called =
     let u = unpacks w claim file room c (packing w claim file file' c packs) l in
-    let answered = sym (unpack-answer (length four) f file' (length room))
+    let answered = sym (unpack_answer_lem (length four) f file' (length room))
     ∙ ap (λ s. unpack_answer s (length room)) packs.file
     ∙ u.0 in (
       called.four.coded ∙ ap digest_code answered,
       called.list
-          ∙ sym (unpack-left (length four) f file' room)
+          ∙ sym (unpack_left (length four) f file' room)
           ∙ ap (λ s. unpack_leaves s room) packs.file
           ∙ u.1,
       called.four.output ∙ ap (λ a. written a four) answered ∙ four_words claim c,

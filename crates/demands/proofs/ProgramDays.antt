@@ -23,7 +23,7 @@ use Rattle.hash.specs.Hash.{output_at, chain}
 use Rattle.board_words.specs.Words.{word_at}
 use Rattle.board_words.specs.Elements.{element_at, elements_at, element_test, elements_test}
 use Rattle.board.specs.Board.{batches_in, claim_in, taps_in, count_test, unpack_test}
-use Rattle.board.proofs.Answers.{unpack-accepted}
+use Rattle.board.proofs.Answers.{unpack_accepted}
 use Rattle.clear_answer.specs.declared.Outcome.TheVariants.{Accepted, Refused}
 use Rattle.clear_answer.specs.Clearing.{raw_word, raw_in, file_in, unprepared, Clears, IsJudged, other_claim}
 use Rattle.clear_answer.proofs.Theorems.{means_cleared, means_fault, means_clears}
@@ -71,7 +71,7 @@ module _ (file : List ℕ) where
     unfolding with_z
     is_judged =
         let size = length-append (each raw_bytes raw_z) file in
-        let b = rw one_batch at (unpack-accepted file 16 passes).0 in
+        let b = rw one_batch at (unpack_accepted file 16 passes).0 in
         record {
           low = omega (arith, size, table_size);
           high = omega (arith, size, table_size, b.size);

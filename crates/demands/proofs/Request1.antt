@@ -46,11 +46,11 @@ use Rattle.check_exact.proofs.Exactness.{reads_that_list, only_one}
 use Rattle.trace_rewrite.specs.Edit.{altered, first_touched}
 use Rattle.trace_edit.specs.Answers.{edit_test, altered_taps, edit_answer, edit_leaves}
 use Rattle.trace_rewrite.proofs.Altered.{length_altered, altered_canonical, altered_same, output_before}
-use Rattle.trace_edit.proofs.Answers.{edit-inputs}
+use Rattle.trace_edit.proofs.Answers.{edit_inputs}
 use Rattle.trace_edit.proofs.Theorems.{accepts_exactly, earlier_rows, row_tells_tap}
 use Rattle.call_results.specs.Code.{digest_code, Says}
 use Rattle.call_answers.specs.Calls.{EditCall}
-use Rattle.call_answers.proofs.Answers.{edit-answer}
+use Rattle.call_answers.proofs.Answers.{edit_answer_lem}
 use Rattle.demands.specs.Request1.{Edited, InRange, IsAbove, IsBadTap, Request1}
 use Rattle.demands.specs.TurnedBack.{opening_causes, constraint_causes, edit_call_causes}
 use Rattle.demands.proofs.Called as Called
@@ -171,7 +171,7 @@ edits T t claim c n new d four four' e =
     let k = trace_word_batches (length t) in
     let w = read_taps T t k in
     let a = digest_accepted (edit_test T t claim c n new) _ d e in
-    let i = edit-inputs T t claim c n new a.0 in
+    let i = edit_inputs T t claim c n new a.0 in
     let o = i.0.opening in
     let list = reads_that_list T t claim c k o.table o.permitted o.low o.high o.size i.0.canonical
     four i.3 in
@@ -345,7 +345,7 @@ module _ (T t claim : List ℕ) (c n : ℕ) (new t' output output' : List ℕ) (
     λ h.
         let a = (accepts_exactly T t claim c n new).1 (h.1, h.2, h.3) in
         called.four.coded
-        ∙ ap digest_code (sym (edit-answer (length output) h.0 T t claim c n new) ∙ a.1),
+        ∙ ap digest_code (sym (edit_answer_lem (length output) h.0 T t claim c n new) ∙ a.1),
   )
 
   by_causes : (r : Refusal) → Says code (told r) ↔ edit_call_causes T t claim c n new (length output) r

@@ -25,13 +25,13 @@ use Rattle.table.proofs.Theorems.{test_sound, test_complete}
 use Rattle.hash.specs.Hash.{final_state, input, hash, tap, output_at, chain}
 use Rattle.hash.specs.Answers.{hash_test, hash_answer}
 use Rattle.hash.proofs.States.{final_state_state}
-use Rattle.hash.proofs.Answers.{hash-inputs, hash-passes}
+use Rattle.hash.proofs.Answers.{hash_inputs, hash_passes}
 use Rattle.hash_chain.specs.Answers.{chain_test, chain_answer}
 use Rattle.hash_chain.proofs.FirstTaps.{chain_first}
-use Rattle.hash_chain.proofs.Answers.{chain-inputs}
+use Rattle.hash_chain.proofs.Answers.{chain_inputs}
 use Rattle.trace.specs.Trace.{hash_input, trace, row}
 use Rattle.trace.specs.Answers.{build_test, build_answer, build_leaves}
-use Rattle.trace.proofs.Answers.{build-inputs}
+use Rattle.trace.proofs.Answers.{build_inputs}
 use Rattle.trace.proofs.TraceCells.{next_output, output_is_tap, next_tap_is_tap}
 use Rattle.trace.proofs.Theorems.{build_leaves_lem}
 use Rattle.check_exact.specs.Exact.{IsListFor}
@@ -39,7 +39,7 @@ use Rattle.check_exact.proofs.Built.{end_row}
 use Rattle.trace_rewrite.specs.Edit.{altered}
 use Rattle.trace_edit.specs.Answers.{edit_answer, edit_leaves}
 use Rattle.call_answers.specs.Calls.{hash_no_room, hash_call}
-use Rattle.call_answers.proofs.Answers.{hash-without, hash-answer}
+use Rattle.call_answers.proofs.Answers.{hash_without, hash_answer_lem}
 use Rattle.demands.specs.Request3.{Hashed, HasState, HasOutput, Ends, Request3}
 use Rattle.refusals.proofs.Returned.{four_words, twelve_words}
 use Rattle.demands.proofs.Demand2.{demand_2}
@@ -56,10 +56,10 @@ accepts_exactly : (T words : List ℕ)
 unfolding hash_answer
 accepts_exactly T words = (
   λ a.
-      let i = hash-inputs T words (state_accepted (hash_test T words) _ a.0 a.1).0 in
+      let i = hash_inputs T words (state_accepted (hash_test T words) _ a.0 a.1).0 in
       (test_complete T i.table, i.canonical),
   λ h.
-      let passes = hash-passes T words (record { table = test_sound T h.0; canonical = h.1 }) in
+      let passes = hash_passes T words (record { table = test_sound T h.0; canonical = h.1 }) in
       (returned T words, ap (λ t. state_after t (returned T words)) passes),
 )
 
@@ -83,7 +83,7 @@ call_without : (T words : List ℕ) (size : ℕ) (s : State) → (size ≡ 12 �
     → hash_call T words size ≡ state_after (after (table_test T) (answer.Refused DestinationLength)) s
 unfolding hash_call hash_no_room
 call_without T words size s without =
-    ap (λ t. state_after t (returned T words)) (hash-without T words size without) ∙ same (table_test T)
+    ap (λ t. state_after t (returned T words)) (hash_without T words size without) ∙ same (table_test T)
   where
     -- a refusal has no state
     same : (t : Answer) → let a = after t (answer.Refused DestinationLength) in
@@ -133,7 +133,7 @@ chains : (T w : List ℕ) (d : Digest) → chain_answer T w ≡ four.Accepted d
     → (h : ℕ) → h < 3 * tap_word_batches (length w) → HasOutput T w h (output_at T w (h + 1))
 unfolding chain_answer
 chains T w d e =
-    let i = chain-inputs T w (digest_accepted (chain_test T w) _ d e).0 in
+    let i = chain_inputs T w (digest_accepted (chain_test T w) _ d e).0 in
     has_output T w (tap_word_batches (length w)) i.table i.permitted i.size i.canonical
 
 chain_output : (T w : List ℕ) (d : Digest) → chain_answer T w ≡ four.Accepted d
@@ -141,7 +141,7 @@ chain_output : (T w : List ℕ) (d : Digest) → chain_answer T w ≡ four.Accep
 unfolding chain_answer
 chain_output T w d e =
     let a = digest_accepted (chain_test T w) _ d e in
-    let i = chain-inputs T w a.0 in
+    let i = chain_inputs T w a.0 in
     let k = tap_word_batches (length w) in
     output_returned T w k i.table i.permitted i.size i.canonical k d i.permitted.low (omega arith)
     a.1
@@ -152,7 +152,7 @@ unfolding build_answer
 builds T w old d e =
     let k = tap_word_batches (length w) in
     let a = digest_accepted (build_test T w (length old)) _ d e in
-    let i = build-inputs T w (length old) a.0 in
+    let i = build_inputs T w (length old) a.0 in
     let left = build_leaves_lem T w k i.table i.permitted i.taps i.canonical old i.room in
     ends T w k i.table i.permitted i.taps i.canonical k (build_leaves T w old) d i.permitted.low
     (omega arith) left a.1
@@ -170,7 +170,7 @@ edits T t claim c n new d four' four'' e =
     let x = r.2 in
     let v = altered w n new in
     let built = x.as_built t x.size in
-    let i = build-inputs T v (length t) (digest_accepted (build_test T v (length t)) _ _ built.0).0 in
+    let i = build_inputs T v (length t) (digest_accepted (build_test T v (length t)) _ _ built.0).0 in
     let batches : tap_word_batches (length v) ≡ k = omega (arith, i.room, x.size) in
     let taps : length v ≡ 12 * k + 4 = omega (arith, i.taps) in
     let output = ap digest (sym (chain_first T v c)) ∙ sym x.output_is in (
@@ -186,7 +186,7 @@ pub request_3 : Request3
 request_3 = record {
   accepts_exactly = accepts_exactly;
   hashes = hashes;
-  call_with_room = λ T words. sym (hash-answer 12 refl T words);
+  call_with_room = λ T words. sym (hash_answer_lem 12 refl T words);
   call_without = call_without;
   chains = chains;
   chain_output = chain_output;

@@ -39,7 +39,7 @@ use Rattle.trace_edit.specs.Answers.{edit_test, edit_answer}
 use Rattle.trace_edit.proofs.Answers.{same_test}
 use Rattle.call_results.specs.Code.{code as code_of_lem, tests_code, number_in, constraint_in, row_in, value_in, Says}
 use Rattle.call_answers.specs.Calls.{ReadOffCall, edit_call_test, edit_call, EditCall}
-use Rattle.call_answers.proofs.Answers.{edit-room}
+use Rattle.call_answers.proofs.Answers.{edit_room}
 use Rattle.call_results.proofs.Bits.{RefusalInBits, says}
 use Rattle.call_answers.proofs.Endings.Trace.{TraceCauses}
 use Rattle.call_answers.proofs.Endings.Check.{check_ends}
@@ -244,7 +244,7 @@ edit_called T t claim c m new t' output output' code i q n size size' h =
           ((edit_alike T t claim c m new i q n).1 (answered T t claim c _ i q n l.2, l.0, l.1), p.0),
       λ s.
           let refused = digest_refused (edit_test T t claim c m new) _ (eleven i q n) s.0 in
-          word_says test 0 code (eleven i q n) coded b (sym (edit-room T t claim c m new room s.1) ∙ refused),
+          word_says test 0 code (eleven i q n) coded b (sym (edit_room T t claim c m new room s.1) ∙ refused),
     )
 
 -- ---- one count

@@ -37,11 +37,11 @@ use Rattle.hash.specs.Hash.{tap, output_at}
 use Rattle.hash.specs.Answers.{hash_answer}
 use Rattle.trace.specs.Trace.{row}
 use Rattle.trace.specs.Answers.{build_test, build_answer, build_leaves}
-use Rattle.trace.proofs.Answers.{build-inputs}
+use Rattle.trace.proofs.Answers.{build_inputs}
 use Rattle.trace.proofs.TraceCells.{output_is_tap, next_tap_is_tap}
 use Rattle.check_constraints.specs.ReadOff.{read_taps}
 use Rattle.check_trace.specs.Answers.{check_test, check_answer}
-use Rattle.check_trace.proofs.Answers.{check-inputs}
+use Rattle.check_trace.proofs.Answers.{check_inputs}
 use Rattle.check_exact.specs.Exact.{IsListFor}
 use Rattle.check_exact.proofs.Exactness.{reads_that_list}
 use Rattle.hash_undo.specs.Unhash.{input_before, taps_before, ends_in_zeros}
@@ -49,7 +49,7 @@ use Rattle.hash_undo.specs.Answers.{unhash_test, unhash_answer}
 use Rattle.hash_undo.proofs.Theorems.{taps_size, answered_hash, hash_answered, answered_or_16, other_input}
 use Rattle.call_results.specs.Code.{refusal_code, answer_code}
 use Rattle.call_answers.specs.Calls.{hash_no_room, unhash_call_test, UnhashCall}
-use Rattle.call_answers.proofs.Answers.{hash-no-room-refuses, unhash-room, unhash-without}
+use Rattle.call_answers.proofs.Answers.{hash_no_room_refuses, unhash_room, unhash_without}
 use Rattle.call_results.proofs.Bits.{zero_accepts}
 use Rattle.call_answers.proofs.Endings.Table.{table_ends}
 use Rattle.call_answers.proofs.Endings.Unhash.{unhash_ends}
@@ -204,7 +204,7 @@ module _ (T s old new : List ℕ) (code : ℕ) (called : UnhashCall T s code old
     λ e.
         let a = accepted twelve e in
         let room = has_room a in
-        let passes = unhash-room T s (length old) room ∙ a in
+        let passes = unhash_room T s (length old) room ∙ a in
         let found = sym (pair_returned refl passes refl) in (
           room,
           subst (λ w. EndsIn T w s) (sym (written a)) (answered_hash T s twelve (taps_before T s) (taps_size T s) found),
@@ -212,21 +212,21 @@ module _ (T s old new : List ℕ) (code : ℕ) (called : UnhashCall T s code old
     λ h.
         let found = hash_answered T s twelve new (eight_left h.0) h.1 in
         let passes = (pair_accepted (unhash_test T s) _ (pair new) found).0 in
-        called.coded ∙ ap answer_code (sym (unhash-room T s (length old) h.0) ∙ passes),
+        called.coded ∙ ap answer_code (sym (unhash_room T s (length old) h.0) ∙ passes),
   )
 
   call_refuses : (r : Refusal) → length old ≡ 8 → unhash_answer T s ≡ Refused r → (code ≡ refusal_code r) × (new ≡ old)
   unfolding unhash_answer answer_code
   call_refuses r room e =
-      let refuses = sym (unhash-room T s (length old) room) ∙ pair_refused (unhash_test T s) _ r e in
+      let refuses = sym (unhash_room T s (length old) room) ∙ pair_refused (unhash_test T s) _ r e in
       (called.coded ∙ ap answer_code refuses, called.taps ∙ ap (λ t. leaves t (taps_before T s) old) refuses)
 
   call_without : (length old ≡ 8 → ⊥)
       → (code ≡ answer_code (after (table_test T) (answer.Refused DestinationLength))) × (new ≡ old)
   unfolding hash_no_room
   call_without without =
-      let refuses = unhash-without T s (length old) without in
-      let r = hash-no-room-refuses T in (
+      let refuses = unhash_without T s (length old) without in
+      let r = hash_no_room_refuses T in (
         called.coded ∙ ap answer_code refuses,
         called.taps ∙ ap (λ t. leaves t (taps_before T s) old) (refuses ∙ r.1),
       )
@@ -269,7 +269,7 @@ builds : (T w old : List ℕ) (d : Digest) → build_answer T w (length old) ≡
     → GivesBack T w (tap_word_batches (length w)) (build_leaves T w old)
 unfolding build_answer
 builds T w old d e =
-    let i = build-inputs T w (length old) (digest_accepted (build_test T w (length old)) _ d e).0 in
+    let i = build_inputs T w (length old) (digest_accepted (build_test T w (length old)) _ d e).0 in
     gives_back T w (tap_word_batches (length w)) i.permitted i.taps i.canonical (build_leaves T w old) d
     (request_3.builds T w old d e)
 
@@ -280,7 +280,7 @@ unfolding check_answer
 checks T t claim c n four e =
     let k = trace_word_batches (length t) in
     let w = read_taps T t k in
-    let i = check-inputs T t claim c (tests_accepted (check_test T t claim c) _ n e).0 in
+    let i = check_inputs T t claim c (tests_accepted (check_test T t claim c) _ n e).0 in
     let o = i.0.opening in
     let list = reads_that_list T t claim c k o.table o.permitted o.low o.high o.size i.0.canonical
     four i.1 in

@@ -35,7 +35,7 @@ use Rattle.check_constraints.proofs.TestCount.{length_tests}
 use Rattle.check_constraints.proofs.WalkLaws.{accepted_all_hold, first_failing_refused}
 use Rattle.check_constraints.proofs.ClaimRow.{other_rows, row_31, claim_places, claim_only, other_claim_fails}
 use Rattle.check_trace.specs.Answers.{opening_test, check_test, check_answer}
-use Rattle.check_trace.proofs.Answers.{Opened, CheckInputs, check-inputs, unclaimed}
+use Rattle.check_trace.proofs.Answers.{Opened, CheckInputs, check_inputs, unclaimed}
 use Rattle.check_trace.proofs.Theorems.{check_verdict}
 use Rattle.trace_read_off.specs.Answers.{read_off_test, read_off_answer}
 use Rattle.trace_edit.specs.Answers.{edit_test, edit_answer}
@@ -203,7 +203,7 @@ module _ (T t claim : List ℕ) (c n : ℕ) (size : length claim ≡ 4) (e : che
 
   inputs : CheckInputs T t claim c k × (constraint_test T t claim c k ≡ answer.Accepted)
   unfolding check_answer
-  inputs = check-inputs T t claim c (tests_accepted (check_test T t claim c) _ n (e)).0
+  inputs = check_inputs T t claim c (tests_accepted (check_test T t claim c) _ n (e)).0
 
   o : Opened T t c k
   o = inputs.0.opening
@@ -250,7 +250,7 @@ other_claim : (T t claim other : List ℕ) (c j n : ℕ) → check_answer T t cl
 unfolding check_answer
 other_claim T t claim other c j n e canonical word unlike like =
     let k = trace_word_batches (length t) in
-    let i = check-inputs T t claim c (tests_accepted (check_test T t claim c) _ n e).0 in
+    let i = check_inputs T t claim c (tests_accepted (check_test T t claim c) _ n e).0 in
     let o = i.0.opening in
     let hold = accepted_all_hold T t claim k c i.1 in
     let f = other_claim_fails T t claim other k c j o.low o.high word hold unlike like in

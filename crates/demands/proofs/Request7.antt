@@ -22,14 +22,14 @@ use Rattle.board_words.specs.Words.{AllBytes}
 use Rattle.board_short.specs.ShortBoard.{short_file_size, pack_short_test, packed_short, pack_short_leaves, short_claim_in}
 use Rattle.board_short.specs.ShortBoard.{short_taps_in, unpack_short_test, unpack_short_answer, unpack_short_leaves}
 use Rattle.board_short.specs.ShortBoard.{ThreeForOne, FirstFault}
-use Rattle.board_short.proofs.Answers.{pack-accepted, pack-complete, unpack-returns, unpack_refuses}
+use Rattle.board_short.proofs.Answers.{pack_accepted, pack_complete, unpack_returns, unpack_refuses}
 use Rattle.board_short.proofs.Theorems as short
 use Rattle.call_results.specs.Code.{refusal_code, answer_code, digest_code}
 use Rattle.call_results.specs.HandsOver.{written}
 use Rattle.call_results.proofs.Bits.{zero_accepts, zero_returns}
 use Rattle.call_answers.specs.Calls.{PackShortCall, unpack_short_call_test, unpack_short_call, UnpackShortCall}
-use Rattle.call_answers.proofs.Answers.{unpack-short-room, unpack-short-without, no-short-list-refuses}
-use Rattle.call_answers.proofs.Answers.{unpack-short-answer, unpack-short-left}
+use Rattle.call_answers.proofs.Answers.{unpack_short_room, unpack_short_without, no_short_list_refuses}
+use Rattle.call_answers.proofs.Answers.{unpack_short_answer_lem, unpack_short_left}
 use Rattle.call_answers.proofs.Theorems as bits
 use Rattle.demands.specs.Request7.{IsShortDay, Request7}
 use Rattle.demands.proofs.Called.{had_room}
@@ -40,7 +40,7 @@ writes_exactly : (taps claim : List ℕ) (size : ℕ) → length claim ≡ 4
     ↔ (((k : ℕ) × IsShortDay taps claim k) × (size ≡ short_file_size taps claim))
 writes_exactly taps claim size four = (
   λ e.
-      let h = pack-accepted taps claim size e in
+      let h = pack_accepted taps claim size e in
       let day : IsShortDay taps claim (tap_word_batches (length taps)) = record {
         permitted = h.permitted;
         taps_size = h.taps_size;
@@ -51,7 +51,7 @@ writes_exactly taps claim size four = (
       ((tap_word_batches (length taps), day), h.size_is),
   λ h.
       let day = h.0.1 in
-      pack-complete taps claim size h.0.0 (record {
+      pack_complete taps claim size h.0.0 (record {
         permitted = day.permitted;
         taps_size = day.taps_size;
         size_is = h.1;
@@ -145,7 +145,7 @@ answers file size = go (unpack_short_test file size) refl
   where
     go : (t : Answer) → unpack_short_test file size ≡ t
         → ((d : Digest) × (unpack_short_answer file size ≡ Accepted d)) ⊎ ((r : Refusal) × FirstFault file size r)
-    go answer.Accepted e = inl (digest (short_claim_in file), unpack-returns file size e)
+    go answer.Accepted e = inl (digest (short_claim_in file), unpack_returns file size e)
     go (answer.Refused r) e = inr (r, short.first_fault file size r e)
 
 one_fault : (file : List ℕ) (size : ℕ) (r s : Refusal) → FirstFault file size r → FirstFault file size s → r ≡ s
@@ -180,9 +180,9 @@ module _ (file taps taps' claim claim' : List ℕ) (code : ℕ) (called : Unpack
         → (code ≡ 0) × (taps' ≡ unpack_short_leaves file taps) × (claim' ≡ digest_words d)
     unfolding digest_code
     reader_hands d four e =
-        let a = sym (unpack-short-answer (length claim) four file (length taps)) ∙ e in (
+        let a = sym (unpack_short_answer_lem (length claim) four file (length taps)) ∙ e in (
           called.four.coded ∙ ap digest_code a,
-          called.list ∙ sym (unpack-short-left (length claim) four file taps),
+          called.list ∙ sym (unpack_short_left (length claim) four file taps),
           called.four.output ∙ ap (λ x. written x claim) a,
         )
 
@@ -202,16 +202,16 @@ module _ (file taps taps' claim claim' : List ℕ) (code : ℕ) (called : Unpack
         let size = length claim in
         let passes = zero_returns asked (digest (short_claim_in file)) (bits.unpack_short_bits file (length taps) size)
         (sym called.four.coded ∙ zero) in
-        let four = had_room size asked (unpack_short_test file 0) (unpack-short-without file (length taps) size)
-        (no-short-list-refuses file) passes in
-        (four, unpack-returns file (length taps) (unpack-short-room file (length taps) size four ∙ passes))
+        let four = had_room size asked (unpack_short_test file 0) (unpack_short_without file (length taps) size)
+        (no_short_list_refuses file) passes in
+        (four, unpack_returns file (length taps) (unpack_short_room file (length taps) size four ∙ passes))
 
     call_refuses : (r : Refusal) → length claim ≡ 4 → FirstFault file (length taps) r
         → (code ≡ refusal_code r) × (taps' ≡ taps) × (claim' ≡ claim)
     unfolding unpack_short_call digest_code
     call_refuses r four fault =
         let t = short.fault_first file (length taps) r fault in
-        let a = sym (unpack-short-room file (length taps) (length claim) four) ∙ t in
+        let a = sym (unpack_short_room file (length taps) (length claim) four) ∙ t in
         let kept = reader_keeps r a in
         (called.four.coded ∙ ap (λ x. digest_code (digest_after x (digest (short_claim_in file)))) a, kept.0, kept.1)
 
@@ -219,8 +219,8 @@ module _ (file taps taps' claim claim' : List ℕ) (code : ℕ) (called : Unpack
         → (code ≡ digest_code (unpack_short_answer file 0)) × (taps' ≡ taps) × (claim' ≡ claim)
     unfolding unpack_short_answer unpack_short_call
     call_without without =
-        let same = unpack-short-without file (length taps) (length claim) without in
-        let r = no-short-list-refuses file in
+        let same = unpack_short_without file (length taps) (length claim) without in
+        let r = no_short_list_refuses file in
         let kept = reader_keeps r.0 (same ∙ r.1) in
         (called.four.coded ∙ ap (λ x. digest_code (digest_after x (digest (short_claim_in file)))) same, kept.0, kept.1)
 

@@ -171,7 +171,7 @@ module _ (file : List ℕ) (size : ℕ) where
       converters.answers file full_mark short_mark (not_full (word_at file 0)) full_not_short (unpack_test file (room file))
       (digest (claim_in file)) (eqb size short_bytes) (FitsShort file size) fits_short no_short _ (full_reader file)
       ⊥ (no λ f. f) (λ f. absurd f) (λ f. absurd f)
-      (λ h n. to-short-tests.as-reader file size (edition.accepts file full_mark h))
+      (λ h n. to-short-tests.as_reader file size (edition.accepts file full_mark h))
 
   to_full_answers : ConverterAnswers file full_mark (unpack_short_answer file (short_room file)) (NoFullForm file)
       (FitsFull file size) (to_full_test file size)
@@ -179,8 +179,8 @@ module _ (file : List ℕ) (size : ℕ) where
   to_full_answers =
       converters.answers file short_mark full_mark (not_short (word_at file 0)) short_not_full
       (unpack_short_test file (short_room file)) (digest (short_claim_in file)) (eqb size full_bytes) (FitsFull file size)
-      fits_full no_full _ (short_reader file) (NoFullForm file) (to-full-tests.form file) (to-full-tests.its-mark file)
-      (to-full-tests.without file size) (to-full-tests.as-reader file size)
+      fits_full no_full _ (short_reader file) (NoFullForm file) (to-full-tests.form file) (to-full-tests.its_mark file)
+      (to-full-tests.without file size) (to-full-tests.as_reader file size)
 
 -- ---- what Unpack leaves where it accepts
 full_left : (file old : List ℕ) → unpack_test file (length old) ≡ answer.Accepted → unpack_leaves file old ≡ taps_in file
@@ -226,16 +226,16 @@ by_room test m n e f = go (ℕ_discrete m n)
 full_by_room : (file : List ℕ) (m n : ℕ) → unpack_test file n ≡ answer.Accepted
     → unpack_test file m ≡ unless (eqb m n) DestinationLength answer.Accepted
 full_by_room file m n e =
-    let u = board-answers.unpack-accepted file n e in
+    let u = board-answers.unpack_accepted file n e in
     by_room (unpack_test file) m n e
-    (λ q. board-answers.unpack-no-room file m (batches_in file) u.0 (λ s. q (s ∙ sym u.1)))
+    (λ q. board-answers.unpack_no_room file m (batches_in file) u.0 (λ s. q (s ∙ sym u.1)))
 
 short_by_room : (file : List ℕ) (m n : ℕ) → unpack_short_test file n ≡ answer.Accepted
     → unpack_short_test file m ≡ unless (eqb m n) DestinationLength answer.Accepted
 short_by_room file m n e =
-    let u = short-answers.unpack-accepted file n e in
+    let u = short-answers.unpack_accepted file n e in
     by_room (unpack_short_test file) m n e
-    (λ q. short-answers.unpack-no-room file m (short_batches_in file) u.0 (λ s. q (s ∙ sym u.1)))
+    (λ q. short-answers.unpack_no_room file m (short_batches_in file) u.0 (λ s. q (s ∙ sym u.1)))
 
 -- ---- what was converted is read as the file was
 module _ (file old : List ℕ) where
@@ -300,9 +300,9 @@ module _ (file old : List ℕ) where
 has_form : (full short : List ℕ) (d : Digest) → unpack_test full (length (taps_in full)) ≡ answer.Accepted
     → unpack_short_answer short (length (taps_in full)) ≡ Accepted d → NoFullForm short → ⊥
 has_form full short d e r h =
-    let most = (board-answers.unpack-accepted full (length (taps_in full)) e).0.permitted.high in
+    let most = (board-answers.unpack_accepted full (length (taps_in full)) e).0.permitted.high in
     let read = (short-answers.returned short (length (taps_in full)) d r).0 in
-    let taps = (short-answers.unpack-accepted short (length (taps_in full)) read).1 in
+    let taps = (short-answers.unpack_accepted short (length (taps_in full)) read).1 in
     omega (arith, most, taps, board-round.taps_length full, to-full-tests.above_most short h)
 
 there_and_back : (file old new : List ℕ) → AllBytes file → to_short_test file (length old) ≡ answer.Accepted
@@ -312,7 +312,7 @@ there_and_back : (file old new : List ℕ) → AllBytes file → to_short_test f
 there_and_back file old new bytes e l =
     let taps = taps_in file in
     let d = digest (claim_in file) in
-    let answered = board-answers.unpack-returns file (length taps) (short_read file old e) in
+    let answered = board-answers.unpack_returns file (length taps) (short_read file old e) in
     let r = to_short_reads file old e taps in
     let read = r.0 ∙ answered in
     let formed = has_form file (to_short_leaves file old) d (short_read file old e) read in
@@ -329,7 +329,7 @@ back_and_there : (file old new : List ℕ) → AllBytes file → to_full_test fi
 back_and_there file old new bytes e l =
     let taps = short_taps_in file in
     let d = digest (short_claim_in file) in
-    let answered = short-answers.unpack-returns file (length taps) (full_read file old e) in
+    let answered = short-answers.unpack_returns file (length taps) (full_read file old e) in
     let r = to_full_reads file old e taps in
     let w = to_short_writes (to_full_leaves file old) new taps d (r.0 ∙ answered) in
     let p = request_7.writes_back file taps new d bytes answered l in (

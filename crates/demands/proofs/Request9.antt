@@ -260,7 +260,7 @@ module _ (file : List ℕ) where
       go (yes z) = record {
         four = four;
         kind = z;
-        no_count = λ k p f. not_accepted r (sym e ∙ ap count_test f ∙ (board.count-complete k p).1);
+        no_count = λ k p f. not_accepted r (sym e ∙ ap count_test f ∙ (board.count_complete k p).1);
       }
       go (no n) = not_14 NoFullCount (WrongKind 0) refl (sym (refused_same (sym e ∙ board.count_kind w n)) ∙ q)
 
@@ -325,7 +325,7 @@ module _ (file : List ℕ) where
   -- a word 0 that counts more is no count of fewer
   larger : NoFullForm file → NoCountThere
   larger h =
-      let m = to_full.its-mark file h in (
+      let m = to_full.its_mark file h in (
         m,
         record {
           four = m.four;
@@ -385,7 +385,7 @@ packs_24580 : (w claim : List ℕ) (size : ℕ) → length w ≡ 24580 → AllCa
     → (pack_short_test w claim (short_file_size w claim) ≡ answer.Accepted)
     × (pack_test w claim size ≡ answer.Refused TapLength)
 packs_24580 w claim size l a four b = (
-  short.pack-complete w claim (short_file_size w claim) 2048 (record {
+  short.pack_complete w claim (short_file_size w claim) 2048 (record {
     permitted = two_thousand;
     taps_size = l;
     size_is = refl;
@@ -413,11 +413,11 @@ module _ (file room : List ℕ) (d : Digest) (e : unpack_short_answer file (leng
   accepted = (short.returned file (length room) d e).0
 
   room_is : length room ≡ tap_words (short_batches_in file)
-  room_is = (short.unpack-accepted file (length room) accepted).1
+  room_is = (short.unpack_accepted file (length room) accepted).1
 
   none : NoFullForm file → NoBytes
   none h full f l =
-      let u = board.unpack-accepted full (length room) (board.returned full (length room) d f).0 in
+      let u = board.unpack_accepted full (length room) (board.returned full (length room) d f).0 in
       omega (arith, room_is, u.1, u.0.permitted.high, to_full.above_most file h)
 
   -- the converter's output is such a file

@@ -35,7 +35,7 @@ use Rattle.board_short_read.specs.Reading.{short_at, next_word, three_test, shor
 use Rattle.board_short.specs.ShortBoard.{short_count_word, short_file_of, pack_short_test, packed_short, pack_short_leaves}
 use Rattle.board_short.specs.ShortBoard.{short_count_in, mark_in, short_batches_in, short_claim_in, short_taps_in, short_count_test}
 use Rattle.board_short.specs.ShortBoard.{unpack_short_test, unpack_short_answer, unpack_short_leaves}
-use Rattle.board_short.proofs.Answers.{count-accepted, count-complete, count-fault-refused, kind, value}
+use Rattle.board_short.proofs.Answers.{count_accepted, count_complete, count_fault_refused, kind, value}
 use Rattle.board_to_full.specs.ToFull.{NoFullForm}
 use Rattle.known_days.proofs.Files.{left, short_file}
 use Rattle.demands.specs.Stored.{most_stored, stored_pack_test, stored_pack_leaves, stored_count_in, stored_spare_in}
@@ -120,7 +120,7 @@ module _ (file : List ℕ) where
   same_count old e =
       let s = stored_count w e in
       let p = permitted_to most_batches (stored_count_in w) s.1 (omega (arith, s.1.high)) in
-      let c = count-complete (stored_count_in w) p in
+      let c = count_complete (stored_count_in w) p in
       let count = ap short_count_test s.0 ∙ c.1 in
       let k-is : short_count_in w ≡ stored_count_in w = ap short_count_in s.0 ∙ c.0 in
       alike old (rw (count, e, k-is) refl) (rw k-is refl)
@@ -153,7 +153,7 @@ module _ (file : List ℕ) where
     where
       go : Dec (most_file_batches < short_count_in w) → Alike old ⊎ Larger old
       go (yes above) =
-          let c = count-accepted w e in
+          let c = count_accepted w e in
           inr (larger old (record {
             k = short_count_in w;
             four = four;
@@ -162,7 +162,7 @@ module _ (file : List ℕ) where
             above = above;
           }))
       go (no n) =
-          let c = count-accepted w e in
+          let c = count_accepted w e in
           let p = permitted_to most_stored (short_count_in w) c.1 (omega (arith, n)) in
           inl (same_count old (ap stored_count_test c.0 ∙ stored_complete (short_count_in w) p))
 
@@ -173,12 +173,12 @@ module _ (file : List ℕ) where
           → short_count_test w ≡ a → Dec (kind_of w ≡ 0) → Alike old ⊎ Larger old
       kinded four r e answer.Accepted f z = counted old four f
       kinded four r e (answer.Refused s) f (no n) =
-          inl (same_refusal old (WrongKind 0) four (count-fault-refused w (WrongKind 0) (kind n refl)) (by_kind w n))
+          inl (same_refusal old (WrongKind 0) four (count_fault_refused w (WrongKind 0) (kind n refl)) (by_kind w n))
       kinded four r e (answer.Refused s) f (yes z) =
           let none : (k : ℕ) → IsPermitted k → w ≡ short_count_word k → ⊥ =
-          λ k p q. not_accepted s (sym f ∙ ap short_count_test q ∙ (count-complete k p).1) in
+          λ k p q. not_accepted s (sym f ∙ ap short_count_test q ∙ (count_complete k p).1) in
           let old_value = by_value w z (λ a. not_accepted r (sym e ∙ a)) in
-          let new-value = count-fault-refused w (WrongValue 0) (value z none refl) in
+          let new-value = count_fault_refused w (WrongValue 0) (value z none refl) in
           inl (same_refusal old (WrongValue 0) four new-value old_value)
 
       was : 4 ≤ length file → (a : Answer) → stored_count_test w ≡ a → Alike old ⊎ Larger old

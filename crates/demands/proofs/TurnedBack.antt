@@ -45,9 +45,9 @@ use Rattle.check_constraints.specs.Constraints.{between, constraint_test}
 use Rattle.check_constraints.proofs.Families.{range, in_range}
 use Rattle.check_constraints.proofs.WalkLaws.{first_failing_refused, refused_first_failing, else_first_failing}
 use Rattle.check_trace.specs.Answers.{opening_test, trace_test, check_test, check_answer}
-use Rattle.check_trace.proofs.Answers.{check-inputs}
+use Rattle.check_trace.proofs.Answers.{check_inputs}
 use Rattle.trace_read_off.specs.Answers.{read_off_test, read_off_answer}
-use Rattle.trace_read_off.proofs.Answers.{read-off-inputs}
+use Rattle.trace_read_off.proofs.Answers.{read_off_inputs}
 use Rattle.trace_edit.specs.Answers.{edit_test}
 use Rattle.hash_undo.specs.Unhash.{input_before, ends_in_zeros}
 use Rattle.hash_undo.specs.Answers.{unhash_test, unhash_answer}
@@ -491,7 +491,7 @@ unfolding check_answer
 check_word T t claim c code four e =
     said (check_causes T t claim c) (check_test T t claim c) _ code (check T t claim c) e
     (bits.check_bits T t claim c four) λ a.
-    let o = (check-inputs T t claim c a).0.opening in
+    let o = (check_inputs T t claim c a).0.opening in
     bits.tests_bits (trace_word_batches (length t)) c o.permitted o.low o.high
 
 read_off_word : (T t claim taps taps' : List ℕ) (c code : ℕ) → length claim ≡ 4
@@ -501,7 +501,7 @@ read_off_word T t claim taps taps' c code four h =
     let size = length taps in
     said (read_off_causes T t claim c size) (read_off_test T t claim c size) _ code (read_off T t claim c size) h.coded
     (bits.read_off_bits T t claim c four size) λ a.
-    let o = (read-off-inputs T t claim c size a).1.opening in
+    let o = (read_off_inputs T t claim c size a).1.opening in
     bits.tests_bits (trace_word_batches (length t)) c o.permitted o.low o.high
 
 edit_word : (T t claim : List ℕ) (c n : ℕ) (new t' output output' : List ℕ) (code : ℕ) → length claim ≡ 4

@@ -15,12 +15,12 @@ pub record HashInputs (T words : List ℕ) : Type 0 where
   pub table : IsTable T
   pub canonical : AllCanonical words
 
-pub hash-inputs : (T words : List ℕ) → hash_test T words ≡ Accepted → HashInputs T words
+pub hash_inputs : (T words : List ℕ) → hash_test T words ≡ Accepted → HashInputs T words
 unfolding hash_test
-hash-inputs T words e =
+hash_inputs T words e =
     let a = both_accepted (table_test T) _ e in
     record { table = test_sound T a.0; canonical = good_test words (passed _ _ _ a.1).0 }
 
-pub hash-passes : (T words : List ℕ) → HashInputs T words → hash_test T words ≡ Accepted
+pub hash_passes : (T words : List ℕ) → HashInputs T words → hash_test T words ≡ Accepted
 unfolding hash_test
-hash-passes T words h = rw (test_complete T h.table, test_good words h.canonical)
+hash_passes T words h = rw (test_complete T h.table, test_good words h.canonical)

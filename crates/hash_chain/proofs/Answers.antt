@@ -25,9 +25,9 @@ pub record ChainInputs (T w : List ℕ) (k : ℕ) : Type 0 where
   pub size : length w ≡ 12 * k + 4
   pub canonical : AllCanonical w
 
-pub chain-inputs : (T w : List ℕ) → chain_test T w ≡ Accepted → ChainInputs T w (tap_word_batches (length w))
+pub chain_inputs : (T w : List ℕ) → chain_test T w ≡ Accepted → ChainInputs T w (tap_word_batches (length w))
 unfolding chain_test
-chain-inputs T w e =
+chain_inputs T w e =
     let a = both_accepted (table_test T) _ e in
     let b = passed _ _ _ a.1 in
     let s = tap_length_sound most_batches (length w) b.0 in
@@ -38,17 +38,17 @@ chain-inputs T w e =
       canonical = good_test w (passed _ _ _ b.1).0;
     }
 
-pub chain-passes : (T w : List ℕ) (k : ℕ) → ChainInputs T w k → chain_test T w ≡ Accepted
+pub chain_passes : (T w : List ℕ) (k : ℕ) → ChainInputs T w k → chain_test T w ≡ Accepted
 unfolding chain_test
-chain-passes T w k h = rw (
+chain_passes T w k h = rw (
   test_complete T h.table,
   (tap_length_complete most_batches (length w) k h.size h.permitted).0,
   test_good w h.canonical,
 )
 
 -- ---- the output that a state begins with
-pub digest-take : (s : List ℕ) → digest s ≡ digest (take 4 s)
-digest-take s =
+pub digest_take : (s : List ℕ) → digest s ≡ digest (take 4 s)
+digest_take s =
     sym (λ i. record {
       0 = at 0 (omega arith) i;
       1 = at 1 (omega arith) i;

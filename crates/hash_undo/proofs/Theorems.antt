@@ -22,13 +22,13 @@ use Rattle.table.specs.Table.{IsTable}
 use Rattle.hash.specs.Hash.{final_state, input}
 use Rattle.hash.specs.Answers.{hash_test, hash_answer}
 use Rattle.hash.proofs.States.{IsState, cell_lt, final_state_state}
-use Rattle.hash.proofs.Answers.{hash-inputs, hash-passes}
+use Rattle.hash.proofs.Answers.{hash_inputs, hash_passes}
 use Rattle.hash.proofs.CodeInput.{two_taps_state}
 use Rattle.hash_undo.specs.Unhash.{input_before, taps_before, ends_in_zeros}
 use Rattle.hash_undo.specs.Answers.{unhash_test, unhash_answer}
 use Rattle.hash_undo.proofs.Rounds.{input_before_state, input_back, final_back}
 use Rattle.hash_undo.proofs.Taps.{input_of, input_zeros, input_first, first_eight, zero_at, zeros_input}
-use Rattle.hash_undo.proofs.Answers.{unhash-inputs, unhash-left, unhash-passes}
+use Rattle.hash_undo.proofs.Answers.{unhash_inputs, unhash_left, unhash_passes}
 
 pub taps_size : (T s : List ℕ) → length (taps_before T s) ≡ 8
 unfolding taps_before
@@ -55,7 +55,7 @@ module _ (T s : List ℕ) (twelve : length s ≡ 12) where
     taps_hash : hash_answer T (taps_before T s) ≡ final.Accepted (state s)
     unfolding hash_answer
     taps_hash =
-        ap₂ state_after (hash-passes T (taps_before T s) (record { table = table; canonical = taps_canonical }))
+        ap₂ state_after (hash_passes T (taps_before T s) (record { table = table; canonical = taps_canonical }))
         (ap state (ap (final_state T) taps_input
         ∙ final_back T table (record { size = twelve; canonical = canonical })))
 
@@ -65,7 +65,7 @@ module _ (T s : List ℕ) (twelve : length s ≡ 12) where
   unfolding unhash_answer
   answered_hash w eight e =
       let a = pair_accepted (unhash_test T s) _ (pair w) e in
-      let i = unhash-inputs T s a.0 in
+      let i = unhash_inputs T s a.0 in
       let same : taps_before T s ≡ w =
       sym (eight_words (taps_before T s) (taps_size T s)) ∙ ap pair_words a.1 ∙ eight_words w eight in
       subst (λ x. hash_answer T x ≡ final.Accepted (state s)) same (taps_hash i.table i.canonical i.zeros)
@@ -75,14 +75,14 @@ module _ (T s : List ℕ) (twelve : length s ≡ 12) where
   unfolding unhash_answer hash_answer taps_before
   hash_answered w eight e =
       let a = state_accepted (hash_test T w) _ (state s) e in
-      let i = hash-inputs T w a.0 in
+      let i = hash_inputs T w a.0 in
       let f = final_state_state T (input (take 4 w) (drop 4 w)) in
       let same : s ≡ final_state T (input (take 4 w) (drop 4 w)) =
       sym (twelve_words s twelve) ∙ ap state_words (sym a.1) ∙ twelve_words _ f.size in
       let before : input_before T s ≡ w ++ replicate 4 0 =
       ap (input_before T) same ∙ input_back T i.table (two_taps_state w eight i.canonical) ∙ input_of w in
       ap₂ pair_after
-      (unhash-passes T s (record {
+      (unhash_passes T s (record {
         table = i.table;
         canonical = subst AllCanonical (sym same) f.canonical;
         zeros = ap ends_in_zeros before ∙ input_zeros w eight;
@@ -102,7 +102,7 @@ module _ (T s : List ℕ) (twelve : length s ≡ 12) where
       go true e =
           inl (taps_before T s, taps_size T s, taps_hash table canonical e)
       go false e =
-          let refuses = unhash-left T s table canonical ∙ ap (λ b. unless b NoPair answer.Accepted) e in
+          let refuses = unhash_left T s table canonical ∙ ap (λ b. unless b NoPair answer.Accepted) e in
           inr (sym (pair_turned_back refl _ refuses))
 
 -- ---- the final state of an input that does not end in zeros has no pair
@@ -111,7 +111,7 @@ pub other_input : (T x : List ℕ) (j : ℕ) → IsTable T → IsState x → j <
 unfolding unhash_answer
 other_input T x j table p h n =
     sym (pair_turned_back refl _
-    (unhash-left T (final_state T x) table (final_state_state T x).canonical
+    (unhash_left T (final_state T x) table (final_state_state T x).canonical
     ∙ ap (λ y. unless (ends_in_zeros y) NoPair answer.Accepted) (input_back T table p)
     ∙ go (ends_in_zeros x) refl))
   where

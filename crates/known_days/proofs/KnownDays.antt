@@ -32,7 +32,7 @@ use Rattle.table.proofs.Theorems.{test_sound}
 use Rattle.hash.specs.Hash.{roots, cubes, plus, mix, first_step, second_step, state_at, final_state, input, hash, tap}
 use Rattle.hash.specs.Hash.{output_at, chain}
 use Rattle.hash.specs.Answers.{hash_test, hash_answer}
-use Rattle.hash.proofs.Answers.{hash-passes}
+use Rattle.hash.proofs.Answers.{hash_passes}
 use Rattle.hash.proofs.Inputs.{IsTap}
 use Rattle.hash_chain.specs.Answers.{chain_test, chain_answer}
 use Rattle.trace.specs.Trace.{row}
@@ -97,7 +97,7 @@ hash_S : (a : List ℕ) → length a ≡ 4 → AllCanonical a
 unfolding hash_answer four_zeros
 hash_S a size h =
     ap (λ t. state_after t (state (final_state S (input (take 4 w) (drop 4 w)))))
-    (hash-passes S w (record { table = test_sound S accepted_S; canonical = append_canonical a second h small }))
+    (hash_passes S w (record { table = test_sound S accepted_S; canonical = append_canonical a second h small }))
     ∙ ap₂ (λ x y. final.Accepted (state (final_state S (input x y)))) (take_at a second 4 size) (drop_at a second 4 size)
     ∙ ap (λ s. final.Accepted (state s)) (final_turned a second first_tap second_tap)
   where

@@ -22,10 +22,10 @@ pub record BuildInputs (T w : List ℕ) (size k : ℕ) : Type 0 where
   pub room : size ≡ 384 * k
   pub canonical : AllCanonical w
 
-pub build-inputs : (T w : List ℕ) (size : ℕ) → build_test T w size ≡ Accepted
+pub build_inputs : (T w : List ℕ) (size : ℕ) → build_test T w size ≡ Accepted
     → BuildInputs T w size (tap_word_batches (length w))
 unfolding build_test
-build-inputs T w size e =
+build_inputs T w size e =
     let a = both_accepted (table_test T) _ e in
     let b = passed _ _ _ a.1 in
     let c = passed _ _ _ b.1 in
@@ -38,9 +38,9 @@ build-inputs T w size e =
       canonical = good_test w (passed _ _ _ c.1).0;
     }
 
-pub build-passes : (T w : List ℕ) (size k : ℕ) → BuildInputs T w size k → build_test T w size ≡ Accepted
+pub build_passes : (T w : List ℕ) (size k : ℕ) → BuildInputs T w size k → build_test T w size ≡ Accepted
 unfolding build_test
-build-passes T w size k h =
+build_passes T w size k h =
     let l = tap_length_complete most_batches (length w) k h.taps h.permitted in
     rw (
       test_complete T h.table,

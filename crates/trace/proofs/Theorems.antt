@@ -15,7 +15,7 @@ use Rattle.table.specs.Table.{IsTable}
 use Rattle.hash.specs.Hash.{chain}
 use Rattle.trace.specs.Trace.{trace}
 use Rattle.trace.specs.Answers.{build_answer, build_leaves}
-use Rattle.trace.proofs.Answers.{build-passes}
+use Rattle.trace.proofs.Answers.{build_passes}
 
 module _ (T w : List ℕ) (k : ℕ) (table : IsTable T) (permitted : IsPermitted k) (size : length w ≡ 12 * k + 4)
     (canonical : AllCanonical w) where
@@ -26,7 +26,7 @@ module _ (T w : List ℕ) (k : ℕ) (table : IsTable T) (permitted : IsPermitted
   unfolding build_answer
   build_accepts =
       let e =
-      build-passes T w (384 * k) k
+      build_passes T w (384 * k) k
       (record { table = table; permitted = permitted; taps = size; room = refl; canonical = canonical }) in
       ap (λ a. digest_after a (digest (chain T w (tap_word_batches (length w))))) e
       ∙ ap (λ n. Accepted (digest (chain T w n))) batches
@@ -35,6 +35,6 @@ module _ (T w : List ℕ) (k : ℕ) (table : IsTable T) (permitted : IsPermitted
   unfolding build_leaves
   build_leaves_lem old l =
       let e =
-      build-passes T w (length old) k
+      build_passes T w (length old) k
       (record { table = table; permitted = permitted; taps = size; room = l; canonical = canonical }) in
       ap (λ a. leaves a (trace T w (tap_word_batches (length w))) old) e ∙ ap (trace T w) batches

@@ -29,11 +29,11 @@ use Rattle.trace_edit.specs.Answers.{edit_test}
 abbrev pub from_tap : List ℕ → List ℕ → List ℕ → ℕ → List ℕ → ℕ → Answer
 from_tap T t claim c new k = unless (canonical_words new) (TapWord (first_bad new)) (constraint_test T t claim c k)
 
-abbrev pub fromWords : List ℕ → List ℕ → List ℕ → ℕ → List ℕ → ℕ → Answer
-fromWords T t claim c new k = unless (canonical_words t) (TraceWord (first_bad t)) (from_tap T t claim c new k)
+abbrev pub from_words : List ℕ → List ℕ → List ℕ → ℕ → List ℕ → ℕ → Answer
+from_words T t claim c new k = unless (canonical_words t) (TraceWord (first_bad t)) (from_tap T t claim c new k)
 
 abbrev pub from_claim : List ℕ → List ℕ → List ℕ → ℕ → List ℕ → ℕ → Answer
-from_claim T t claim c new k = unless (canonical_words claim) (ClaimWord (first_bad claim)) (fromWords T t claim c new k)
+from_claim T t claim c new k = unless (canonical_words claim) (ClaimWord (first_bad claim)) (from_words T t claim c new k)
 
 -- ---- what all tests say
 module _ (T t claim : List ℕ) (c n : ℕ) (new : List ℕ) where
@@ -43,10 +43,10 @@ module _ (T t claim : List ℕ) (c n : ℕ) (new : List ℕ) where
   unfolding edit_test check_test trace_test
   same_test h a = rw (le-leb n (3 * trace_word_batches (length t)) h, test_good new a)
 
-  pub edit-inputs : edit_test T t claim c n new ≡ Accepted → let k = trace_word_batches (length t) in
+  pub edit_inputs : edit_test T t claim c n new ≡ Accepted → let k = trace_word_batches (length t) in
       CheckInputs T t claim c k × (n ≤ 3 * k) × AllCanonical new × (constraint_test T t claim c k ≡ Accepted)
   unfolding edit_test
-  edit-inputs e =
+  edit_inputs e =
       let a = both_accepted (opening_test T t c) _ e in
       let b = passed (leb n (3 * trace_word_batches (length t))) NoSuchTap _ a.1 in
       let d = passed (canonical_words claim) (ClaimWord (first_bad claim)) _ b.1 in
@@ -66,7 +66,7 @@ module _ (T t claim : List ℕ) (c n : ℕ) (new : List ℕ) where
   pub rewritable : length claim ≡ 4 → edit_test T t claim c n new ≡ Accepted
       → Rewritable T t (trace_word_batches (length t)) n new
   rewritable four e =
-      let i = edit-inputs e in
+      let i = edit_inputs e in
       let o = i.0.opening in
       let list = reads_that_list T t claim c (trace_word_batches (length t)) o.table o.permitted o.low o.high
       o.size i.0.canonical four i.3 in

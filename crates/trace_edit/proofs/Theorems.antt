@@ -21,13 +21,13 @@ use Rattle.trace.specs.Trace.{trace, row}
 use Rattle.trace.specs.RowHelpers.{rows_before}
 use Rattle.trace.proofs.WrittenHashes.{before_within}
 use Rattle.check_trace.specs.Answers.{check_test, check_answer}
-use Rattle.check_trace.proofs.Answers.{check-passes}
+use Rattle.check_trace.proofs.Answers.{check_passes}
 use Rattle.check_exact.proofs.ReadList.{row_of_trace}
 use Rattle.check_exact.proofs.InputRows.{same_output, same_next_tap}
 use Rattle.trace_rewrite.specs.Edit.{altered, first_touched}
 use Rattle.trace_edit.specs.Answers.{edit_test, edit_answer}
 use Rattle.trace_rewrite.proofs.Altered.{touched_is, length_altered, altered_canonical, tap_altered, row_before}
-use Rattle.trace_edit.proofs.Answers.{same_test, edit-inputs}
+use Rattle.trace_edit.proofs.Answers.{same_test, edit_inputs}
 
 pub accepts_exactly : (T t claim : List ℕ) (c n : ℕ) (new : List ℕ)
     → ((d : Digest) × (edit_answer T t claim c n new ≡ Accepted d))
@@ -36,8 +36,8 @@ pub accepts_exactly : (T t claim : List ℕ) (c n : ℕ) (new : List ℕ)
 unfolding edit_answer check_answer
 accepts_exactly T t claim c n new = (
   λ s.
-      let i = edit-inputs T t claim c n new (digest_accepted (edit_test T t claim c n new) _ s.0 s.1).0 in
-      let e = check-passes T t claim c (trace_word_batches (length t)) i.0 i.3 in
+      let i = edit_inputs T t claim c n new (digest_accepted (edit_test T t claim c n new) _ s.0 s.1).0 in
+      let e = check_passes T t claim c (trace_word_batches (length t)) i.0 i.3 in
       ((_, sym (tests_returned refl e refl)), i.1, i.2),
   λ s.
       let e = (tests_accepted (check_test T t claim c) _ s.0.0 s.0.1).0 in

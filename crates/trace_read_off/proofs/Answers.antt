@@ -18,7 +18,7 @@ use Rattle.refusals.proofs.Laws.{leaves_old, leaves_new}
 use Rattle.check_constraints.specs.Constraints.{constraint_test}
 use Rattle.check_constraints.specs.ReadOff.{read_taps}
 use Rattle.check_trace.specs.Answers.{opening_test, check_test}
-use Rattle.check_trace.proofs.Answers.{CheckInputs, check-inputs}
+use Rattle.check_trace.proofs.Answers.{CheckInputs, check_inputs}
 use Rattle.trace_read_off.specs.Answers.{read_off_test, read_off_answer, read_off_leaves}
 
 module _ (T t claim : List ℕ) (c size : ℕ) where
@@ -27,14 +27,14 @@ module _ (T t claim : List ℕ) (c size : ℕ) where
   unfolding read_off_test check_test
   same_test e = rw (eq-eqb size (12 * trace_word_batches (length t) + 4) e)
 
-  pub read-off-inputs : read_off_test T t claim c size ≡ answer.Accepted → let k = trace_word_batches (length t) in
+  pub read_off_inputs : read_off_test T t claim c size ≡ answer.Accepted → let k = trace_word_batches (length t) in
       (size ≡ 12 * k + 4) × CheckInputs T t claim c k × (constraint_test T t claim c k ≡ answer.Accepted)
   unfolding read_off_test
-  read-off-inputs e =
+  read_off_inputs e =
       let a = both_accepted (opening_test T t c) _ e in
       let b = passed (eqb size (12 * trace_word_batches (length t) + 4)) DestinationLength _ a.1 in
       let s = eqb-true size (12 * trace_word_batches (length t) + 4) b.0 in
-      let i = check-inputs T t claim c (sym (same_test s) ∙ e) in
+      let i = check_inputs T t claim c (sym (same_test s) ∙ e) in
       (s, i.0, i.1)
 
 -- ---- what is answered and left in the destination where a test refuses

@@ -17,7 +17,7 @@ use Rattle.hash.specs.Hash.{input, tap, output_at, chain, first_taps}
 use Rattle.hash.proofs.States.{same_cells}
 use Rattle.hash.proofs.Inputs.{cell_tap, tap_is_tap, output_zero, output_tap}
 use Rattle.hash_chain.proofs.FirstTaps.{chain_first}
-use Rattle.hash_chain.proofs.Answers.{digest-take}
+use Rattle.hash_chain.proofs.Answers.{digest_take}
 use Rattle.trace.specs.Trace.{row, hash_input, trace_row, trace}
 use Rattle.trace.specs.RowHelpers.{with_rows, rows_before}
 use Rattle.trace.proofs.TraceCells.{trace_row_state, length_trace, trace_canonical, last_row_output}
@@ -211,7 +211,7 @@ module _ (T t : List ℕ) (k n : ℕ) (new : List ℕ) (r : Rewritable T t k n n
     pub output_shown : (s : List ℕ) → s ≡ row u i → digest s ≡ digest (chain T (first_taps c v) c)
     output_shown s q =
         let l : i ≡ 32 * c - 1 = omega arith in
-        digest-take s
+        digest_take s
         ∙ ap (λ x. digest (take 4 x))
         (q ∙ ap (λ x. row x i) e ∙ row_of_trace T v k size_v canonical_v i (omega arith) ∙ ap (trace_row T v) l)
         ∙ ap digest (last_row_output T v c low ∙ sym (chain_first T v c))

@@ -3,7 +3,7 @@
 use mathlib.Core.Path.{sym, ◌∙◌}
 use Rattle.refusals.proofs.Laws.{leaves_old, leaves_new}
 use Rattle.board.specs.Board.{packed, pack_leaves}
-use Rattle.board.proofs.Answers.{pack-accepted}
+use Rattle.board.proofs.Answers.{pack_accepted}
 use Rattle.board.proofs.pack.Goals as goal
 
 pub returns-in_default-clause-destination_after : goal.returns-in_default-clause-destination_after
@@ -12,7 +12,7 @@ returns-in_default-clause-destination_after c = leaves_old c.test_pack-answer.en
 
 pub write_file-requires : goal.write_file-requires
 write_file-requires c =
-    let h = pack-accepted _ _ _ (sym c.test_pack-answer.ensures ∙ c.in-Accepted.is) in
+    let h = pack_accepted _ _ _ (sym c.test_pack-answer.ensures ∙ c.in-Accepted.is) in
     (h.permitted.high, h.taps_size, h.size_is)
 
 pub returns-clause-destination_after : goal.returns-clause-destination_after

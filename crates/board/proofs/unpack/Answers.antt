@@ -13,14 +13,14 @@ use Rattle.refusals.specs.declared.Answer.TheVariants.{Accepted}
 use Rattle.refusals.proofs.Laws.{digest_turned_back, digest_returned, leaves_old, leaves_new}
 use Rattle.board_words.specs.Elements.{element_at, elements_at}
 use Rattle.board.specs.Board.{batches_in, claim_in, taps_in, unpack_test, unpack_answer, unpack_leaves, IsBoard}
-use Rattle.board.proofs.Answers.{unpack-accepted}
+use Rattle.board.proofs.Answers.{unpack_accepted}
 use Rattle.board.proofs.Round.{after_claim}
 use Rattle.board.proofs.unpack.Goals as goal
 
 -- what the tests' acceptance says
 board : (file : List ℕ) (size : ℕ) {t : Answer} → t ≡ unpack_test file size → t ≡ Accepted
     → IsBoard file (batches_in file) × (size ≡ 12 * batches_in file + 4)
-board file size e h = unpack-accepted _ _ (sym e ∙ h)
+board file size e h = unpack_accepted _ _ (sym e ∙ h)
 
 -- so the four elements of the claim are there, and canonical
 element : (file : List ℕ) (size : ℕ) {t : Answer} (i : ℕ) → i < 4 → t ≡ unpack_test file size → t ≡ Accepted

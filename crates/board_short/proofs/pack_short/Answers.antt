@@ -3,7 +3,7 @@
 use mathlib.Core.Path.{sym, ◌∙◌}
 use Rattle.refusals.proofs.Laws.{leaves_old, leaves_new}
 use Rattle.board_short.specs.ShortBoard.{packed_short, pack_short_leaves}
-use Rattle.board_short.proofs.Answers.{pack-accepted}
+use Rattle.board_short.proofs.Answers.{pack_accepted}
 use Rattle.board_short.proofs.pack_short.Goals as goal
 
 pub returns-in_default : goal.returns-in_default
@@ -14,7 +14,7 @@ returns-in_default c =
 
 pub write_file-requires : goal.write_file-requires
 write_file-requires c =
-    let h = pack-accepted _ _ _ (sym c.test_pack-answer.ensures ∙ c.in-Accepted.is) in
+    let h = pack_accepted _ _ _ (sym c.test_pack-answer.ensures ∙ c.in-Accepted.is) in
     (h.permitted.high, h.size_is)
 
 pub returns : goal.returns

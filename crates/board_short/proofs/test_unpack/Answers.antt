@@ -13,12 +13,12 @@ use Rattle.board_words.specs.Words.{word_at}
 use Rattle.board.specs.Board.{element_count}
 use Rattle.board_short_read.specs.Reading.{shorts_test}
 use Rattle.board_short.specs.ShortBoard.{short_count_test, unpack_short_test, short_count_in, short_batches_in}
-use Rattle.board_short.proofs.Answers.{fromRoom}
+use Rattle.board_short.proofs.Answers.{from_room}
 use Rattle.board_short.proofs.test_unpack.Goals as goal
 
 -- word 0 is there
 four : (file : List ℕ) (size : ℕ) {o : Answer} → 4 ≤ length file
-    → o ≡ after (short_count_test (word_at file 0)) (fromRoom file size) → o ≡ unpack_short_test file size
+    → o ≡ after (short_count_test (word_at file 0)) (from_room file size) → o ≡ unpack_short_test file size
 unfolding unpack_short_test
 four file size h e = unless_passed _ (le-leb _ _ h) e
 

@@ -16,7 +16,7 @@ use Rattle.board_short.specs.ShortBoard.{short_count_in, short_batches_in, short
 use Rattle.board_edition.specs.Edition.{short_mark, edition_test}
 use Rattle.board_edition.proofs.Answers as edition
 use Rattle.board_to_full.specs.ToFull.{to_full_test}
-use Rattle.board_to_full.proofs.Answers.{fromElements, fromMost}
+use Rattle.board_to_full.proofs.Answers.{from_elements, from_most}
 use Rattle.board_to_full.proofs.test.Goals as goal
 
 -- k is read from word 0
@@ -26,17 +26,17 @@ batches file word k e f = ap short_count_in (sym e) ∙ sym f
 
 -- the mark is right, and word 0's own tests are left
 module _ (file : List ℕ) (size : ℕ) {a o : Answer} (of_edition : a ≡ edition_test file short_mark) (mark : a ≡ Accepted) where
-  marked : o ≡ after (short_count_test (word_at file 0)) (fromMost file size) → o ≡ to_full_test file size
+  marked : o ≡ after (short_count_test (word_at file 0)) (from_most file size) → o ≡ to_full_test file size
   unfolding to_full_test
   marked e = after_accepted of_edition mark e
 
   -- word 0 is accepted
   module _ {b : Answer} (of_count : b ≡ short_count_test (word_at file 0)) (word : b ≡ Accepted) where
-    counted : o ≡ fromMost file size → o ≡ to_full_test file size
+    counted : o ≡ from_most file size → o ≡ to_full_test file size
     counted e = marked (after_accepted of_count word e)
 
     -- a full file can have so many batches
-    small : short_batches_in file ≤ most_file_batches → o ≡ fromElements file size → o ≡ to_full_test file size
+    small : short_batches_in file ≤ most_file_batches → o ≡ from_elements file size → o ≡ to_full_test file size
     small most e = counted (unless_passed _ (le-leb _ _ most) e)
 
 pub returns-in_default : goal.returns-in_default

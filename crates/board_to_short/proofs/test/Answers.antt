@@ -18,12 +18,12 @@ use Rattle.board_short_words.specs.Short.{all_bytes_needed}
 use Rattle.board_edition.specs.Edition.{full_mark, edition_test}
 use Rattle.board_edition.proofs.Answers as edition
 use Rattle.board_to_short.specs.ToShort.{to_short_test}
-use Rattle.board_to_short.proofs.Answers.{fromLength, size_is}
+use Rattle.board_to_short.proofs.Answers.{from_length, size_is}
 use Rattle.board_to_short.proofs.test.Goals as goal
 
 -- the mark is right, and word 0's own tests are left
 marked : (file : List ℕ) (size : ℕ) {a o : Answer} → a ≡ edition_test file full_mark → a ≡ Accepted
-    → o ≡ after (count_test (word_at file 0)) (fromLength file size) → o ≡ to_short_test file size
+    → o ≡ after (count_test (word_at file 0)) (from_length file size) → o ≡ to_short_test file size
 unfolding to_short_test
 marked file size e h q = after_accepted e h q
 

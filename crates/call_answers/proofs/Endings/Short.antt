@@ -13,7 +13,7 @@ use Rattle.refusals.proofs.Laws.{AnswerEnds, unless_ends, after_ends, refusal_en
 use Rattle.board_short_read.specs.Reading.{next_word, short_test, shorts_test, ElementFault, no_first, first_kind}
 use Rattle.board_short_read.specs.Reading.{no_second, second_kind, no_third, third_kind, too_large, needless}
 use Rattle.board_short_read.proofs.Tests.{next_most, faulty}
-use Rattle.board_short.proofs.Answers.{CountFault, kind, value, count-faulty}
+use Rattle.board_short.proofs.Answers.{CountFault, kind, value, count_faulty}
 use Rattle.board_short.specs.ShortBoard.{short_count_test, short_batches_in}
 
 -- what is to be shown where a file is refused
@@ -47,4 +47,4 @@ module _ (Q : Refusal → Type 0) (file : List ℕ) (causes : ShortCauses Q file
   count_by_fault w r (value z n e) = subst Q (sym e) (causes.by_value 0 (omega arith))
 
   pub short_count_ends : (w : ℕ) → AnswerEnds Q (short_count_test w)
-  short_count_ends w = refusal_ends Q (short_count_test w) (λ r f. count_by_fault w r (count-faulty w r f))
+  short_count_ends w = refusal_ends Q (short_count_test w) (λ r f. count_by_fault w r (count_faulty w r f))

@@ -5,7 +5,7 @@ use mathlib.Core.Path.{refl}
 use native.Mathlib.Omega.{arith}
 use borrow.Author.Tests.{le-leb, lt-leb}
 use Rattle.refusals.proofs.Laws.{unless_refused, unless_passed, after_refused, after_accepted}
-use Rattle.check_trace.proofs.Answers.{opened-by}
+use Rattle.check_trace.proofs.Answers.{opened_by}
 use Rattle.call_answers.specs.Calls.{edit_no_room}
 use Rattle.call_answers.proofs.edit_no_room.Goals as goal
 
@@ -14,7 +14,7 @@ unfolding edit_no_room
 returns-in_default c = after_refused _ c.test_opening-opening.ensures.0 c.in_default.is
 
 pub overflow_mul-trace : goal.overflow_mul-trace
-overflow_mul-trace c = omega (arith, (opened-by _ c.args.trace.now _ c.test_opening-opening.ensures.0 c.in-Accepted.is).1)
+overflow_mul-trace c = omega (arith, (opened_by _ c.args.trace.now _ c.test_opening-opening.ensures.0 c.in-Accepted.is).1)
 
 pub returns-then-trace-tap : goal.returns-then-trace-tap
 unfolding edit_no_room

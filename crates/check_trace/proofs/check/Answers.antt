@@ -5,7 +5,7 @@ use Rattle.refusals.proofs.Laws.{after_refused, after_accepted, tests_turned_bac
 use Rattle.table.proofs.Theorems.{ready_left_lem, left_size}
 use Rattle.check_steps.proofs.Made.{back_is}
 use Rattle.check_trace.specs.Answers.{check_test, check_answer}
-use Rattle.check_trace.proofs.Answers.{opened-by, walked}
+use Rattle.check_trace.proofs.Answers.{opened_by, walked}
 use Rattle.check_trace.proofs.check.Goals as goal
 
 pub returns-in_default : goal.returns-in_default
@@ -15,18 +15,18 @@ returns-in_default c =
     tests_turned_back (after_refused _ (sym c.refusal.ensures ∙ tested) refl) _ refl
 
 pub make_inverse_ready-requires : goal.make_inverse_ready-requires
-make_inverse_ready-requires c = ((opened-by _ c.args.trace.now _ c.test_opening-opening.ensures.0 c.in-Accepted.is).0.table, refl)
+make_inverse_ready-requires c = ((opened_by _ c.args.trace.now _ c.test_opening-opening.ensures.0 c.in-Accepted.is).0.table, refl)
 
 pub slice_bounds-test_trace-end : goal.slice_bounds-test_trace-end
 slice_bounds-test_trace-end c =
-    sym (left_size _ _ (opened-by _ c.args.trace.now _ c.test_opening-opening.ensures.0 c.in-Accepted.is).0.table c.test_opening-opening.ensures.1)
+    sym (left_size _ _ (opened_by _ c.args.trace.now _ c.test_opening-opening.ensures.0 c.in-Accepted.is).0.table c.test_opening-opening.ensures.1)
 
 pub slice_bounds-test_trace-end-2 : goal.slice_bounds-test_trace-end-2
 slice_bounds-test_trace-end-2 c = sym (back_is _ _ c.make_inverse_ready.ensures).size
 
 pub test_trace-requires : goal.test_trace-requires
 test_trace-requires c =
-    let s = opened-by _ c.args.trace.now _ c.test_opening-opening.ensures.0 c.in-Accepted.is in (
+    let s = opened_by _ c.args.trace.now _ c.test_opening-opening.ensures.0 c.in-Accepted.is in (
       s.0.table,
       s.0.size,
       s.0.high,

@@ -19,9 +19,9 @@ use Rattle.table.specs.Table.{table_test}
 use Rattle.hash.specs.Hash as rescue
 use Rattle.trace.specs.Trace.{trace}
 use Rattle.trace.specs.Answers.{build_answer, build_leaves, build_test}
-use Rattle.trace.proofs.Answers.{BuildInputs, build-inputs}
+use Rattle.trace.proofs.Answers.{BuildInputs, build_inputs}
 use Rattle.call_answers.specs.Calls.{build_call_test, build_call, BuildCall}
-use Rattle.call_answers.proofs.Answers.{build-room}
+use Rattle.call_answers.proofs.Answers.{build_room}
 use Rattle.call_answers.proofs.Theorems as bits
 use Rattle.demands.specs.Demand1.{build, numbers, call_numbers, OneOf, Answered, BuildResult}
 use Rattle.demands.proofs.Demand1.Numbers.{one_of, table_causes_lem, taps_causes}
@@ -52,7 +52,7 @@ build_call_inputs T w rows size e =
     let b = passed (is_tap_length most_batches (length w)) TapLength _ a.1 in
     let c = passed (eqb size 4 && eqb rows (384 * tap_word_batches (length w))) DestinationLength _ b.1 in
     let d = and_both (eqb size 4) (eqb rows (384 * tap_word_batches (length w))) c.0 in
-    build-inputs T w rows (build-room T w size rows (eqb-true size 4 d.0) ∙ e)
+    build_inputs T w rows (build_room T w size rows (eqb-true size 4 d.0) ∙ e)
 
 pub build_called : (T w rows rows' output output' : List ℕ) (code : ℕ) → BuildCall T w code rows rows' output output'
     → Answered code (call_numbers build) (λ a. build_call_test T w (length rows) (length output) ≡ a)

@@ -17,10 +17,10 @@ use Rattle.table.specs.Table.{table_test}
 use Rattle.hash.specs.Hash as rescue
 use Rattle.hash.proofs.Inputs.{hash_tap}
 use Rattle.hash_chain.specs.Answers.{chain_test, chain_answer}
-use Rattle.hash_chain.proofs.Answers.{ChainInputs, chain-inputs}
+use Rattle.hash_chain.proofs.Answers.{ChainInputs, chain_inputs}
 use Rattle.call_results.specs.HandsOver.{HandsOver}
 use Rattle.call_answers.specs.Calls.{chain_call_test, chain_call}
-use Rattle.call_answers.proofs.Answers.{chain-room}
+use Rattle.call_answers.proofs.Answers.{chain_room}
 use Rattle.call_answers.proofs.Theorems as bits
 use Rattle.demands.specs.Demand1.{chain, numbers, call_numbers, OneOf, Answered, ChainResult}
 use Rattle.refusals.proofs.Returned.{four_words}
@@ -53,7 +53,7 @@ chain_call_inputs T w size e =
     let a = both_accepted (table_test T) _ e in
     let b = passed (is_tap_length most_batches (length w)) TapLength _ a.1 in
     let c = passed (eqb size 4) DestinationLength _ b.1 in
-    chain-inputs T w (chain-room T w size (eqb-true size 4 c.0) ∙ e)
+    chain_inputs T w (chain_room T w size (eqb-true size 4 c.0) ∙ e)
 
 pub chain_called : (T w output output' : List ℕ) (code : ℕ)
     → HandsOver (chain_call T w (length output)) code output output'

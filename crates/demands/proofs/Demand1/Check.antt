@@ -12,7 +12,7 @@ use Rattle.check_constraints.specs.Constraints as order
 use Rattle.check_constraints.specs.ReadOff.{read_taps}
 use Rattle.check_constraints.proofs.TestCount.{length_tests}
 use Rattle.check_trace.specs.Answers.{check_answer, check_test}
-use Rattle.check_trace.proofs.Answers.{CheckInputs, check-inputs}
+use Rattle.check_trace.proofs.Answers.{CheckInputs, check_inputs}
 use Rattle.call_results.specs.Code.{tests_code}
 use Rattle.check_exact.specs.Exact.{IsListFor}
 use Rattle.check_exact.proofs.Exactness.{reads_that_list}
@@ -54,10 +54,10 @@ check_called T t c0 c1 c2 c3 c code h =
     let k = trace_word_batches (length t) in
     tests_says code (call_numbers check) (λ a. check_test T t claim c ≡ a) (CheckResult T t claim c) Unit
     (check_test T t claim c) refl (length (order.tests k c)) h
-    (λ e. (let o = (check-inputs T t claim c e).0.opening in bits.tests_bits k c o.permitted o.low o.high))
+    (λ e. (let o = (check_inputs T t claim c e).0.opening in bits.tests_bits k c o.permitted o.low o.high))
     (bits.check_bits T t claim c refl)
     (check_numbers T t claim c)
-    (λ e. (let i = check-inputs T t claim c e in let o = i.0.opening in record {
+    (λ e. (let i = check_inputs T t claim c e in let o = i.0.opening in record {
       k = k;
       permitted = o.permitted;
       rows = o.size;

@@ -12,7 +12,7 @@ use Rattle.check_constraints.specs.Constraints as order
 use Rattle.check_constraints.specs.ReadOff.{read_taps}
 use Rattle.check_constraints.proofs.TestCount.{length_tests}
 use Rattle.trace_read_off.specs.Answers.{read_off_answer, read_off_leaves, read_off_test}
-use Rattle.trace_read_off.proofs.Answers.{read-off-inputs}
+use Rattle.trace_read_off.proofs.Answers.{read_off_inputs}
 use Rattle.call_answers.specs.Calls.{ReadOffCall}
 use Rattle.check_exact.specs.Exact.{IsListFor}
 use Rattle.call_answers.proofs.Theorems as bits
@@ -55,11 +55,11 @@ read_off_called T t taps taps' c0 c1 c2 c3 c code h =
     tests_says code (call_numbers read_off) (λ a. read_off_test T t claim c (length taps) ≡ a)
     (ReadOffResult T t claim c taps') (taps' ≡ taps)
     (read_off_test T t claim c (length taps)) refl (length (order.tests k c)) h.coded
-    (λ e. (let o = (read-off-inputs T t claim c (length taps) e).1.opening in
+    (λ e. (let o = (read_off_inputs T t claim c (length taps) e).1.opening in
     bits.tests_bits k c o.permitted o.low o.high))
     (bits.read_off_bits T t claim c refl (length taps))
     (read_off_numbers T t claim c (length taps))
-    (λ e. (let i = read-off-inputs T t claim c (length taps) e in let o = i.1.opening in
+    (λ e. (let i = read_off_inputs T t claim c (length taps) e in let o = i.1.opening in
     let left = h.list ∙ ap (λ x. leaves x (read_taps T t k) taps) e in record {
       k = k;
       permitted = o.permitted;

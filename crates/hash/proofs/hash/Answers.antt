@@ -8,7 +8,7 @@ use Rattle.refusals.proofs.Laws.{state_turned_back, state_returned}
 use Rattle.table.proofs.Theorems.{ready_left_lem}
 use Rattle.hash.specs.Hash.{final_state}
 use Rattle.hash.specs.Answers.{hash_answer}
-use Rattle.hash.proofs.Answers.{hash-inputs}
+use Rattle.hash.proofs.Answers.{hash_inputs}
 use Rattle.hash.proofs.CodeStates.{canonical_state}
 use Rattle.hash.proofs.CodeInput.{two_taps, two_taps_state}
 use borrow.Author.Rules.{rules}
@@ -22,7 +22,7 @@ pub final_state-last-requires : goal.final_state-last-requires
 final_state-last-requires c =
     let w = c.args.words in
     let eight : length w ≡ 8 = search rules in
-    let i = hash-inputs _ _ (sym c.test_hash-answer.ensures.0 ∙ c.in-Accepted.is) in (
+    let i = hash_inputs _ _ (sym c.test_hash-answer.ensures.0 ∙ c.in-Accepted.is) in (
       i.table,
       canonical_state (two_taps w eight) (two_taps_state w eight i.canonical),
       ready_left_lem _ _ i.table c.test_hash-answer.ensures.1,

@@ -8,7 +8,7 @@ use Rattle.refusals.proofs.Laws.{digest_turned_back, digest_returned}
 use Rattle.table.proofs.Theorems.{ready_left_lem}
 use Rattle.hash.specs.Hash.{chain as chain-of}
 use Rattle.hash_chain.specs.Answers.{chain_answer}
-use Rattle.hash_chain.proofs.Answers.{chain-inputs, digest-take}
+use Rattle.hash_chain.proofs.Answers.{chain_inputs, digest_take}
 use Rattle.hash_chain.proofs.chain.Goals as goal
 
 pub returns-in_default : goal.returns-in_default
@@ -17,7 +17,7 @@ returns-in_default c = digest_turned_back c.test_chain-answer.ensures.0 _ c.refu
 
 pub last_state-last-requires : goal.last_state-last-requires
 last_state-last-requires c =
-    let i = chain-inputs _ _ (sym c.test_chain-answer.ensures.0 ∙ c.in-Accepted.is) in (
+    let i = chain_inputs _ _ (sym c.test_chain-answer.ensures.0 ∙ c.in-Accepted.is) in (
       i.table,
       omega (arith, i.permitted.high),
       omega (arith, i.size),
@@ -29,4 +29,4 @@ pub returns : goal.returns
 unfolding chain_answer chain-of
 returns c =
     digest_returned c.test_chain-answer.ensures.0 c.in-Accepted.is
-    (digest-take c.last_state-last.result ∙ ap digest c.last_state-last.ensures)
+    (digest_take c.last_state-last.result ∙ ap digest c.last_state-last.ensures)

@@ -11,11 +11,11 @@ use Rattle.table.specs.Table.{initial_constant}
 use Rattle.table.proofs.Theorems.{left_size}
 use Rattle.hash.proofs.States.{IsState, state_cell}
 use Rattle.hash.proofs.CodeStates.{canonical_state}
-use Rattle.hash.proofs.Answers.{hash-inputs}
+use Rattle.hash.proofs.Answers.{hash_inputs}
 use Rattle.check_constraints.specs.Constraints.{minus}
 use Rattle.hash_undo.specs.Unhash.{rounds_undone, input_before}
 use Rattle.hash_undo.proofs.Rounds.{rounds_undone_state}
-use Rattle.hash_undo.proofs.Answers.{unhash-turned-back, unhash-none, unhash-found}
+use Rattle.hash_undo.proofs.Answers.{unhash_turned_back, unhash_none, unhash_found}
 use Rattle.hash_undo.proofs.unhash.Goals as goal
 
 input-is : (T s : List ℕ) {x y : List ℕ} → y ≡ minus x (initial_constant T) → x ≡ rounds_undone T 10 s
@@ -24,7 +24,7 @@ unfolding input_before
 input-is T s e f = e ∙ ap (λ x. minus x (initial_constant T)) f
 
 pub returns-in_default : goal.returns-in_default
-returns-in_default c = unhash-turned-back _ _ c.test_hash-answer.ensures.0 c.refusal.ensures
+returns-in_default c = unhash_turned_back _ _ c.test_hash-answer.ensures.0 c.refusal.ensures
 
 -- the cells that passed are a state
 given : (cells : List ℕ) → length cells ≡ 12 → AllCanonical cells → IsState cells
@@ -32,29 +32,29 @@ given cells size a = record { size = size; canonical = a }
 
 pub make_inverse_ready-requires : goal.make_inverse_ready-requires
 make_inverse_ready-requires c =
-    let i = hash-inputs _ _ (sym c.test_hash-answer.ensures.0 ∙ c.in-Accepted.is) in
+    let i = hash_inputs _ _ (sym c.test_hash-answer.ensures.0 ∙ c.in-Accepted.is) in
     (i.table, left_size _ _ i.table c.test_hash-answer.ensures.1)
 
 pub undo_rounds-state-requires : goal.undo_rounds-state-requires
 undo_rounds-state-requires c =
-    let i = hash-inputs _ _ (sym c.test_hash-answer.ensures.0 ∙ c.in-Accepted.is) in
+    let i = hash_inputs _ _ (sym c.test_hash-answer.ensures.0 ∙ c.in-Accepted.is) in
     let twelve : length c.args.cells ≡ 12 = search rules in
     (i.table, λ j l. state_cell (given _ twelve i.canonical) j, c.make_inverse_ready.ensures)
 
 pub less_initial-input-requires : goal.less_initial-input-requires
 less_initial-input-requires c =
-    let i = hash-inputs _ _ (sym c.test_hash-answer.ensures.0 ∙ c.in-Accepted.is) in
+    let i = hash_inputs _ _ (sym c.test_hash-answer.ensures.0 ∙ c.in-Accepted.is) in
     let twelve : length c.args.cells ≡ 12 = search rules in
     (i.table, canonical_state c.undo_rounds-state.ensures (rounds_undone_state _ 10 (given _ twelve i.canonical)))
 
 pub returns-then-not-ends_in_zeros : goal.returns-then-not-ends_in_zeros
 returns-then-not-ends_in_zeros c =
-    unhash-none _ _ c.test_hash-answer.ensures.0 c.in-Accepted.is
+    unhash_none _ _ c.test_hash-answer.ensures.0 c.in-Accepted.is
     (input-is _ _ c.less_initial-input.ensures c.undo_rounds-state.ensures)
     (sym c.ends_in_zeros.ensures ∙ c.if-not-ends_in_zeros.true)
 
 pub returns : goal.returns
 returns c =
-    unhash-found _ _ c.test_hash-answer.ensures.0 c.in-Accepted.is
+    unhash_found _ _ c.test_hash-answer.ensures.0 c.in-Accepted.is
     (input-is _ _ c.less_initial-input.ensures c.undo_rounds-state.ensures)
     (sym c.ends_in_zeros.ensures ∙ c.if-not-ends_in_zeros.false) c.of.ensures

@@ -4,15 +4,15 @@ use mathlib.Core.Path.{ap, ◌∙◌}
 use Rattle.call_results.specs.Code.{answer_code}
 use Rattle.call_answers.specs.Calls.{build_call}
 use Rattle.call_results.proofs.Handed.{handed_as}
-use Rattle.call_answers.proofs.Answers.{stopped, kept, build-without, chain-no-room-refuses}
-use Rattle.call_answers.proofs.Answers.{build-answer, build-left}
+use Rattle.call_answers.proofs.Answers.{stopped, kept, build_without, chain_no_room_refuses}
+use Rattle.call_answers.proofs.Answers.{build_answer_lem, build_left}
 use Rattle.lemoncolumn.proofs.lemoncolumn_build.Goals as goal
 
 pub returns-then-output-ne4 : goal.returns-then-output-ne4
 unfolding build_call
 returns-then-output-ne4 c =
-    let without = build-without _ _ _ _ c.if-output-ne4.true in
-    let refuses = chain-no-room-refuses _ _ in
+    let without = build_without _ _ _ _ c.if-output-ne4.true in
+    let refuses = chain_no_room_refuses _ _ in
     record {
       four = stopped _ _ without refuses _ _ _ (c.answer_code.ensures ∙ ap answer_code c.chain_no_room.ensures);
       rows = kept _ _ without refuses _ _;
@@ -21,8 +21,8 @@ returns-then-output-ne4 c =
 pub returns : goal.returns
 returns c =
     let room = c.if-output-ne4.false in
-    let same = c.build.ensures.0 ∙ build-answer _ room _ _ _ in
+    let same = c.build.ensures.0 ∙ build_answer_lem _ room _ _ _ in
     record {
       four = handed_as _ _ _ _ _ same c.hand_over.ensures;
-      rows = c.build.ensures.1 ∙ build-left _ room _ _ _;
+      rows = c.build.ensures.1 ∙ build_left _ room _ _ _;
     }

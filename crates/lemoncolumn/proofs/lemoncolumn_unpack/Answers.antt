@@ -4,25 +4,25 @@
 use mathlib.Core.Path.{ap, ◌∙◌}
 use Rattle.call_results.specs.Code.{digest_code}
 use Rattle.call_results.proofs.Handed.{handed_as}
-use Rattle.call_answers.proofs.Answers.{kept, list-kept, unpack-without, unpack-stopped, no-list-refuses}
-use Rattle.call_answers.proofs.Answers.{unpack-answer, unpack-left}
+use Rattle.call_answers.proofs.Answers.{kept, list_kept, unpack_without, unpack_stopped, no_list_refuses}
+use Rattle.call_answers.proofs.Answers.{unpack_answer_lem, unpack_left}
 use Rattle.lemoncolumn.proofs.lemoncolumn_unpack.Goals as goal
 
 pub returns-then-claim-ne4 : goal.returns-then-claim-ne4
 returns-then-claim-ne4 c =
     let without = c.if-claim-ne4.true in
     record {
-      four = unpack-stopped _ _ _ without _ _ (c.digest_code.ensures ∙ ap digest_code c.unpack.ensures.value);
+      four = unpack_stopped _ _ _ without _ _ (c.digest_code.ensures ∙ ap digest_code c.unpack.ensures.value);
       list =
-          list-kept c.unpack.new.destination _ c.unpack.auto.destination
-          ∙ kept _ _ (unpack-without _ _ _ without) (no-list-refuses _) _ _;
+          list_kept c.unpack.new.destination _ c.unpack.auto.destination
+          ∙ kept _ _ (unpack_without _ _ _ without) (no_list_refuses _) _ _;
     }
 
 pub returns : goal.returns
 returns c =
     let room = c.if-claim-ne4.false in
-    let same = c.unpack-2.ensures.value ∙ unpack-answer _ room _ _ in
+    let same = c.unpack-2.ensures.value ∙ unpack_answer_lem _ room _ _ in
     record {
       four = handed_as _ _ _ _ _ same c.hand_over.ensures;
-      list = c.unpack-2.ensures.destination_after ∙ unpack-left _ room _ _;
+      list = c.unpack-2.ensures.destination_after ∙ unpack_left _ room _ _;
     }

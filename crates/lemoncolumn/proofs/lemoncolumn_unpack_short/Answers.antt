@@ -4,9 +4,9 @@
 use mathlib.Core.Path.{ap, ◌∙◌}
 use Rattle.call_results.specs.Code.{digest_code}
 use Rattle.call_results.proofs.Handed.{handed_as}
-use Rattle.call_answers.proofs.Answers.{kept, list-kept, unpack-short-without, unpack-short-stopped}
-use Rattle.call_answers.proofs.Answers.{no-short-list-refuses}
-use Rattle.call_answers.proofs.Answers.{unpack-short-answer, unpack-short-left}
+use Rattle.call_answers.proofs.Answers.{kept, list_kept, unpack_short_without, unpack_short_stopped}
+use Rattle.call_answers.proofs.Answers.{no_short_list_refuses}
+use Rattle.call_answers.proofs.Answers.{unpack_short_answer_lem, unpack_short_left}
 use Rattle.lemoncolumn.proofs.lemoncolumn_unpack_short.Goals as goal
 
 pub returns-then-claim-ne4 : goal.returns-then-claim-ne4
@@ -14,17 +14,17 @@ returns-then-claim-ne4 c =
     let without = c.if-claim-ne4.true in
     let coded = c.digest_code.ensures ∙ ap digest_code c.unpack_short.ensures.value in
     record {
-      four = unpack-short-stopped _ _ _ without _ _ coded;
+      four = unpack_short_stopped _ _ _ without _ _ coded;
       list =
-          list-kept c.unpack_short.new.destination _ c.unpack_short.auto.destination
-          ∙ kept _ _ (unpack-short-without _ _ _ without) (no-short-list-refuses _) _ _;
+          list_kept c.unpack_short.new.destination _ c.unpack_short.auto.destination
+          ∙ kept _ _ (unpack_short_without _ _ _ without) (no_short_list_refuses _) _ _;
     }
 
 pub returns : goal.returns
 returns c =
     let room = c.if-claim-ne4.false in
-    let same = c.unpack_short-2.ensures.value ∙ unpack-short-answer _ room _ _ in
+    let same = c.unpack_short-2.ensures.value ∙ unpack_short_answer_lem _ room _ _ in
     record {
       four = handed_as _ _ _ _ _ same c.hand_over.ensures;
-      list = c.unpack_short-2.ensures.destination_after ∙ unpack-short-left _ room _ _;
+      list = c.unpack_short-2.ensures.destination_after ∙ unpack_short_left _ room _ _;
     }

@@ -18,11 +18,11 @@ use Rattle.table.proofs.Theorems.{ready_left_lem, left_size}
 use Rattle.check_constraints.specs.Constraints.{tests}
 use Rattle.check_steps.proofs.Made.{back_is}
 use Rattle.check_trace.specs.Answers.{opening_test}
-use Rattle.check_trace.proofs.Answers.{opened-by, walked}
+use Rattle.check_trace.proofs.Answers.{opened_by, walked}
 use Rattle.trace_rewrite.specs.EditHelpers.{Rewritable}
 use Rattle.trace_rewrite.proofs.Rewriting.{has_claim_row, output_shown}
 use Rattle.trace_edit.specs.Answers.{edit_test, edit_trace_test, altered_taps, edit_answer, edit_leaves}
-use Rattle.trace_edit.proofs.Answers.{edit-inputs, rewritable}
+use Rattle.trace_edit.proofs.Answers.{edit_inputs, rewritable}
 use borrow.Author.Rules.{rules}
 use Rattle.trace_edit.proofs.edit.Goals as goal
 
@@ -48,7 +48,7 @@ passed : (T t claim : List ℕ) (b n : ℕ) (new : List ℕ) {a : Answer} {o : T
     → Passed T t claim b n new
 passed T t claim b n new four e q p r =
     let all = (tests_accepted (edit_test T t claim b n new) _ _ (sym (answered T t claim b n new e q p) ∙ r)).0 in
-    let o = (edit-inputs T t claim b n new all).0.opening in
+    let o = (edit_inputs T t claim b n new all).0.opening in
     record { passes = all; rewrites = rewritable T t claim b n new four all; low = o.low; high = o.high }
 
 pub returns-in_default : goal.returns-in_default
@@ -58,12 +58,12 @@ returns-in_default c =
     (digest_turned_back closed _ refl, leaves_old closed _ refl)
 
 pub make_inverse_ready-requires : goal.make_inverse_ready-requires
-make_inverse_ready-requires c = ((opened-by _ _ _ c.test_opening-opening.ensures.0 c.in-Accepted.is).0.table, refl)
+make_inverse_ready-requires c = ((opened_by _ _ _ c.test_opening-opening.ensures.0 c.in-Accepted.is).0.table, refl)
 
 pub slice_bounds-test_edit-end : goal.slice_bounds-test_edit-end
 slice_bounds-test_edit-end c =
     sym
-    (left_size _ _ (opened-by _ _ _ c.test_opening-opening.ensures.0 c.in-Accepted.is).0.table
+    (left_size _ _ (opened_by _ _ _ c.test_opening-opening.ensures.0 c.in-Accepted.is).0.table
     c.test_opening-opening.ensures.1)
 
 pub slice_bounds-test_edit-end-2 : goal.slice_bounds-test_edit-end-2
@@ -71,7 +71,7 @@ slice_bounds-test_edit-end-2 c = sym (back_is _ _ c.make_inverse_ready.ensures).
 
 pub test_edit-answer-requires : goal.test_edit-answer-requires
 test_edit-answer-requires c =
-    let s = opened-by _ _ _ c.test_opening-opening.ensures.0 c.in-Accepted.is in (
+    let s = opened_by _ _ _ c.test_opening-opening.ensures.0 c.in-Accepted.is in (
       s.0.table,
       s.0.size,
       s.0.high,
@@ -83,7 +83,7 @@ test_edit-answer-requires c =
 pub slice_bounds-rewrite-end : goal.slice_bounds-rewrite-end
 slice_bounds-rewrite-end c =
     sym
-    (left_size _ _ (opened-by _ _ _ c.test_opening-opening.ensures.0 c.in-Accepted.is).0.table
+    (left_size _ _ (opened_by _ _ _ c.test_opening-opening.ensures.0 c.in-Accepted.is).0.table
     c.test_opening-opening.ensures.1)
 
 pub slice_bounds-rewrite-end-in-Accepted-answer : goal.slice_bounds-rewrite-end-in-Accepted-answer

@@ -15,9 +15,9 @@ use Rattle.refusals.specs.declared.Answer.TheVariants.{Accepted, Refused}
 use Rattle.refusals.specs.Answers.{unless}
 use Rattle.refusals.proofs.Laws.{unless_refused, unless_passed, one_test_refused, one_test_passed, tests_turned_back}
 use Rattle.check_constraints.specs.Constraints.{tests, constraint_test}
-use Rattle.check_trace.proofs.Answers.{canonical-words, walked}
+use Rattle.check_trace.proofs.Answers.{canonical_words_lem, walked}
 use Rattle.trace_edit.specs.Answers.{edit_trace_test}
-use Rattle.trace_edit.proofs.Answers.{from_tap, fromWords, from_claim}
+use Rattle.trace_edit.proofs.Answers.{from_tap, from_words, from_claim}
 use Rattle.trace_edit.proofs.test_edit.Goals as goal
 
 module _ (T t claim : List ℕ) (b n : ℕ) (new : List ℕ) (k : ℕ) {o : Answer} (there : n ≤ 3 * k) where
@@ -30,7 +30,7 @@ module _ (T t claim : List ℕ) (b n : ℕ) (new : List ℕ) (k : ℕ) {o : Answ
     claim_refused q p = found (one_test_refused (canonical_words claim) (ClaimWord (first_bad claim)) e _ q p)
 
     -- the claim is canonical, and the trace is to be tested
-    claimed : a ≡ Accepted → o ≡ fromWords T t claim b new k → o ≡ edit_trace_test T t claim b n new k
+    claimed : a ≡ Accepted → o ≡ from_words T t claim b new k → o ≡ edit_trace_test T t claim b n new k
     claimed q p = found (one_test_passed (canonical_words claim) (ClaimWord (first_bad claim)) e q p)
 
     module _ (accepted : a ≡ Accepted) {a₂ : Answer}
@@ -76,7 +76,7 @@ returns-then-bad-words c =
 pub walk_tests-requires : goal.walk_tests-requires
 walk_tests-requires c =
     let p = c.requires in
-    let words = canonical-words c.args.trace.now c.test_words-of_words.ensures c.in-Accepted-of_words.is in
+    let words = canonical_words_lem c.args.trace.now c.test_words-of_words.ensures c.in-Accepted-of_words.is in
     (p.4, p.5, p.0, words, p.1, p.2, p.3)
 
 pub returns : goal.returns

@@ -19,9 +19,9 @@ use Rattle.check_steps.proofs.Made.{back_is}
 use Rattle.refusals.specs.declared.TestsAnswer.{TestsAnswer}
 use Rattle.check_constraints.specs.Constraints.{tests}
 use Rattle.check_trace.specs.Answers.{opening_test, trace_test}
-use Rattle.check_trace.proofs.Answers.{opened-by, walked}
+use Rattle.check_trace.proofs.Answers.{opened_by, walked}
 use Rattle.trace_read_off.specs.Answers.{read_off_test, read_off_answer}
-use Rattle.trace_read_off.proofs.Answers.{read-off-inputs, turned_back, accepted, kept, read}
+use Rattle.trace_read_off.proofs.Answers.{read_off_inputs, turned_back, accepted, kept, read}
 use Rattle.trace_read_off.proofs.read_off.Goals as goal
 
 -- the opening tests are passed, and the destination is to be tested
@@ -48,10 +48,10 @@ returns-in_default c =
     turned_back _ _ _ _ _ (after_refused _ (sym c.refusal.ensures ∙ tested) refl)
 
 pub overflow_mul-k : goal.overflow_mul-k
-overflow_mul-k c = omega (arith, (opened-by _ _ _ c.test_opening-opening.ensures.0 c.in-Accepted.is).1)
+overflow_mul-k c = omega (arith, (opened_by _ _ _ c.test_opening-opening.ensures.0 c.in-Accepted.is).1)
 
 pub overflow_add-k : goal.overflow_add-k
-overflow_add-k c = omega (arith, (opened-by _ _ _ c.test_opening-opening.ensures.0 c.in-Accepted.is).1)
+overflow_add-k c = omega (arith, (opened_by _ _ _ c.test_opening-opening.ensures.0 c.in-Accepted.is).1)
 
 pub returns-then-destination-k : goal.returns-then-destination-k
 returns-then-destination-k c =
@@ -61,11 +61,11 @@ returns-then-destination-k c =
     (unless_refused _ (ne_eqb _ _ c.if-destination-k.true) refl))
 
 pub make_inverse_ready-requires : goal.make_inverse_ready-requires
-make_inverse_ready-requires c = ((opened-by _ _ _ c.test_opening-opening.ensures.0 c.in-Accepted.is).0.table, refl)
+make_inverse_ready-requires c = ((opened_by _ _ _ c.test_opening-opening.ensures.0 c.in-Accepted.is).0.table, refl)
 
 pub slice_bounds-test_trace-end : goal.slice_bounds-test_trace-end
 slice_bounds-test_trace-end c =
-    let s = opened-by _ _ _ c.test_opening-opening.ensures.0 c.in-Accepted.is in
+    let s = opened_by _ _ _ c.test_opening-opening.ensures.0 c.in-Accepted.is in
     sym (left_size _ _ s.0.table c.test_opening-opening.ensures.1)
 
 pub slice_bounds-test_trace-end-2 : goal.slice_bounds-test_trace-end-2
@@ -73,7 +73,7 @@ slice_bounds-test_trace-end-2 c = sym (back_is _ _ c.make_inverse_ready.ensures)
 
 pub test_trace-answer-requires : goal.test_trace-answer-requires
 test_trace-answer-requires c =
-    let s = opened-by _ _ _ c.test_opening-opening.ensures.0 c.in-Accepted.is in (
+    let s = opened_by _ _ _ c.test_opening-opening.ensures.0 c.in-Accepted.is in (
       s.0.table,
       s.0.size,
       s.0.high,
@@ -99,7 +99,7 @@ write_taps-requires c =
     let q = answered a.table.now a.trace.now a.claim a.c (length a.destination.now) c.test_opening-opening.ensures.0
     c.in-Accepted.is c.if-destination-k.false c.test_trace-answer.ensures in
     let passes = accepted a.table.now a.trace.now a.claim a.destination.now a.c q c.in-Accepted-answer.is in
-    let i = read-off-inputs _ _ _ _ _ passes in
+    let i = read_off_inputs _ _ _ _ _ passes in
     let o = i.1.opening in (
       c.make_inverse_ready.ensures,
       o.table,
