@@ -5,7 +5,6 @@ use mathlib.Core.Path.{◌≡◌, refl, sym, ap, ◌∙◌}
 use mathlib.Core.List.{List}
 use mathlib.Core.Logic.{◌↔◌, ◌⊎◌, inl, inr}
 use Prim.Native.Nat.{ℕ}
-use native.Mathlib.Decide.{ℕ_discrete}
 use lib.ListN.{length}
 use Rattle.numbers.specs.Numbers.{tap_word_batches}
 use Rattle.refusals.specs.Refusals.{digest, digest_words}
@@ -16,7 +15,7 @@ use Rattle.refusals.specs.declared.Answer.{Answer}
 use Rattle.refusals.specs.declared.Answer.TheVariants as answer
 use Rattle.refusals.specs.declared.Digest.{Digest}
 use Rattle.refusals.specs.declared.DigestAnswer.TheVariants.{Accepted, Refused}
-use Rattle.refusals.proofs.Laws.{not_accepted, refused_same, digest_accepted, digest_refused}
+use Rattle.refusals.proofs.Laws.{refused_same, digest_accepted, digest_refused}
 use Rattle.refusals.proofs.Returned.{four_words}
 use Rattle.board_words.specs.Words.{AllBytes}
 use Rattle.board_short.specs.ShortBoard.{short_file_size, pack_short_test, packed_short, pack_short_leaves, short_claim_in}

@@ -48,7 +48,6 @@ use Rattle.board_to_full.specs.ToFull.{to_full_test, to_full_leaves, NoFullForm}
 use Rattle.board_to_full.proofs.Answers as to-full-tests
 use Rattle.board_to_full.proofs.Theorems as to_full
 use Rattle.call_results.specs.Code.{refusal_code, answer_code}
-use Rattle.call_results.specs.HandsOver.{written}
 use Rattle.call_results.proofs.Bits.{zero_accepts}
 use Rattle.call_answers.specs.Calls.{PackCall, UnpackCall, PackShortCall, UnpackShortCall, ToShortCall, ToFullCall}
 use Rattle.call_answers.proofs.Endings.Unpack.{unpack_ends}

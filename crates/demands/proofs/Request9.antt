@@ -14,7 +14,7 @@ use lib.Dec.{eqb, leb, ltb}
 use lib.ListN.{length}
 use Rattle.field.specs.Field.{P}
 use Rattle.field_words.specs.Words.{AllCanonical}
-use Rattle.numbers.specs.Numbers.{tap_words, IsPermittedTo, IsPermitted, most_batches, permitted, is_tap_length}
+use Rattle.numbers.specs.Numbers.{tap_words, IsPermittedTo, IsPermitted, most_batches, is_tap_length}
 use Rattle.numbers.specs.Numbers.{tap_word_batches, is_trace_length, trace_word_batches}
 use Rattle.numbers.proofs.Laws.{permitted_power, power_permitted, permitted_to, tap_length_sound, tap_length_complete}
 use Rattle.numbers.proofs.Laws.{trace_length_sound, trace_length_complete}

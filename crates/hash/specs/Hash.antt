@@ -1,7 +1,7 @@
 -- The Rescue hash and the chain (document 01, "Hash and chain"; Rescue STARK documentation 1.0, Algorithm 1).
 -- A state is a list of twelve cells, T is a prepared table.
 -- Assumes nothing.
-use Rattle.std.specs.Prelude.{List, ◌++◌, ℕ, zero, suc, ◌+◌, ◌*◌, take, drop, replicate}
+use Rattle.std.specs.Prelude.{List, ◌++◌, ℕ, zero, suc, ◌*◌, take, drop, replicate}
 use Rattle.lists.specs.Lists.{cell, tab}
 use Rattle.field.specs.Field.{add, cube, root}
 use Rattle.numbers.specs.Numbers.{width, tap_words}

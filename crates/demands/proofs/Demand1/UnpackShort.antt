@@ -9,7 +9,6 @@ use Rattle.refusals.specs.Answers.{leaves}
 use Rattle.refusals.specs.declared.Refusal.{Refusal}
 use Rattle.refusals.specs.declared.Answer.{Answer}
 use Rattle.refusals.proofs.Laws.{digest_refused, AnswerEnds}
-use Rattle.board.proofs.Round.{claim_is}
 use Rattle.board_short.specs.ShortBoard.{unpack_short_answer, unpack_short_test, short_taps_in, short_claim_in}
 use Rattle.board_short.specs.ShortBoard.{unpack_short_leaves}
 use Rattle.board_short.proofs.Round as short
