@@ -17,7 +17,7 @@ use Rattle.refusals.specs.declared.Refusal.TheVariants.{TapLength, TapWord, Dest
 use Rattle.refusals.specs.declared.Refusal.TheVariants.{FileLength, WrongKind, WrongValue}
 use Rattle.refusals.specs.declared.Answer.TheVariants.{Accepted, Refused}
 use Rattle.refusals.specs.declared.Digest.{Digest}
-use Rattle.refusals.specs.declared.DigestAnswer.TheVariants as digest-answer
+use Rattle.refusals.specs.declared.DigestAnswer.TheVariants as digest_answer
 use Rattle.refusals.proofs.Laws.{passed, both_accepted, digest_accepted, AnswerEnds, unless_ends, one_cause}
 use Rattle.board_words.specs.Words.{kind_of, word_at}
 use Rattle.board_words.specs.Elements.{elements_test}
@@ -155,17 +155,17 @@ unpack_no_room file size k h n =
 
 -- what is returned: the claim, or the refusal
 pub unpack_returns : (file : List ℕ) (size : ℕ) → unpack_test file size ≡ Accepted
-    → unpack_answer file size ≡ digest-answer.Accepted (digest (claim_in file))
+    → unpack_answer file size ≡ digest_answer.Accepted (digest (claim_in file))
 unfolding unpack_answer
 unpack_returns file size e = rw e
 
 pub unpack_refuses : (file : List ℕ) (size : ℕ) (r : Refusal) → unpack_test file size ≡ Refused r
-    → unpack_answer file size ≡ digest-answer.Refused r
+    → unpack_answer file size ≡ digest_answer.Refused r
 unfolding unpack_answer
 unpack_refuses file size r e = rw e
 
 -- and conversely
-pub returned : (file : List ℕ) (size : ℕ) (d : Digest) → unpack_answer file size ≡ digest-answer.Accepted d
+pub returned : (file : List ℕ) (size : ℕ) (d : Digest) → unpack_answer file size ≡ digest_answer.Accepted d
     → (unpack_test file size ≡ Accepted) × (digest (claim_in file) ≡ d)
 unfolding unpack_answer
 returned file size d e = digest_accepted (unpack_test file size) (digest (claim_in file)) d e

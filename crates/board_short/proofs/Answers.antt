@@ -21,7 +21,7 @@ use Rattle.refusals.specs.declared.Refusal.TheVariants.{WrongKind, WrongValue}
 use Rattle.refusals.specs.declared.Answer.{Answer}
 use Rattle.refusals.specs.declared.Answer.TheVariants.{Accepted, Refused}
 use Rattle.refusals.specs.declared.Digest.{Digest}
-use Rattle.refusals.specs.declared.DigestAnswer.TheVariants as digest-answer
+use Rattle.refusals.specs.declared.DigestAnswer.TheVariants as digest_answer
 use Rattle.refusals.proofs.Laws.{not_accepted, refused_same, passed, both_accepted, digest_accepted, unless_refused}
 use Rattle.refusals.proofs.Laws.{unless_passed, unless_ends, ends_refusal}
 use Rattle.board_words.specs.Words.{kind_of, payload_of, word_at}
@@ -218,17 +218,17 @@ unpack_no_room file size k h n =
 
 -- what is returned: the claim, or the refusal
 pub unpack_returns : (file : List ℕ) (size : ℕ) → unpack_short_test file size ≡ Accepted
-    → unpack_short_answer file size ≡ digest-answer.Accepted (digest (short_claim_in file))
+    → unpack_short_answer file size ≡ digest_answer.Accepted (digest (short_claim_in file))
 unfolding unpack_short_answer
 unpack_returns file size e = rw e
 
 pub unpack_refuses : (file : List ℕ) (size : ℕ) (r : Refusal) → unpack_short_test file size ≡ Refused r
-    → unpack_short_answer file size ≡ digest-answer.Refused r
+    → unpack_short_answer file size ≡ digest_answer.Refused r
 unfolding unpack_short_answer
 unpack_refuses file size r e = rw e
 
 -- and conversely
-pub returned : (file : List ℕ) (size : ℕ) (d : Digest) → unpack_short_answer file size ≡ digest-answer.Accepted d
+pub returned : (file : List ℕ) (size : ℕ) (d : Digest) → unpack_short_answer file size ≡ digest_answer.Accepted d
     → (unpack_short_test file size ≡ Accepted) × (digest (short_claim_in file) ≡ d)
 unfolding unpack_short_answer
 returned file size d e = digest_accepted (unpack_short_test file size) (digest (short_claim_in file)) d e

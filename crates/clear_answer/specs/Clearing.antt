@@ -10,7 +10,7 @@ use Rattle.refusals.specs.declared.Answer.{Answer}
 use Rattle.refusals.specs.declared.Answer.TheVariants as answer
 use Rattle.refusals.specs.declared.DigestAnswer.TheVariants as output
 use Rattle.refusals.specs.declared.TestsAnswer.{TestsAnswer}
-use Rattle.refusals.specs.declared.TestsAnswer.TheVariants as tests-answer
+use Rattle.refusals.specs.declared.TestsAnswer.TheVariants as tests_answer
 use Rattle.table.specs.Table.{raw_words, table_words, Prepares}
 use Rattle.hash.specs.Hash.{chain}
 use Rattle.trace.specs.Trace.{trace}
@@ -50,8 +50,8 @@ outcome_after (answer.Refused r) o = Refused r
 
 -- what Check's answer for k batches comes to
 abbrev pub reported : ℕ → TestsAnswer → Outcome
-reported k (tests-answer.Accepted n) = Accepted k n
-reported k (tests-answer.Refused r) = Refused r
+reported k (tests_answer.Accepted n) = Accepted k n
+reported k (tests_answer.Refused r) = Refused r
 
 -- the trace of the taps w, checked against the claim, which in a board file is about all k batches: k and the number of
 -- all tests, or the refusal

@@ -26,15 +26,15 @@ use Rattle.board_words.specs.Words.{kind_of, word_at, AllBytes}
 use Rattle.board_words.proofs.Round.{length_elements}
 use Rattle.board.specs.Board.{file_size, pack_test, packed, pack_leaves, batches_in, claim_in, taps_in, count_test, unpack_test}
 use Rattle.board.specs.Board.{unpack_answer, unpack_leaves}
-use Rattle.board.proofs.Answers as board-answers
-use Rattle.board.proofs.Round as board-round
+use Rattle.board.proofs.Answers as board_answers
+use Rattle.board.proofs.Round as board_round
 use Rattle.board.proofs.Theorems as board
 use Rattle.board_short_read.proofs.Round.{length_shorts}
 use Rattle.board_short.specs.ShortBoard.{short_file_size, pack_short_test, packed_short, pack_short_leaves, short_claim_in}
 use Rattle.board_short.specs.ShortBoard.{short_taps_in, short_count_test, unpack_short_test, unpack_short_answer}
 use Rattle.board_short.specs.ShortBoard.{unpack_short_leaves, short_batches_in}
-use Rattle.board_short.proofs.Answers as short-answers
-use Rattle.board_short.proofs.Round as short-round
+use Rattle.board_short.proofs.Answers as short_answers
+use Rattle.board_short.proofs.Round as short_round
 use Rattle.board_short.proofs.Theorems as short
 use Rattle.board_edition.specs.Edition.{full_mark, short_mark, HasMark, ConverterFault, ConverterAnswers}
 use Rattle.board_edition.proofs.Answers as edition
@@ -42,10 +42,10 @@ use Rattle.board_edition.proofs.Answers.{not_full, not_short}
 use Rattle.board_edition.proofs.Converters as converters
 use Rattle.board_edition.proofs.Converters.{Not, Reader}
 use Rattle.board_to_short.specs.ToShort.{to_short_test, to_short_leaves}
-use Rattle.board_to_short.proofs.Answers as to-short-tests
+use Rattle.board_to_short.proofs.Answers as to_short_tests
 use Rattle.board_to_short.proofs.Theorems as to_short
 use Rattle.board_to_full.specs.ToFull.{to_full_test, to_full_leaves, NoFullForm}
-use Rattle.board_to_full.proofs.Answers as to-full-tests
+use Rattle.board_to_full.proofs.Answers as to_full_tests
 use Rattle.board_to_full.proofs.Theorems as to_full
 use Rattle.call_results.specs.Code.{refusal_code, answer_code}
 use Rattle.call_results.proofs.Bits.{zero_accepts}
@@ -137,7 +137,7 @@ short_not_full e = omega (arith, e)
 full_length : (file : List ℕ) → length (packed (short_taps_in file) (short_claim_in file)) ≡ file_size (short_batches_in file)
 unfolding packed short_claim_in
 full_length file =
-    let taps = short-round.taps_length file in
+    let taps = short_round.taps_length file in
     let k : tap_word_batches (length (short_taps_in file)) ≡ short_batches_in file = omega (arith, taps) in
     let t : length (short_taps_in file) ≡ tap_words (tap_word_batches (length (short_taps_in file))) = omega (arith, taps) in
     board.file_length (short_taps_in file) (short_claim_in file) (tap_word_batches (length (short_taps_in file)))
@@ -170,7 +170,7 @@ module _ (file : List ℕ) (size : ℕ) where
       converters.answers file full_mark short_mark (not_full (word_at file 0)) full_not_short (unpack_test file (room file))
       (digest (claim_in file)) (eqb size short_bytes) (FitsShort file size) fits_short no_short _ (full_reader file)
       ⊥ (no λ f. f) (λ f. absurd f) (λ f. absurd f)
-      (λ h n. to-short-tests.as_reader file size (edition.accepts file full_mark h))
+      (λ h n. to_short_tests.as_reader file size (edition.accepts file full_mark h))
 
   to_full_answers : ConverterAnswers file full_mark (unpack_short_answer file (short_room file)) (NoFullForm file)
       (FitsFull file size) (to_full_test file size)
@@ -178,8 +178,8 @@ module _ (file : List ℕ) (size : ℕ) where
   to_full_answers =
       converters.answers file short_mark full_mark (not_short (word_at file 0)) short_not_full
       (unpack_short_test file (short_room file)) (digest (short_claim_in file)) (eqb size full_bytes) (FitsFull file size)
-      fits_full no_full _ (short_reader file) (NoFullForm file) (to-full-tests.form file) (to-full-tests.its_mark file)
-      (to-full-tests.without file size) (to-full-tests.as_reader file size)
+      fits_full no_full _ (short_reader file) (NoFullForm file) (to_full_tests.form file) (to_full_tests.its_mark file)
+      (to_full_tests.without file size) (to_full_tests.as_reader file size)
 
 -- ---- what Unpack leaves where it accepts
 full_left : (file old : List ℕ) → unpack_test file (length old) ≡ answer.Accepted → unpack_leaves file old ≡ taps_in file
@@ -191,9 +191,9 @@ to_short_writes : (file old taps : List ℕ) (d : Digest) → unpack_answer file
     → (to_short_test file (length old) ≡ pack_short_test (unpack_leaves file taps) (digest_words d) (length old))
     × (to_short_leaves file old ≡ pack_short_leaves (unpack_leaves file taps) (digest_words d) old)
 to_short_writes file old taps d e =
-    let r = board-answers.returned file (length taps) d e in
+    let r = board_answers.returned file (length taps) d e in
     let list = sym (full_left file taps r.0) in
-    let claim = board-round.claim_is file d r.1 in (
+    let claim = board_round.claim_is file d r.1 in (
       to_short.as_writer file (length taps) r.0 (length old)
           ∙ ap₂ (λ t c. pack_short_test t c (length old)) list claim,
       to_short.left_as_writer file (length taps) r.0 old ∙ ap₂ (λ t c. pack_short_leaves t c old) list claim,
@@ -204,9 +204,9 @@ to_full_writes : (file old taps : List ℕ) (d : Digest) → unpack_short_answer
     → (to_full_test file (length old) ≡ pack_test (unpack_short_leaves file taps) (digest_words d) (length old))
     × (to_full_leaves file old ≡ pack_leaves (unpack_short_leaves file taps) (digest_words d) old)
 to_full_writes file old taps d e formed =
-    let r = short-answers.returned file (length taps) d e in
+    let r = short_answers.returned file (length taps) d e in
     let list = sym (taps_left file taps d e) in
-    let claim = short-round.claim_is file d r.1 in (
+    let claim = short_round.claim_is file d r.1 in (
       to_full.as_writer file (length taps) r.0 formed (length old)
           ∙ ap₂ (λ t c. pack_test t c (length old)) list claim,
       to_full.left_as_writer file (length taps) r.0 formed old ∙ ap₂ (λ t c. pack_leaves t c old) list claim,
@@ -225,16 +225,16 @@ by_room test m n e f = go (ℕ_discrete m n)
 full_by_room : (file : List ℕ) (m n : ℕ) → unpack_test file n ≡ answer.Accepted
     → unpack_test file m ≡ unless (eqb m n) DestinationLength answer.Accepted
 full_by_room file m n e =
-    let u = board-answers.unpack_accepted file n e in
+    let u = board_answers.unpack_accepted file n e in
     by_room (unpack_test file) m n e
-    (λ q. board-answers.unpack_no_room file m (batches_in file) u.0 (λ s. q (s ∙ sym u.1)))
+    (λ q. board_answers.unpack_no_room file m (batches_in file) u.0 (λ s. q (s ∙ sym u.1)))
 
 short_by_room : (file : List ℕ) (m n : ℕ) → unpack_short_test file n ≡ answer.Accepted
     → unpack_short_test file m ≡ unless (eqb m n) DestinationLength answer.Accepted
 short_by_room file m n e =
-    let u = short-answers.unpack_accepted file n e in
+    let u = short_answers.unpack_accepted file n e in
     by_room (unpack_short_test file) m n e
-    (λ q. short-answers.unpack_no_room file m (short_batches_in file) u.0 (λ s. q (s ∙ sym u.1)))
+    (λ q. short_answers.unpack_no_room file m (short_batches_in file) u.0 (λ s. q (s ∙ sym u.1)))
 
 -- ---- what was converted is read as the file was
 module _ (file old : List ℕ) where
@@ -243,7 +243,7 @@ module _ (file old : List ℕ) where
     short_read : unpack_test file (length (taps_in file)) ≡ answer.Accepted
     short_read =
         let a = (to_short_answers file (length old)).accepts.0 e in
-        ap (unpack_test file) (board-round.taps_length file) ∙ (board-answers.returned file (room file) a.0 a.1).0
+        ap (unpack_test file) (board_round.taps_length file) ∙ (board_answers.returned file (room file) a.0 a.1).0
 
     short_written : to_short_leaves file old ≡ packed_short (taps_in file) (claim_in file)
     unfolding to_short_leaves
@@ -260,7 +260,7 @@ module _ (file old : List ℕ) where
         let packs = sym (to_short.as_writer file n short_read (length old)) ∙ e in
         let four = length_elements file 1 4 in
         let u = short.unpack_packed (taps_in file) (claim_in file) (length old) four packs in
-        let r = short-answers.returned written n (digest (claim_in file)) u.0 in
+        let r = short_answers.returned written n (digest (claim_in file)) u.0 in
         let tests = short_by_room written m n r.0 ∙ sym (full_by_room file m n short_read) in
         rw short_written
         (ap₂ (λ t d. digest_after t d) tests r.1, ap₂ (λ t s. leaves t s taps) tests u.1)
@@ -269,8 +269,8 @@ module _ (file old : List ℕ) where
     full_read : unpack_short_test file (length (short_taps_in file)) ≡ answer.Accepted
     full_read =
         let a = (to_full_answers file (length old)).accepts.0 e in
-        ap (unpack_short_test file) (short-round.taps_length file)
-        ∙ (short-answers.returned file (short_room file) a.0 a.1).0
+        ap (unpack_short_test file) (short_round.taps_length file)
+        ∙ (short_answers.returned file (short_room file) a.0 a.1).0
 
     full_written : to_full_leaves file old ≡ packed (short_taps_in file) (short_claim_in file)
     unfolding to_full_leaves
@@ -288,7 +288,7 @@ module _ (file old : List ℕ) where
         let packs = sym (to_full.as_writer file n full_read formed (length old)) ∙ e in
         let four = length_shorts file 1 4 in
         let u = board.unpack_packed (short_taps_in file) (short_claim_in file) (length old) four packs in
-        let r = board-answers.returned written n (digest (short_claim_in file)) u.0 in
+        let r = board_answers.returned written n (digest (short_claim_in file)) u.0 in
         let tests = full_by_room written m n r.0 ∙ sym (short_by_room file m n full_read) in
         rw full_written
         (ap₂ (λ t d. digest_after t d) tests r.1, ap₂ (λ t s. leaves t s taps) tests u.1)
@@ -299,10 +299,10 @@ module _ (file old : List ℕ) where
 has_form : (full short : List ℕ) (d : Digest) → unpack_test full (length (taps_in full)) ≡ answer.Accepted
     → unpack_short_answer short (length (taps_in full)) ≡ Accepted d → NoFullForm short → ⊥
 has_form full short d e r h =
-    let most = (board-answers.unpack_accepted full (length (taps_in full)) e).0.permitted.high in
-    let read = (short-answers.returned short (length (taps_in full)) d r).0 in
-    let taps = (short-answers.unpack_accepted short (length (taps_in full)) read).1 in
-    omega (arith, most, taps, board-round.taps_length full, to-full-tests.above_most short h)
+    let most = (board_answers.unpack_accepted full (length (taps_in full)) e).0.permitted.high in
+    let read = (short_answers.returned short (length (taps_in full)) d r).0 in
+    let taps = (short_answers.unpack_accepted short (length (taps_in full)) read).1 in
+    omega (arith, most, taps, board_round.taps_length full, to_full_tests.above_most short h)
 
 there_and_back : (file old new : List ℕ) → AllBytes file → to_short_test file (length old) ≡ answer.Accepted
     → length new ≡ length file
@@ -311,7 +311,7 @@ there_and_back : (file old new : List ℕ) → AllBytes file → to_short_test f
 there_and_back file old new bytes e l =
     let taps = taps_in file in
     let d = digest (claim_in file) in
-    let answered = board-answers.unpack_returns file (length taps) (short_read file old e) in
+    let answered = board_answers.unpack_returns file (length taps) (short_read file old e) in
     let r = to_short_reads file old e taps in
     let read = r.0 ∙ answered in
     let formed = has_form file (to_short_leaves file old) d (short_read file old e) read in
@@ -328,7 +328,7 @@ back_and_there : (file old new : List ℕ) → AllBytes file → to_full_test fi
 back_and_there file old new bytes e l =
     let taps = short_taps_in file in
     let d = digest (short_claim_in file) in
-    let answered = short-answers.unpack_returns file (length taps) (full_read file old e) in
+    let answered = short_answers.unpack_returns file (length taps) (full_read file old e) in
     let r = to_full_reads file old e taps in
     let w = to_short_writes (to_full_leaves file old) new taps d (r.0 ∙ answered) in
     let p = request_7.writes_back file taps new d bytes answered l in (

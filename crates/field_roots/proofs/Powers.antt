@@ -15,7 +15,7 @@ use Rattle.field.proofs.Forms.{divided_lt, divided_times, times_comm, times_scal
 use Rattle.field.proofs.Modular.{pw_zero, pw_suc}
 use Rattle.field.proofs.Power.{power_pw, power_add, power_mul, times_one, times_even, times_odd}
 use Rattle.field_products.specs.CellHelpers.{word_products}
-use Rattle.field_products.proofs.Products as word-products
+use Rattle.field_products.proofs.Products as word_products
 use Rattle.field_roots.specs.PowerHelpers.{elements, products, powers}
 
 cell_products : (a b : List ℕ) (j : ℕ) → j < 12 → cell (products a b) j ≡ mul (cell a j) (cell b j)
@@ -36,7 +36,7 @@ pub elements_of_products : (a b : List ℕ) → elements (word_products a b) ≡
 unfolding elements products
 elements_of_products a b =
     tab_ext 12 (λ j. divided (cell (word_products a b) j)) (λ j. mul (cell (elements a) j) (cell (elements b) j))
-    (λ j h. ap divided (word-products.cell_products a b j h)
+    (λ j h. ap divided (word_products.cell_products a b j h)
     ∙ divided_times (cell a j) (cell b j)
     ∙ sym (ap₂ mul (cell_elements a j h) (cell_elements b j h)))
 

@@ -5,7 +5,7 @@
 ghost use Rattle.std.specs.Prelude.{◌≡◌, ◌+◌};
 ghost use Rattle.table.specs.Table.{IsTable};
 ghost use Rattle.table.specs.ReadyHelpers.{ready_matrix};
-ghost use Rattle.trace.specs.Trace.{trace as trace-of};
+ghost use Rattle.trace.specs.Trace.{trace as trace_of};
 ghost use Rattle.check_constraints.specs.ReadOff.{read_taps};
 ghost use Rattle.check_steps.specs.StepHelpers.{back_ready};
 ghost use Rattle.trace_read_off.specs.TapHelpers.{HasTap};
@@ -64,7 +64,7 @@ pub fn rewrite(
     requires { (inverse.now ≡ back_ready table.now) × Rewritable table.now trace.old k tap.0 words
         × (ready.now ≡ ready_matrix table.now) }
     ensures { trace.new
-        ≡ trace-of table.now
+        ≡ trace_of table.now
         (altered (read_taps table.now trace.old k) tap.0 words) k }
 {
     let hashes = 3 * k;

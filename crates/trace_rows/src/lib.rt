@@ -8,7 +8,7 @@ ghost use Rattle.field.specs.Field.{Canonical};
 ghost use Rattle.field_words.specs.Words.{CanonicalTo};
 ghost use Rattle.table.specs.Table.{IsTable, initial_constant};
 ghost use Rattle.table.specs.ReadyHelpers.{ready_matrix};
-ghost use Rattle.trace.specs.Trace.{row as Cells-of};
+ghost use Rattle.trace.specs.Trace.{row as cells_of};
 ghost use Rattle.numbers.specs.Numbers.{width, within};
 ghost use Rattle.check_constraints.specs.Constraints.{round, plus_first, forward, back};
 ghost use Rattle.check_steps.specs.StepHelpers.{back_ready, columns};
@@ -22,7 +22,7 @@ pub mod view;
 // The cells of the row, by value.
 pub fn cells(trace: &[u64], row: RowNumber) -> [u64; WIDTH]
     requires { HasRow trace.now row.0 }
-    ensures { (result ≡ Cells-of trace.now row.0) × CanonicalTo width result }
+    ensures { (result ≡ cells_of trace.now row.0) × CanonicalTo width result }
 {
     let lent = view::trace_row(trace, row);
     let mut out = [0u64; WIDTH];
@@ -35,7 +35,7 @@ pub fn cells(trace: &[u64], row: RowNumber) -> [u64; WIDTH]
 // One cell of the row.
 pub fn cell(trace: &[u64], row: RowNumber, column: usize) -> u64
     requires { HasRow trace.now row.0 × (column < width) }
-    ensures { (result ≡ cell (Cells-of trace.now row.0) column) × Canonical result }
+    ensures { (result ≡ cell (cells_of trace.now row.0) column) × Canonical result }
 {
     let lent = view::trace_row(trace, row);
     lent[column]

@@ -6,7 +6,7 @@ use native.Mathlib.Omega.{arith}
 use Rattle.refusals.specs.Refusals.{digest}
 use Rattle.refusals.proofs.Laws.{digest_turned_back, digest_returned}
 use Rattle.table.proofs.Theorems.{ready_left_lem}
-use Rattle.hash.specs.Hash.{chain as chain-of}
+use Rattle.hash.specs.Hash.{chain as chain_of}
 use Rattle.hash_chain.specs.Answers.{chain_answer}
 use Rattle.hash_chain.proofs.Answers.{chain_inputs, digest_take}
 use Rattle.hash_chain.proofs.chain.Goals as goal
@@ -26,7 +26,7 @@ last_state-last-requires c =
     )
 
 pub returns : goal.returns
-unfolding chain_answer chain-of
+unfolding chain_answer chain_of
 returns c =
     digest_returned c.test_chain-answer.ensures.0 c.in-Accepted.is
     (digest_take c.last_state-last.result ∙ ap digest c.last_state-last.ensures)
