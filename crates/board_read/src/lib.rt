@@ -19,6 +19,9 @@ fn value(high: Word, middle: Word, low: Word) -> u64
     ((high.payload() as u64) << 60) | ((middle.payload() as u64) << 30) | (low.payload() as u64)
 }
 
+// The largest payload of an element's first word: one more makes 2^64.
+const MOST_HIGH: u32 = 15;
+
 // The three kinds of the element whose first word is word `index`, then its value. A payload above 15 makes 2^64 or
 // more, which no shift here may see.
 pub fn test(file: &[u8], index: usize) -> Answer
@@ -37,7 +40,7 @@ pub fn test(file: &[u8], index: usize) -> Answer
     if low.kind() != 3 {
         return Answer::Refused(Refusal::WrongKind(index + 2));
     }
-    if 15 < high.payload() {
+    if MOST_HIGH < high.payload() {
         return Answer::Refused(Refusal::WrongValue(index));
     }
     if !Fp::is_canonical(value(high, middle, low)) {

@@ -44,6 +44,9 @@ fn test_whole(file: &[u8], index: usize) -> Answer
     Answer::Accepted
 }
 
+// The kind of the word of an element that has no other.
+const SMALL: u32 = 3;
+
 // What reading the element finds whose first word is word `index`: 12 where the input ends, 13; after its three words
 // 14, then 18.
 fn test(file: &[u8], index: usize) -> Answer
@@ -53,7 +56,7 @@ fn test(file: &[u8], index: usize) -> Answer
     if words <= index {
         return Answer::Refused(Refusal::FileLength);
     }
-    if Word::read(file, index).kind() == 3 {
+    if Word::read(file, index).kind() == SMALL {
         return Answer::Accepted;
     }
     if words <= index + 2 {
@@ -75,7 +78,7 @@ pub fn read(file: &[u8], index: usize) -> Element
     ensures { (result.value ≡ short_at file.now index) × (result.next ≡ next_word file.now index) }
 {
     let first = Word::read(file, index);
-    if first.kind() == 3 {
+    if first.kind() == SMALL {
         return Element {
             value: first.payload() as u64,
             next: index + 1,

@@ -17,6 +17,11 @@ use refusals::PairAnswer;
 // Raised with LEMONCOLUMN_INTERFACE of include/lemoncolumn.h.
 const INTERFACE: u64 = 3;
 
+// The words of the destination of Hash, a final state, and of that of Unhash, a pair of taps.
+const STATE_ROOM: usize = WIDTH;
+
+const PAIR_ROOM: usize = PAIR_WORDS;
+
 // The number of these calls, which a caller compares with the one that it was compiled for before it makes any other.
 #[unsafe(no_mangle)]
 pub extern "C" fn lemoncolumn_interface() -> u64
@@ -51,7 +56,7 @@ pub extern "C" fn lemoncolumn_hash(
         (hash_call table.now (w0 ∷ w1 ∷ w2 ∷ w3 ∷ w4 ∷ w5 ∷ w6 ∷ w7 ∷ []) (length output.old)) result
         output.old output.new }
 {
-    if output.len() != WIDTH {
+    if output.len() != STATE_ROOM {
         return call_results::answer_code(call_answers::hash_no_room(table));
     }
     call_results::hand_over_state(hash::hash(table, [w0, w1, w2, w3, w4, w5, w6, w7]), output)
@@ -173,7 +178,7 @@ pub extern "C" fn lemoncolumn_unhash(
         (s0 ∷ s1 ∷ s2 ∷ s3 ∷ s4 ∷ s5 ∷ s6 ∷ s7 ∷ s8 ∷ s9 ∷ s10 ∷ s11 ∷ []) result
         pair.old pair.new }
 {
-    if pair.len() != PAIR_WORDS {
+    if pair.len() != PAIR_ROOM {
         return call_results::answer_code(call_answers::hash_no_room(table));
     }
     match hash_undo::unhash(table, [s0, s1, s2, s3, s4, s5, s6, s7, s8, s9, s10, s11]) {

@@ -73,12 +73,12 @@ returns-then-kind-ne3 c =
     (kind_is _ _ _ _ c.kind-2.ensures c.read-middle.ensures c.if-kind-ne2.false)
     (unless_refused _ (kind_is_not _ _ _ _ c.kind-3.ensures c.read-low.ensures c.if-kind-ne3.true) refl)
 
-pub returns-then-payload-gt15 : goal.returns-then-payload-gt15
-returns-then-payload-gt15 c =
+pub returns-then-payload-gt-MOST_HIGH : goal.returns-then-payload-gt-MOST_HIGH
+returns-then-payload-gt-MOST_HIGH c =
     let a = c.args in
     let p = c.payload.ensures ∙ ap payload_of c.read-high.ensures in
     let large : P ≤ element_at a.file.now a.index =
-    omega (arith, no_word a.file.now a.index (rw p at c.if-payload-gt15.true)) in
+    omega (arith, no_word a.file.now a.index (rw p at c.if-payload-gt-MOST_HIGH.true)) in
     three_kinds _ _ (kind_is _ _ _ _ c.kind.ensures c.read-high.ensures c.if-kind-ne1.false)
     (kind_is _ _ _ _ c.kind-2.ensures c.read-middle.ensures c.if-kind-ne2.false)
     (kind_is _ _ _ _ c.kind-3.ensures c.read-low.ensures c.if-kind-ne3.false)

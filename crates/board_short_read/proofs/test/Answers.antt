@@ -17,17 +17,17 @@ returns-then-words-index c =
     let a = c.args in
     unless_refused _ (lt-leb (4 * a.index + 4) (length a.file.now) (omega arith)) refl
 
-pub returns-then-kind-eq3 : goal.returns-then-kind-eq3
-returns-then-kind-eq3 c =
+pub returns-then-kind-eq-SMALL : goal.returns-then-kind-eq-SMALL
+returns-then-kind-eq-SMALL c =
     let kind = c.kind.ensures ∙ ap kind_of c.read.ensures in
-    sym (one_test _ _ (sym kind ∙ c.if-kind-eq3.true) (omega arith))
+    sym (one_test _ _ (sym kind ∙ c.if-kind-eq-SMALL.true) (omega arith))
 
 pub test_cut-requires : goal.test_cut-requires
 test_cut-requires c =
     let kind = c.kind.ensures ∙ ap kind_of c.read.ensures in
-    (omega arith, omega arith, ne_eqb _ _ (λ e. c.if-kind-eq3.false (kind ∙ e)))
+    (omega arith, omega arith, ne_eqb _ _ (λ e. c.if-kind-eq-SMALL.false (kind ∙ e)))
 
 pub test_whole-requires : goal.test_whole-requires
 test_whole-requires c =
     let kind = c.kind.ensures ∙ ap kind_of c.read.ensures in
-    (omega arith, ne_eqb _ _ (λ e. c.if-kind-eq3.false (kind ∙ e)))
+    (omega arith, ne_eqb _ _ (λ e. c.if-kind-eq-SMALL.false (kind ∙ e)))

@@ -5,16 +5,16 @@ use Rattle.call_results.specs.Code.{answer_code}
 use Rattle.call_answers.proofs.Answers.{unhash_handed, unhash_refused, unhash_stopped}
 use Rattle.lemoncolumn.proofs.lemoncolumn_unhash.Goals as goal
 
-pub returns-then-pair-ne-PAIR_WORDS : goal.returns-then-pair-ne-PAIR_WORDS
-returns-then-pair-ne-PAIR_WORDS c =
-    unhash_stopped _ _ _ _ c.if-pair-ne-PAIR_WORDS.true (c.answer_code.ensures ∙ ap answer_code c.hash_no_room.ensures)
+pub returns-then-pair-ne-PAIR_ROOM : goal.returns-then-pair-ne-PAIR_ROOM
+returns-then-pair-ne-PAIR_ROOM c =
+    unhash_stopped _ _ _ _ c.if-pair-ne-PAIR_ROOM.true (c.answer_code.ensures ∙ ap answer_code c.hash_no_room.ensures)
 
 pub returns-in-Accepted : goal.returns-in-Accepted
 returns-in-Accepted c =
-    unhash_handed _ _ _ c.if-pair-ne-PAIR_WORDS.false _ _ (sym c.unhash.ensures ∙ c.in-Accepted.is)
+    unhash_handed _ _ _ c.if-pair-ne-PAIR_ROOM.false _ _ (sym c.unhash.ensures ∙ c.in-Accepted.is)
     c.put_pair.ensures
 
 pub returns-in-Refused : goal.returns-in-Refused
 returns-in-Refused c =
-    unhash_refused _ _ _ c.if-pair-ne-PAIR_WORDS.false _ _ (sym c.unhash.ensures ∙ c.in-Refused.is)
+    unhash_refused _ _ _ c.if-pair-ne-PAIR_ROOM.false _ _ (sym c.unhash.ensures ∙ c.in-Refused.is)
     c.refusal_code.ensures
