@@ -1,7 +1,8 @@
 #!/bin/sh
 # Runs the built program on inputs made here, and compares each line that it prints with the one that document 01 gives
 # ("The board file", "What is turned back", "Known days"; docs/DECISIONS.md, 9), standard error staying empty; then has
-# its reads and writes fail, where it prints no line. Stops at the first difference, which it names.
+# its reads and writes fail, where it prints no line. Stops at the first difference, which it names. Needs the program,
+# which tools/build builds.
 set -eu
 cd "$(dirname "$0")/.."
 
@@ -39,8 +40,8 @@ expect() {
     compare "$1" "$2"
 }
 
-# The program, started with the redirections $3, prints nothing; standard error gets the line $2. The exit status is 0:
-# the language has no other.
+# The program, started with the redirections $3, prints nothing; standard error gets the line $2. The exit status is 0
+# here too.
 no_answer() {
     count=$((count + 1))
     status=0
@@ -174,5 +175,8 @@ unwritten='clear: standard output cannot be written'
 no_answer 'standard output is closed' "$unwritten" '<"$work/input" >&-'
 [ ! -c /dev/full ] || no_answer 'standard output is full' "$unwritten" '<"$work/input" >/dev/full'
 no_answer 'standard input and output are closed' "$unread" '<&- >&-'
+exec 3<>"$work/pipe" 4>"$work/pipe" 3>&-
+no_answer 'a pipe that nobody reads' "$unwritten" '<"$work/input" >&4'
+exec 4>&-
 
 echo "tests/clear.sh: $count inputs, each answered with its line, or with none where a read or a write fails"

@@ -5,8 +5,8 @@
 set -eu
 cd "$(dirname "$0")/.."
 
-rt staticlib lemoncolumn
-rt staticlib speed_probes
+tools/build lemoncolumn
+tools/build speed_probes
 
 room=$(mktemp -d)
 trap 'rm -rf "$room"' EXIT

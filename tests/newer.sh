@@ -1,8 +1,8 @@
 #!/bin/sh
-# The library for processors of x86-64-v3, which tools/staticlib-for builds and holds to the kit's way of building: its
-# hot loops are vector code of that level, it asks for no more than the plain one may, and the example for C and tests
-# of the Rust side pass with it. Runs nothing where the processor is of a lower level. Needs the plain library, which
-# tests/library.sh builds and which must stay as it is.
+# The library for processors of x86-64-v3, which tools/staticlib-for has the kit build: its hot loops are vector code of
+# that level, it asks for no more than the plain one may, and the example for C and tests of the Rust side pass with it.
+# Runs nothing where the processor is of a lower level. Needs the plain library, which tests/library.sh builds and which
+# must stay as it is.
 set -eu
 cd "$(dirname "$0")/.."
 
@@ -31,15 +31,14 @@ if [ -n "$missing" ]; then
     exit 0
 fi
 
-# ---- the archive. The kit ran again for it, with another compiler in front of its own, and must have written what it
-# writes without.
+# ---- the archive. The plain one was built again beside it, and must be the same, byte by byte.
 [ -f "$plain" ] || fail "there is no $plain"
 cp "$plain" "$work/plain.a"
 tools/staticlib-for x86-64-v3
 cmp "$work/plain.a" "$plain" || fail "$plain is another than before"
 alone "$folder/liblemoncolumn.a"
 
-# The hot loops of the file $1 make four products at once (vpmuludq in registers of 256 bits), as no plain x86-64 does.
+# The hot loops of the file $1 make four products at once (vpmuludq in registers of 256 bits), as the plain library cannot.
 wide() {
     objdump -d --no-show-raw-insn "$1" >"$work/code"
     for function in matrix_ready::mix field_roots::joined; do

@@ -1,4 +1,4 @@
-//! Links the probes of speed, which `rt staticlib speed_probes` writes to the repository's
+//! Links the probes of speed, which `tools/build speed_probes` writes to the repository's
 //! target/staticlib. Where `tools/staticlib-for x86-64-v3` has written the library for
 //! that level there, it is linked too, with names that are not the plain library's.
 
@@ -23,7 +23,7 @@ fn main() {
     let library = folder.join("libspeed_probes.a");
     assert!(
         library.is_file(),
-        "there is no {}: write it by `rt staticlib speed_probes`",
+        "there is no {}: write it by `tools/build speed_probes`",
         library.display()
     );
     println!("cargo:rustc-link-search=native={}", folder.display());

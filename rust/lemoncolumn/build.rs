@@ -1,4 +1,4 @@
-//! Links the proved library, which `rt staticlib lemoncolumn` writes to the repository's
+//! Links the proved library, which `tools/build lemoncolumn` writes to the repository's
 //! target/staticlib. `LEMONCOLUMN_LIB_DIR`, an absolute path, names another folder to
 //! take liblemoncolumn.a from, such as one of `tools/staticlib-for`. Nothing is downloaded.
 
@@ -22,7 +22,7 @@ fn main() {
     println!("cargo:rerun-if-changed={}", library.display());
     assert!(
         library.is_file(),
-        "there is no {}: write it by `rt staticlib lemoncolumn`",
+        "there is no {}: write it by `tools/build lemoncolumn`",
         library.display()
     );
     println!("cargo:rustc-link-search=native={}", folder.display());

@@ -1,7 +1,7 @@
 //! The proved library's time beside that of the second implementation (a), of the
 //! yardstick (b), and of the yardstick that reduces late (c), as ratios of one run.
 //!
-//!     rt staticlib lemoncolumn && rt staticlib speed_probes && tools/staticlib-for x86-64-v3
+//!     tools/build lemoncolumn && tools/build speed_probes && tools/staticlib-for x86-64-v3
 //!     cd rust && cargo run --release --offline -p bench
 //!
 //! prints the tables of docs/SPEED.md. The last of the three archives, linked by

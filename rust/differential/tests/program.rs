@@ -1,7 +1,7 @@
 //! The program `clear` on thousands of inputs, whole and in pieces: the line it
 //! prints is the one the case was made for, and the second implementation's.
 //!
-//! The program is target/bin/clear, which `rt check clear` writes.
+//! The program is target/bin/clear, which `tools/build clear` writes.
 
 use differential::seeds;
 use inputs::{clear_cases, ClearCase, Random};
@@ -18,7 +18,7 @@ fn program() -> PathBuf {
     let program = Path::new(env!("CARGO_MANIFEST_DIR")).join("../../target/bin/clear");
     assert!(
         program.is_file(),
-        "there is no {}: write it by `rt check clear`",
+        "there is no {}: write it by `tools/build clear`",
         program.display()
     );
     program
