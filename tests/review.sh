@@ -28,16 +28,19 @@ find crates/*/src -name '*.rt' | sort | while read -r file; do
         open && /\{$/ { print at "::" type name "\t" head; open = 0 }' "$file"
 done >"$work/functions"
 [ -s "$work/functions" ] || wrong "no public function was found"
+# The functions of a trait that a type implements need no `pub`. So there are none, but what std writes for these two.
+grep -nE '^ *(unsafe )?impl[ <].* for |#\[derive\(' crates/*/src/*.rt | grep -v '#\[derive(Clone, Copy)\]$' |
+    sed 's|^|tests/review.sh: |; s|$|: a trait beside Clone and Copy|' >>"$work/wrong"
 
 # ---- what a contract may name in the place of an equation. RELATION THEOREM: the theorem says that the relation allows
 # one answer; with `=` the relation is a record of equations, or of such relations. `divided` stands for an equation of
 # the element that a word below p stands for
 relations='
-Prepares prepares-unique
-PrepareCall prepare-call-unique
-Inverts inverts-unique
-Clears clears-unique
-divided divided-unique
+Prepares prepares_unique
+PrepareCall prepare_call_unique
+Inverts inverts_unique
+Clears clears_unique
+divided divided_unique
 HandsOver =
 HandsOverState =
 BuildCall =
@@ -53,7 +56,7 @@ ToFullCall =
 '
 named=" $(echo "$relations" | awk '{ print $1 }' | tr '\n' ' ') "
 echo "$relations" | grep . | while read -r relation theorem; do
-    cut -f 2 "$work/functions" | grep -q "ensures.*[( ]$relation " || wrong "no contract names the relation $relation"
+    cut -f 2 "$work/functions" | grep -q " ensures.*[( ]$relation " || wrong "no contract names the relation $relation"
     if [ "$theorem" = = ]; then
         awk -v relation="$relation" -v named="$named" '
             index($0, "pub record " relation " (") == 1 { on = 1; head = "" }
@@ -97,7 +100,8 @@ operations="$operations board_to_full::to_full clear_answer::clear"
 awk -F '\t' -v operations=" $operations " -v named="$named" -v structs="$work/structs" '
     function bad(text) { print "tests/review.sh: " name ": " text }
     function apart(text) { text = " " text " "; gsub(/[() ]+/, " ", text); return text }
-    function speaks(text, word) { return index(apart(text), " " word " ") }
+    # whether the text has the word, or a field of what it names
+    function speaks(text, word) { text = apart(text); return index(text, " " word " ") || index(text, " " word ".") }
     function deeper(text) { return gsub(/\(/, "", text) - gsub(/\)/, "", text) }
     # a part of an ensures, without brackets around the whole
     function bare(text, i, depth) {
@@ -110,41 +114,53 @@ awk -F '\t' -v operations=" $operations " -v named="$named" -v structs="$work/st
         return text
     }
     # what a part of an ensures equates with a definition: the result, a field of it, or what is left in a buffer
-    function part_says(text, result, flat, left, right, word, buffer) {
+    function part_says(text, flat, left, right, word, buffer) {
         split(text, word, " ")
-        flat = text
-        while (gsub(/\([^()]*\)/, "_", flat)) continue
+        flat = flattened(text)
         if (flat ~ / (→|⊎|×) /) return
         if (index(named, " " word[1] " ")) {
-            if (word[1] == "divided" && !speaks(promise, "Canonical " result)) return
-            if (speaks(text, result)) said["result"] = 1
-            for (buffer in written) if (index(text, "(" buffer " .exit)")) said["&" buffer] = 1
+            if (word[1] == "divided" && !index(apart(promise), " Canonical result ")) return
+            if (speaks(text, "result")) said["result"] = 1
+            for (buffer in written) if (speaks(text, buffer ".new")) said["&" buffer] = 1
             return
         }
         if (gsub(/ ≡ /, "", flat) != 1) return
         left = substr(text, 1, index(text, " ≡ ") - 1)
         right = substr(text, length(left " ≡ ") + 1)
-        if (index(right, " .exit)")) return
-        for (buffer in written) if (left == "now (" buffer " .exit)") said["&" buffer] = 1
-        if (right ~ "^[A-Z][A-Za-z]*\\.[A-Z][A-Za-z]* " result "$" && !speaks(left, result)) said["result"] = 1
-        if (speaks(right, result)) return
-        if (left == result || left == "now " result) said["result"] = 1
-        if (left ~ "^" result " \\.[a-z0-9_]+$") said[substr(left, length(result " ") + 1)] = 1
+        if (right ~ /\.(new|exit)/) return
+        for (buffer in written) if (left == buffer ".new") said["&" buffer] = 1
+        if (right ~ /^[A-Z][A-Za-z]*\.[A-Z][A-Za-z]* result$/ && !speaks(left, "result")) said["result"] = 1
+        if (speaks(right, "result")) return
+        if (left == "result" || left == "result.now") said["result"] = 1
+        if (left ~ /^result\.[a-z0-9_]+$/) said[substr(left, length("result") + 1)] = 1
     }
-    function ensures_say(clauses, i, j, n, m, text, part, piece, result) {
-        n = split(clauses, part, / ensures \{ λ /)
-        for (i = 2; i <= n; i++) {
-            result = part[i]; sub(/\..*/, "", result)
-            text = substr(part[i], index(part[i], "⌜ ") + length("⌜ "))
-            m = split(substr(text, 1, index(text, " ⌝") - 1), piece, / × /)
+    function flattened(text) { while (gsub(/\([^()]*\)/, "_", text)) continue; return text }
+    function clause_says(clause, j, m, text, piece) {
+        if (flattened(clause) ~ / (→|⊎) /) return
+        m = split(clause, piece, / × /)
+        text = ""
+        for (j = 1; j <= m; j++) {
+            text = text (text == "" ? "" : " × ") piece[j]
+            if (deeper(text)) continue
+            part_says(bare(text))
             text = ""
-            for (j = 1; j <= m; j++) {
-                text = text (text == "" ? "" : " × ") piece[j]
-                if (deeper(text)) continue
-                part_says(bare(text), result)
-                text = ""
-            }
         }
+    }
+    # the texts of the ensures of a function, named or not, and of all of them together
+    function ensures_of(text, i, depth) {
+        promise = ""; clauses = 0
+        while (match(text, / ensures( [a-z0-9_]+)? \{ /)) {
+            text = substr(text, RSTART + RLENGTH)
+            depth = 1
+            for (i = 1; depth && i <= length(text); i++) {
+                if (substr(text, i, 1) == "{") depth++
+                if (substr(text, i, 1) == "}") depth--
+            }
+            clause[++clauses] = substr(text, 1, i - length(" } "))
+            promise = promise (promise == "" ? "" : " × ") clause[clauses]
+            text = substr(text, i)
+        }
+        return clauses
     }
     BEGIN { while ((getline line < structs) > 0) { type = line; sub(/ .*/, "", type); fields[type] = line } }
     FNR == NR { head[$1] = $2; next }
@@ -158,7 +174,7 @@ awk -F '\t' -v operations=" $operations " -v named="$named" -v structs="$work/st
         if (part[2] == "no" && (index(operations, " " name " ") || head[name] ~ /pub extern/))
             bad("an entry point that the table does not call one")
         if (part[2] == "yes" && head[name] ~ /requires/) bad("an entry point with a requires")
-        promise = match(head[name], / ensures \{/) ? substr(head[name], RSTART) : ""
+        ensures_of(head[name])
         n = split(part[3], word, "`")
         if (n < 3) bad("the table quotes nothing from its contract")
         for (i = 2; i <= n; i += 2)
@@ -167,10 +183,9 @@ awk -F '\t' -v operations=" $operations " -v named="$named" -v structs="$work/st
     END {
         for (name in head) {
             if (!(name in row)) bad("a public function that is not in the table")
-            if (!match(head[name], / ensures \{/)) { bad("no ensures"); continue }
-            promise = substr(head[name], RSTART)
-            asked = substr(head[name], 1, RSTART)
-            sub(/ requires \{.*/, "", asked)
+            if (!ensures_of(head[name])) { bad("no ensures"); continue }
+            asked = head[name]
+            sub(/ (requires|ensures|ghost)[ *].*/, "", asked)
             split("", written); split("", said)
             type = asked; if (!sub(/.* -> /, "", type)) said["result"] = 1
             sub(/[ <].*/, "", type)
@@ -179,7 +194,7 @@ awk -F '\t' -v operations=" $operations " -v named="$named" -v structs="$work/st
                 written[buffer] = 1
                 asked = substr(asked, RSTART + RLENGTH)
             }
-            ensures_say(promise)
+            for (i = 1; i <= clauses; i++) clause_says(clause[i])
             n = split(fields[type], field, " ")
             for (i = 2; i <= n && said["." field[i]]; i++) continue
             if (!said["result"] && !(n && i > n)) bad("its ensures does not equate the result with a definition")
@@ -188,10 +203,11 @@ awk -F '\t' -v operations=" $operations " -v named="$named" -v structs="$work/st
         }
     }' "$work/functions" "$page" >>"$work/wrong"
 
-# ---- what the documents name in backquotes: files, and edits as CRATE/EDIT
+# ---- what the documents name in backquotes: files, and edits as CRATE/EDIT; not what the gate leaves in target/, and
+# rt in a crate's out/
 awk 'FNR == 1 { fence = 0 } /^```/ { fence = !fence; next }
     !fence { n = split($0, word, "`"); for (i = 2; i <= n; i += 2) print FILENAME "\t" word[i] }' README.md docs/*.md |
-    grep -E '	[A-Za-z0-9_.-]+/[A-Za-z0-9_./-]*$' | grep -v '	target/' | sort -u |
+    grep -E '	[A-Za-z0-9_.-]+/[A-Za-z0-9_./-]*$' | grep -vE '	(target|(crates/[a-z0-9_]+/)?out)/' | sort -u |
     while IFS='	' read -r where name; do
         [ -e "$name" ] || [ -e "crates/${name%%/*}/must-fail/${name#*/}.edit" ] && continue
         found=no
@@ -200,7 +216,7 @@ awk 'FNR == 1 { fence = 0 } /^```/ { fence = !fence; next }
     done
 
 # ---- theorems: the fields that section 1 names, and where a row of a table ends in the file that has them
-declared='^ *(pub )?(unfoldable |abbrev )?'
+declared='^ *((pub|unfoldable|abbrev) )*'
 awk 'function each(file, cell) { m = split(cell, word, "`"); for (i = 2; i <= m; i += 2) print file, word[i] }
     /^\| (U?[0-9]+(, U[0-9]+)*|TurnedBack|Program|Stored) \| .* \| .* \| / {
         split($0, part, / \| /)
@@ -226,22 +242,21 @@ done
 for statement in $statements; do
     stated=crates/demands/specs/$statement.antt
     proved=crates/demands/proofs/$statement.antt
-    theorem=$(echo "$statement" | sed 's/[A-Z0-9]/-&/g; s/^-//' | tr A-Z a-z)
+    theorem=$(echo "$statement" | sed 's/[A-Z0-9]/_&/g; s/^_//' | tr A-Z a-z)
     [ "$(grep -cx "pub record $statement : Type 0 where" "$stated")" = 1 ] ||
         wrong "$stated does not declare 'pub record $statement : Type 0 where'"
     [ "$(grep -cx "pub $theorem : $statement" "$proved")" = 1 ] ||
         wrong "$proved does not declare 'pub $theorem : $statement'"
-    grep -qE "^use Rattle·demands·specs\.specs\.$statement\.\{(.*, )?$statement\}$" "$proved" ||
+    grep -qE "^use Rattle\.demands\.specs\.$statement\.\{(.*, )?$statement(, .*)?\}$" "$proved" ||
         wrong "$proved does not take $statement from $stated"
-    ! grep -nE "^ *(pub |abbrev |unfoldable |record |data )*$statement( |\$)" "$proved" ||
+    ! grep -nE "^ *(pub |abbrev |unfoldable |opaque |record |data )*$statement( |\$)" "$proved" ||
         wrong "$proved declares a $statement of its own"
     grep -qF "| \`$theorem\` | \`$proved\` |" "$theorems" || wrong "$theorems has no row for $theorem of $proved"
     row=$(echo "$statement" | sed 's/^Demand//; s/^Request/U/')
     grep -qE "^\| $row(, U[0-9]+)* \| " "$page" || wrong "section 1 has no row for $statement"
 done
 
-# ---- section 4, a line for each edit: the edit, the fact and where it stands, then the theorems. What the prover said
-# of an edit is there after `rt must-fail` or the gate has tried it
+# ---- section 4, a line for each edit: the edit, the fact and where it stands, then the theorems
 awk '/^## / { on = /^## 4/ }
     on && /^\|.*`[a-z_]+\/[a-z0-9_]+`/ {
         split($0, part, / \| /); split(part[3], word, "`")
@@ -249,19 +264,58 @@ awk '/^## / { on = /^## 4/ }
     }' "$page" |
     tr -d '`,|' >"$work/edits"
 [ -s "$work/edits" ] || wrong "section 4 has no edits"
+
+# What the prover said first of each edit, after the gate's `rt ci`: the edit, the goal or lemma, and the function or
+# the file that it belongs to. rt cuts the line off, and then perhaps the goal's name too, which so ends in `*`.
+log=target/ci.log
+[ ! -e "$log" ] || awk '
+    function function_at(file, line, at, text, type, name) {
+        while (at < line && (getline text <file) > 0) {
+            at++
+            if (text ~ /^impl[ <]/) { type = text; sub(/^impl(<[^>]*>)? /, "", type); sub(/[ <].*/, "::", type) }
+            if (text ~ /^}/) type = ""
+            if (text ~ /^ *(pub |const |extern "C" )*fn /) {
+                name = text; sub(/.*fn /, "", name); sub(/[^a-z0-9_].*/, "", name); name = type name
+            }
+        }
+        close(file)
+        return name
+    }
+    function place_of(crate, file, line) {
+        if (file ~ /^src\//) return function_at("crates/" crate "/" file, line)
+        sub(/^proofs\//, "", file)
+        if (file ~ /(^|\/)[a-z_+][^\/]*\/(Answers|Invariants|Proof)\.antt$/) {
+            sub(/\/[^\/]*$/, "", file); sub(/\+/, "", file); gsub(/\//, "::", file)
+            return file
+        }
+        sub(/\.antt$/, "", file); gsub(/\//, ".", file)
+        return file
+    }
+    /^rt: must-fail [^ ]*\.edit: refused, as it must be: (note: )?(\.\/)?(src|proofs)\/[^ :]*:[0-9]+:[0-9]+: / {
+        edit = $3; sub(/\.edit:$/, "", edit)
+        at = $0; sub(/^.*refused, as it must be: (note: )?(\.\/)?/, "", at)
+        goal = at; sub(/ .*/, "", at); split(at, part, ":")
+        sub(/^[^`]*`/, "", goal); if (!sub(/`.*/, "", goal)) goal = goal "*"
+        print edit, goal, place_of(substr(edit, 1, index(edit, "/") - 1), part[1], part[2])
+    }' "$log" >"$work/said"
+
 while read -r edit need name ruling; do
     for theorem in $ruling; do
         grep -rqE "$declared$theorem :" crates/*/specs crates/*/proofs ||
             wrong "section 4 names the theorem $theorem, which nothing declares"
     done
-    log=target/must-fail/$edit/.log
-    [ ! -e "$log" ] ||
-        grep -E "[/:]$name(/|:|\.antt)" "$log" | grep -qE "(error:|does not close) .*\`$need\`(:|,|\$)" ||
-        wrong "$edit is not refused at $need of $name: see $log"
+    [ -e "$log" ] || continue
+    awk -v edit="$edit" '$1 == edit { print $2, $3 }' "$work/said" | while read -r goal place; do
+        case $need,::$place in
+        $goal,*::"$name") ;;
+        *) wrong "$edit is refused at $goal of $place, and not at $need of $name" ;;
+        esac
+    done
 done <"$work/edits"
 
 # ---- section 3: every file of definitions, with its lines; those to be believed rest on no helper; nothing rests on
-# proofs, or gives a symbol of the kit's library another meaning
+# proofs (`sets` is a definition, which the kit hands out with its lemmas), or gives a symbol of the kit's library, or
+# another name that is taken from it, another meaning
 awk '/^## / { on = /^## 3/ }
     /^Helpers/ { kind = "helper" }
     on && /^\| `crates/ {
@@ -280,13 +334,19 @@ while read -r file lines kind; do
     crate=${file#crates/}
     crate=${crate%%/*}
     while read -r other _ kind; do
-        [ "$kind" = helper ] || ! grep -qE "Rattle·$crate(·specs)?\.specs\.${module}[. ]" "$other" ||
+        [ "$kind" = helper ] || ! grep -qE "Rattle\.$crate\.specs\.$module([. ]|\$)" "$other" ||
             wrong "$other rests on $file, which section 3 calls a helper"
     done <"$work/listed"
 done <"$work/listed"
-grep -nF '.proofs.' crates/*/src/*.rt crates/*/specs/*.antt >>"$work/wrong" || :
-grep -nE '^[a-z ]*(_[^ ]*_|length|take|drop|getD|replicate|ones|eqb|leb|ltb|now) :' crates/*/specs/*.antt \
-    >>"$work/wrong" || :
+sets='Rattle\.std\.proofs\.lemmas\.List\.Edits\.{sets}'
+grep -nE '\.proofs\.|::proofs::' crates/*/src/*.rt crates/*/specs/*.antt |
+    sed "s/$sets//" | grep -E '\.proofs\.|::proofs::' >>"$work/wrong" || :
+kit='use (Rattle\.std|mathlib|lib)\.'
+names=$(grep -hE "$kit" crates/*/src/*.rt crates/*/specs/*.antt | sed -n 's/.*{\(.*\)}.*/\1/p' | sed 's/ as [^,]*//g' |
+    tr -d ' ' | tr ',' '\n' | grep -v '[]◌[]' | sort -u | tr '\n' '|')
+names="($names[^ ]*◌[^ ]*|now)"
+grep -nE "^ *((pub|abbrev|unfoldable|opaque) )*$names( \{[^}]*\})*( :|\$)|^ *(pub )?(record|data) $names( |\$)" \
+    crates/*/specs/*.antt >>"$work/wrong" || :
 
 # ---- the index of the decisions has each entry, and no other
 awk '/^## / { on = /^## Index/ } on && /^\| .* \| [0-9, ]+ \|$/ { sub(/ \|$/, ""); sub(/.*\| /, ""); print }' \
