@@ -38,7 +38,8 @@ tools/staticlib-for x86-64-v3
 cmp "$work/plain.a" "$plain" || fail "$plain is another than before"
 alone "$folder/liblemoncolumn.a"
 
-# The hot loops of the file $1 make four products at once (vpmuludq in registers of 256 bits), as the plain library cannot.
+# The hot loops of the file $1 make four products at once (vpmuludq in registers of 256 bits), and those of the plain
+# library two.
 wide() {
     objdump -d --no-show-raw-insn "$1" >"$work/code"
     for function in matrix_ready::mix field_roots::joined; do
