@@ -1,6 +1,6 @@
 /* Lemoncolumn: the proved operations of documents 01 and 02, for C.
  *
- * Link with liblemoncolumn.a, which `tools/build lemoncolumn` writes to target/staticlib/ (Linux on x86-64-v2).
+ * Link with liblemoncolumn.a, which `tools/build lemoncolumn` writes to target/staticlib/ (x86-64 Linux).
  *
  * Every call answers for any words and any lengths. What it needs is that each pointer is valid for the length beside
  * it (not null, aligned for its type, also where the length is 0), that what a call writes overlaps nothing else that
