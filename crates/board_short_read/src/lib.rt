@@ -78,7 +78,7 @@ pub fn read(file: &[u8], index: usize) -> Element
     ensures { (result.value ≡ short_at file.now index) × (result.next ≡ next_word file.now index) }
 {
     let first = Word::read(file, index);
-    if first.kind() == SMALL {
+    if first.kind() == 3 {
         return Element {
             value: first.payload() as u64,
             next: index + 1,

@@ -72,6 +72,9 @@ pub const CLAIMS: usize = 49;
 // One more than the last constraint.
 const END: usize = 53;
 
+// The row of a batch that the next batch's row 0 is joined to.
+const JOINED_ROW: usize = 31;
+
 // Whether the constraint applies at a row of a trace of k batches with a claim about c of them.
 pub fn applies(k: usize, c: usize, row: RowNumber, constraint: usize) -> bool
     requires { (k < 2 ^ 32) × (c < 2 ^ 32) × (row.0 < 2 ^ 40) × (1 ≤ constraint) × (constraint < 53) }
@@ -93,7 +96,7 @@ pub fn applies(k: usize, c: usize, row: RowNumber, constraint: usize) -> bool
         return row.within().0 == 30;
     }
     if constraint < CLAIMS {
-        return row.within().0 == 31 && !is_last_row(k, row);
+        return row.within().0 == JOINED_ROW && !is_last_row(k, row);
     }
     is_claim_row(c, row)
 }

@@ -34,19 +34,19 @@ read-first-requires c = first_whole _ _ c.requires
 pub overflow_add-result : goal.overflow_add-result
 overflow_add-result c = omega (arith, first_whole _ _ c.requires)
 
-pub returns-then-kind-eq-SMALL : goal.returns-then-kind-eq-SMALL
-returns-then-kind-eq-SMALL c =
-    let e = sym (kind_is _ _ _ _ c.kind.ensures c.read-first.ensures) ∙ c.if-kind-eq-SMALL.true in
+pub returns-then-kind-eq3 : goal.returns-then-kind-eq3
+returns-then-kind-eq3 c =
+    let e = sym (kind_is _ _ _ _ c.kind.ensures c.read-first.ensures) ∙ c.if-kind-eq3.true in
     (c.payload.ensures ∙ ap payload_of c.read-first.ensures ∙ sym (one_at _ _ e), sym (one_next _ _ e))
 
 pub read-requires : goal.read-requires
-read-requires c = three _ _ _ _ c.kind.ensures c.read-first.ensures c.if-kind-eq-SMALL.false c.requires
+read-requires c = three _ _ _ _ c.kind.ensures c.read-first.ensures c.if-kind-eq3.false c.requires
 
 pub overflow_add-result-2 : goal.overflow_add-result-2
 overflow_add-result-2 c =
-    omega (arith, (three _ _ _ _ c.kind.ensures c.read-first.ensures c.if-kind-eq-SMALL.false c.requires).0)
+    omega (arith, (three _ _ _ _ c.kind.ensures c.read-first.ensures c.if-kind-eq3.false c.requires).0)
 
 pub returns : goal.returns
 returns c =
-    let e = other _ _ _ _ c.kind.ensures c.read-first.ensures c.if-kind-eq-SMALL.false in
+    let e = other _ _ _ _ c.kind.ensures c.read-first.ensures c.if-kind-eq3.false in
     (c.read.ensures ∙ sym (three_at _ _ e), sym (three_next _ _ e))

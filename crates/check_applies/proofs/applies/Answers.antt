@@ -1,7 +1,7 @@
 -- Where a constraint applies: the code's tests find its family, whose rows are the definition's (`Families` of the
 -- constraints).
 -- Assumes nothing.
-use mathlib.Core.Path.{sym, ◌∙◌}
+use mathlib.Core.Path.{◌≡◌, sym, ◌∙◌}
 use borrow.Author.Tests.{eq-eqb, ne_eqb}
 use Rattle.check_constraints.proofs.Families.{applies_zeros, applies_new_zeros, applies_starts, applies_middle}
 use Rattle.check_constraints.proofs.Families.{applies_ends, applies_joins, applies_claims}
@@ -28,23 +28,24 @@ pub returns-then-constraint-lt-JOINS : goal.returns-then-constraint-lt-JOINS
 returns-then-constraint-lt-JOINS c =
     rw c.within-then-constraint-lt-JOINS.ensures (sym (applies_ends _ _ _ _ c.if-constraint-lt-ENDS.false c.if-constraint-lt-JOINS.true))
 
-pub returns-then-within-eq31 : goal.returns-then-within-eq31
-returns-then-within-eq31 c =
+pub returns-then-within-eq-JOINED_ROW : goal.returns-then-within-eq-JOINED_ROW
+returns-then-within-eq-JOINED_ROW c =
     let a = c.args in
+    let joined : c.within-then-constraint-lt-CLAIMS.result.0 ≡ 31 = c.if-within-eq-JOINED_ROW.true in
     rw (
       applies_joins a.k a.c a.row.0 a.constraint c.if-constraint-lt-JOINS.false c.if-constraint-lt-CLAIMS.true,
       ← c.within-then-constraint-lt-CLAIMS.ensures,
-      eq-eqb _ _ c.if-within-eq31.true,
+      eq-eqb _ _ joined,
       c.is_last_row.ensures,
     )
 
-pub returns-else-within-eq31 : goal.returns-else-within-eq31
-returns-else-within-eq31 c =
+pub returns-else-within-eq-JOINED_ROW : goal.returns-else-within-eq-JOINED_ROW
+returns-else-within-eq-JOINED_ROW c =
     let a = c.args in
     rw (
       applies_joins a.k a.c a.row.0 a.constraint c.if-constraint-lt-JOINS.false c.if-constraint-lt-CLAIMS.true,
       ← c.within-then-constraint-lt-CLAIMS.ensures,
-      ne_eqb _ _ c.if-within-eq31.false,
+      ne_eqb _ _ c.if-within-eq-JOINED_ROW.false,
     )
 
 pub returns : goal.returns
