@@ -40,7 +40,7 @@ pub fn row<'a>(b: Batch<'a>, within: BatchRow) -> &'a [u64]
     row_at(b.trace, b.batch, within)
 }
 
-// The same with plain parameters: whoever calls this one needs no walk.
+// The same with plain parameters.
 pub fn row_of(trace: &[u64], batch: BatchNumber, within: BatchRow) -> &[u64]
     requires { LentRow trace.now batch.0 within.0 }
     ensures { result.now ≡ row trace.now (batch_rows * batch.0 + within.0) }
