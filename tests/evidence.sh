@@ -116,10 +116,16 @@ printf '%s\n' crates/*/must-fail/*.edit | sed 's|^crates/||; s|/must-fail/|/|' |
         function shows_fact(said, wanted, part) {
             # a goal that no proof file answers, and that the tactics leave open
             if (said ~ /^note: (\.\/)?src\/[^ :]*\.rt:[0-9]+:[0-9]+: it is not proved that /) return 1
+            # or that is false at values which the facts known there allow
+            if (said ~ /^note: (\.\/)?src\/[^ :]*\.rt:[0-9]+:[0-9]+: `search` found no proof \(`[^`]*`\); the facts /)
+                return 1
             if (said !~ /^(\.\/)?proofs\/[^ :]*\.antt:[0-9]+:[0-9]+: error: `[^`]*`: /) return 0
             if (said ~ /^[^`]*`[^`]*[_-]spec`: /) return 0
             sub(/^[^`]*`[^`]*`: /, "", said)
-            if (said ~ /^(as printed|computed as far as they go), the two types /) return 1
+            if (said ~ /^(as printed|computed as far as they go), the two (types|sides) /) return 1
+            # an equation that `cc` does not find, a goal that `grind` does not
+            if (said ~ /^list the missing equation with its arguments, or rewrite by `rw` or `simp`/) return 1
+            if (said ~ /^`grind` found no proof\. /) return 1
             wanted = said
             if (sub(/^expected type `/, "", wanted)) {
                 sub(/`.*/, "", wanted)

@@ -7,18 +7,16 @@ use native.Mathlib.Omega.{arith}
 use borrow.Author.Tests.{eq-eqb, ne_eqb, eqb-true, le-leb}
 use lib.Dec.{eqb, leb}
 use lib.ListN.{length}
+use Rattle.std.specs.Prelude.{Ok, Err}
 use Rattle.field_words.specs.Words.{AllCanonical, first_bad, canonical_words}
 use Rattle.field_words.proofs.Laws.{test_good, good_test}
 use Rattle.numbers.specs.Numbers.{IsPermittedTo, permitted, tap_word_batches, is_tap_length}
 use Rattle.numbers.proofs.Laws.{permitted_sound, permitted_complete, tap_length_sound, tap_length_complete}
-use Rattle.refusals.specs.Refusals.{digest}
+use Rattle.refusals.specs.Answers.{Answer}
 use Rattle.refusals.specs.declared.Refusal.{Refusal}
 use Rattle.refusals.specs.declared.Refusal.TheVariants.{TapLength, TapWord, DestinationLength, ClaimWord}
 use Rattle.refusals.specs.declared.Refusal.TheVariants.{FileLength, WrongKind, WrongValue}
-use Rattle.refusals.specs.declared.Answer.TheVariants.{Accepted, Refused}
-use Rattle.refusals.specs.declared.Digest.{Digest}
-use Rattle.refusals.specs.declared.DigestAnswer.TheVariants as digest_answer
-use Rattle.refusals.proofs.Laws.{passed, both_accepted, digest_accepted, AnswerEnds, unless_ends, one_cause}
+use Rattle.refusals.proofs.Laws.{passed, both_accepted, value_accepted, AnswerEnds, unless_ends, one_cause}
 use Rattle.board_words.specs.Words.{kind_of, word_at}
 use Rattle.board_words.specs.Elements.{elements_test}
 use Rattle.board_words.proofs.Tests.{each_accepted, all_accepted}
@@ -35,7 +33,7 @@ pub record IsPacked (taps claim : List ℕ) (size k : ℕ) : Type 0 where
   pub claim_canonical : AllCanonical claim
   pub taps_canonical : AllCanonical taps
 
-pub pack_accepted : (taps claim : List ℕ) (size : ℕ) → pack_test taps claim size ≡ Accepted
+pub pack_accepted : (taps claim : List ℕ) (size : ℕ) → pack_test taps claim size ≡ Ok tt
     → IsPacked taps claim size (tap_word_batches (length taps))
 unfolding pack_test
 pack_accepted taps claim size e =
@@ -53,7 +51,7 @@ pack_accepted taps claim size e =
     }
 
 pub pack_complete : (taps claim : List ℕ) (size k : ℕ) → IsPacked taps claim size k
-    → pack_test taps claim size ≡ Accepted
+    → pack_test taps claim size ≡ Ok tt
 unfolding pack_test
 pack_complete taps claim size k h =
     let t = tap_length_complete most_file_batches (length taps) k h.taps_size h.permitted in
@@ -63,7 +61,7 @@ pack_complete taps claim size k h =
 -- ---- word 0
 
 -- word 0 is accepted exactly where it is the count word of a permitted k
-pub count_accepted : (w : ℕ) → count_test w ≡ Accepted
+pub count_accepted : (w : ℕ) → count_test w ≡ Ok tt
     → (w ≡ count_word (count_in w)) × IsPermittedTo most_file_batches (count_in w)
 unfolding count_test
 count_accepted w e =
@@ -74,7 +72,7 @@ count_accepted w e =
     (word, permitted_sound most_file_batches (count_in w) c.0)
 
 pub count_complete : (k : ℕ) → IsPermittedTo most_file_batches k
-    → (count_in (count_word k) ≡ k) × (count_test (count_word k) ≡ Accepted)
+    → (count_in (count_word k) ≡ k) × (count_test (count_word k) ≡ Ok tt)
 unfolding count_test
 count_complete k p =
     let k-is : count_in (count_word k) ≡ k = omega (arith, p.high) in
@@ -83,17 +81,26 @@ count_complete k p =
     let right = ap (permitted most_file_batches) k-is ∙ permitted_complete most_file_batches k p in
     (k-is, rw (eq-eqb _ _ kind, eq-eqb _ _ spare, right))
 
+-- as it is read: w is word 0, t what its test answered, k what it counts
+module _ (file : List ℕ) {w : ℕ} (is : w ≡ word_at file 0) where
+  pub word_tested : {t a : Answer} → t ≡ count_test w → t ≡ a → count_test (word_at file 0) ≡ a
+  word_tested test e = sym (test ∙ ap count_test is) ∙ e
+
+  pub word_counts : {k : ℕ} → k ≡ count_in w → batches_in file ≡ k
+  unfolding batches_in
+  word_counts count = ap count_in (sym is) ∙ sym count
+
 -- it is refused for its kind, or else, where it is no such word, with 14
-pub count_kind : (w : ℕ) → (kind_of w ≡ 0 → ⊥) → count_test w ≡ Refused (WrongKind 0)
+pub count_kind : (w : ℕ) → (kind_of w ≡ 0 → ⊥) → count_test w ≡ Err (WrongKind 0)
 unfolding count_test
 count_kind w n = rw (ne_eqb _ _ n)
 
 pub count_value : (w : ℕ) → kind_of w ≡ 0 → ((k : ℕ) → IsPermittedTo most_file_batches k → w ≡ count_word k → ⊥)
-    → count_test w ≡ Refused (WrongValue 0)
+    → count_test w ≡ Err (WrongValue 0)
 unfolding count_test
 count_value w z n = one_cause (WrongValue 0) (count_test w) ends none
   where
-    none : count_test w ≡ Accepted → ⊥
+    none : count_test w ≡ Ok tt → ⊥
     none e = let c = count_accepted w e in n (count_in w) c.1 c.0
 
     Q : Refusal → Type 0
@@ -108,13 +115,13 @@ count_value w z n = one_cause (WrongValue 0) (count_test w) ends none
 -- ---- Unpack
 
 -- once word 0 and the lengths have passed, the elements decide
-pub unpack_elements : (file : List ℕ) (size : ℕ) → 4 ≤ length file → count_test (word_at file 0) ≡ Accepted
+pub unpack_elements : (file : List ℕ) (size : ℕ) → 4 ≤ length file → count_test (word_at file 0) ≡ Ok tt
     → length file ≡ file_size (batches_in file) → size ≡ 12 * batches_in file + 4
     → unpack_test file size ≡ elements_test file 1 (12 * batches_in file + 8)
 unfolding unpack_test
 unpack_elements file size h e l s = rw (le-leb _ _ h, e, eq-eqb _ _ l, eq-eqb _ _ s)
 
-pub unpack_accepted : (file : List ℕ) (size : ℕ) → unpack_test file size ≡ Accepted
+pub unpack_accepted : (file : List ℕ) (size : ℕ) → unpack_test file size ≡ Ok tt
     → IsBoard file (batches_in file) × (size ≡ 12 * batches_in file + 4)
 unfolding unpack_test batches_in
 unpack_accepted file size e =
@@ -137,7 +144,7 @@ pub batches_is : (file : List ℕ) (k : ℕ) → IsBoard file k → batches_in f
 unfolding batches_in
 batches_is file k h = ap count_in h.word ∙ (count_complete k h.permitted).0
 
-pub unpack_complete : (file : List ℕ) (k : ℕ) → IsBoard file k → unpack_test file (12 * k + 4) ≡ Accepted
+pub unpack_complete : (file : List ℕ) (k : ℕ) → IsBoard file k → unpack_test file (12 * k + 4) ≡ Ok tt
 unpack_complete file k h =
     let b = batches_is file k h in
     let count = ap count_test h.word ∙ (count_complete k h.permitted).1 in
@@ -146,7 +153,7 @@ unpack_complete file k h =
 
 -- a board file is refused with 8 where the destination has another length than its taps
 pub unpack_no_room : (file : List ℕ) (size k : ℕ) → IsBoard file k → (size ≡ 12 * k + 4 → ⊥)
-    → unpack_test file size ≡ Refused DestinationLength
+    → unpack_test file size ≡ Err DestinationLength
 unfolding unpack_test
 unpack_no_room file size k h n =
     let b = batches_is file k h in
@@ -154,18 +161,18 @@ unpack_no_room file size k h n =
     rw (le-leb 4 (length file) (omega (arith, h.size)), count, b, eq-eqb _ _ h.size, ne_eqb _ _ n)
 
 -- what is returned: the claim, or the refusal
-pub unpack_returns : (file : List ℕ) (size : ℕ) → unpack_test file size ≡ Accepted
-    → unpack_answer file size ≡ digest_answer.Accepted (digest (claim_in file))
+pub unpack_returns : (file : List ℕ) (size : ℕ) → unpack_test file size ≡ Ok tt
+    → unpack_answer file size ≡ Ok (claim_in file)
 unfolding unpack_answer
 unpack_returns file size e = rw e
 
-pub unpack_refuses : (file : List ℕ) (size : ℕ) (r : Refusal) → unpack_test file size ≡ Refused r
-    → unpack_answer file size ≡ digest_answer.Refused r
+pub unpack_refuses : (file : List ℕ) (size : ℕ) (r : Refusal) → unpack_test file size ≡ Err r
+    → unpack_answer file size ≡ Err r
 unfolding unpack_answer
 unpack_refuses file size r e = rw e
 
 -- and conversely
-pub returned : (file : List ℕ) (size : ℕ) (d : Digest) → unpack_answer file size ≡ digest_answer.Accepted d
-    → (unpack_test file size ≡ Accepted) × (digest (claim_in file) ≡ d)
+pub returned : (file : List ℕ) (size : ℕ) (d : List ℕ) → unpack_answer file size ≡ Ok d
+    → (unpack_test file size ≡ Ok tt) × (claim_in file ≡ d)
 unfolding unpack_answer
-returned file size d e = digest_accepted (unpack_test file size) (digest (claim_in file)) d e
+returned file size d e = value_accepted (unpack_test file size) (claim_in file) d e

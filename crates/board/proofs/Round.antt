@@ -7,12 +7,10 @@ use native.Mathlib.Numerals.{one-add}
 use native.Mathlib.Omega.{arith}
 use lib.ListN.{length, length-append, take, drop}
 use lib.Seq.{take_at, drop_at}
-use Rattle.lists.specs.Lists.{cell, tab}
+use Rattle.lists.specs.Lists.{cell}
 use Rattle.field_words.specs.Words.{AllCanonical}
 use Rattle.field_words.proofs.Laws.{append_canonical}
 use Rattle.numbers.specs.Numbers.{IsPermitted, IsPermittedTo}
-use Rattle.refusals.specs.Refusals.{digest, digest_words}
-use Rattle.refusals.specs.declared.Digest.{Digest}
 use Rattle.board_words.specs.Words.{word_at, AllBytes, bytes_of}
 use Rattle.board_words.specs.Elements.{words_of, elements_at}
 use Rattle.board_words.proofs.Words.{bytes_unique}
@@ -119,10 +117,6 @@ board_canonical file h = (
   elements_canonical file 13 (12 * batches_in file + 4)
       (λ i l. rw (after_claim i) at (h.elements (4 + i) (omega arith))),
 )
-
-pub claim_is : (file : List ℕ) (d : Digest) → digest (claim_in file) ≡ d → claim_in file ≡ digest_words d
-unfolding claim_in elements_at tab
-claim_is file d e = ap digest_words e
 
 pub taps_length : (file : List ℕ) → length (taps_in file) ≡ 12 * batches_in file + 4
 unfolding taps_in

@@ -1,17 +1,14 @@
 -- The board file: what Pack writes, and what Unpack finds (document 01, "The board file", "What is turned back").
 -- Assumes nothing.
-use Rattle.std.specs.Prelude.{◌≡◌, List, ◌∷◌, ◌++◌, ℕ, ◌+◌, ◌*◌, ◌/◌, ◌%◌, ◌^◌, ◌≤◌, ◌<◌, eqb, leb, length}
+use Rattle.std.specs.Prelude.{◌≡◌, List, ◌∷◌, ◌++◌, ℕ, ◌+◌, ◌*◌, ◌/◌, ◌%◌, ◌^◌, ◌≤◌, ◌<◌, eqb, leb, length, Result, Ok}
 use Rattle.field_words.specs.Words.{first_bad, canonical_words}
 use Rattle.numbers.specs.Numbers.{tap_words, IsPermittedTo, permitted, tap_word_batches, is_tap_length}
-use Rattle.refusals.specs.Refusals.{digest}
-use Rattle.refusals.specs.Answers.{unless, after, digest_after, leaves}
+use Rattle.refusals.specs.Answers.{Answer, unless, after, with_value, leaves}
 use Rattle.refusals.specs.declared.Refusal.TheVariants.{TapLength, TapWord, DestinationLength, ClaimWord}
 use Rattle.refusals.specs.declared.Refusal.TheVariants.{FileLength, WrongKind, WrongValue}
-use Rattle.refusals.specs.declared.Answer.{Answer}
-use Rattle.refusals.specs.declared.Answer.TheVariants.{Accepted}
-use Rattle.refusals.specs.declared.DigestAnswer.{DigestAnswer}
 use Rattle.board_words.specs.Words.{joined, kind_of, payload_of, word_at, bytes_of}
 use Rattle.board_words.specs.Elements.{words_of, elements_at, elements_test, IsElement}
+use Rattle.refusals.specs.declared.Refusal.{Refusal}
 
 -- ---- the file of k batches
 
@@ -44,7 +41,7 @@ pack_test taps claim size =
     (unless (eqb size (file_size (tap_word_batches (length taps)))) DestinationLength
     (unless (canonical_words claim) (ClaimWord (first_bad claim))
     (unless (canonical_words taps) (TapWord (first_bad taps))
-    Accepted)))
+    (Ok tt))))
 
 -- what an accepting Pack writes
 unfoldable pub packed : List ℕ → List ℕ → List ℕ
@@ -84,7 +81,7 @@ count_test w =
     unless (eqb (kind_of w) 0) (WrongKind 0)
     (unless (eqb (spare_in w) 0) (WrongValue 0)
     (unless (permitted most_file_batches (count_in w)) (WrongValue 0)
-    Accepted))
+    (Ok tt)))
 
 -- what reading the file finds; size is the destination's length
 unfoldable pub unpack_test : List ℕ → ℕ → Answer
@@ -96,8 +93,8 @@ unpack_test file size =
     (elements_test file 1 (element_count (batches_in file))))))
 
 -- the claim is returned
-unfoldable pub unpack_answer : List ℕ → ℕ → DigestAnswer
-unpack_answer file size = digest_after (unpack_test file size) (digest (claim_in file))
+unfoldable pub unpack_answer : List ℕ → ℕ → Result (List ℕ) Refusal
+unpack_answer file size = with_value (unpack_test file size) (claim_in file)
 
 -- what Unpack leaves in the destination: the 12k + 4 tap words, or what was there
 unfoldable pub unpack_leaves : List ℕ → List ℕ → List ℕ
@@ -113,7 +110,7 @@ pub record IsBoard (file : List ℕ) (k : ℕ) : Type 0 where
 -- what Unpack has found when it comes to the value of element i, counted from the claim's first
 pub record ReadTo (file : List ℕ) (size i : ℕ) : Type 0 where
   pub four : 4 ≤ length file
-  pub count : count_test (word_at file 0) ≡ Accepted
+  pub count : count_test (word_at file 0) ≡ Ok tt
   pub bytes : length file ≡ file_size (batches_in file)
   pub room : size ≡ tap_words (batches_in file)
   pub within : i < element_count (batches_in file)

@@ -7,9 +7,9 @@ use native.Mathlib.Decide.{dec_lt, ℕ_discrete}
 use native.Mathlib.Omega.{arith}
 use borrow.Author.Tests.{eq-eqb, ne_eqb, eqb-true, le-leb, lt-leb, leb-true}
 use lib.ListN.{length}
+use Rattle.std.specs.Prelude.{Ok, Err}
 use Rattle.refusals.specs.declared.Refusal.{Refusal}
 use Rattle.refusals.specs.declared.Refusal.TheVariants.{FileLength, WrongKind, SameEdition}
-use Rattle.refusals.specs.declared.Answer.TheVariants.{Accepted, Refused}
 use Rattle.refusals.proofs.Laws.{not_accepted, refused_same, passed}
 use Rattle.board_words.specs.Words.{kind_of, word_at}
 use Rattle.board_short.specs.ShortBoard.{mark_in}
@@ -23,7 +23,7 @@ pub not_short : (w : ℕ) → (mark_in w ≡ short_mark → ⊥) → mark_in w �
 not_short w n = omega (arith, n)
 
 -- ---- it accepts exactly the files with the mark
-pub accepted : (file : List ℕ) (mark : ℕ) → edition_test file mark ≡ Accepted → HasMark file mark
+pub accepted : (file : List ℕ) (mark : ℕ) → edition_test file mark ≡ Ok tt → HasMark file mark
 unfolding edition_test
 accepted file mark e =
     let a = passed _ _ _ e in
@@ -31,7 +31,7 @@ accepted file mark e =
     let c = passed _ _ _ b.1 in
     record { four = leb-true _ _ a.0; kind = eqb-true _ _ b.0; mark_is = eqb-true _ _ c.0 }
 
-pub accepts : (file : List ℕ) (mark : ℕ) → HasMark file mark → edition_test file mark ≡ Accepted
+pub accepts : (file : List ℕ) (mark : ℕ) → HasMark file mark → edition_test file mark ≡ Ok tt
 unfolding edition_test
 accepts file mark h = rw (le-leb _ _ h.four, eq-eqb _ _ h.kind, eq-eqb _ _ h.mark_is)
 
@@ -43,13 +43,13 @@ pub data EditionFault (file : List ℕ) (mark : ℕ) (r : Refusal) : Type 0 wher
       → EditionFault file mark r
 
 pub fault_refused : (file : List ℕ) (mark : ℕ) (r : Refusal) → EditionFault file mark r
-    → edition_test file mark ≡ Refused r
+    → edition_test file mark ≡ Err r
 unfolding edition_test
 fault_refused file mark r (no_count h e) = rw (lt-leb _ _ h, e)
 fault_refused file mark r (count_kind h n e) = rw (le-leb _ _ h, ne_eqb _ _ n, e)
 fault_refused file mark r (other_mark h z n e) = rw (le-leb _ _ h, eq-eqb _ _ z, ne_eqb _ _ n, e)
 
-pub faulty : (file : List ℕ) (mark : ℕ) (r : Refusal) → edition_test file mark ≡ Refused r → EditionFault file mark r
+pub faulty : (file : List ℕ) (mark : ℕ) (r : Refusal) → edition_test file mark ≡ Err r → EditionFault file mark r
 faulty file mark r e = counted (dec_lt (length file) 4)
   where
     same : (s : Refusal) → EditionFault file mark s → r ≡ s

@@ -2,32 +2,34 @@
 #![tactic(auto)]
 
 ghost use Rattle.std.specs.Prelude.{◌≡◌};
-ghost use Rattle.board_edition.specs.Edition.{edition_test};
+ghost use Rattle.board_edition.specs.Edition.{edition_test, mark_of};
 
-use board_words::Word;
-use refusals::{Answer, Refusal};
+use board_words::{Kind, Word};
+use refusals::Refusal;
 
-// The mark of each edition.
-pub const FULL: u32 = 0;
-
-pub const SHORT: u32 = 1;
+// The editions, in the order of their marks.
+#[derive(Clone, Copy)]
+pub enum Edition {
+    Full,
+    Short,
+}
 
 // The bits of word 0's payload below the mark.
 const BITS_BELOW: u32 = Word::PAYLOAD_BITS - 1;
 
-// What is tested of a file that shall have this mark: 12 (below 4), word 0's 13, 19.
-pub fn test(file: &[u8], mark: u32) -> Answer
-    ensures { result ≡ edition_test file.now mark }
+// What is tested of a file that shall be of this edition: 12 (below 4), word 0's 13, 19.
+pub fn test(file: &[u8], edition: Edition) -> Result<(), Refusal>
+    ensures { result ≡ edition_test file.now (mark_of edition) }
 {
     if file.len() < 4 {
-        return Answer::Refused(Refusal::FileLength);
+        return Err(Refusal::FileLength);
     }
     let word = Word::read(file, 0);
-    if word.kind() != 0 {
-        return Answer::Refused(Refusal::WrongKind(0));
+    if word.kind() != Kind::Count {
+        return Err(Refusal::WrongKind(0));
     }
-    if word.payload() >> BITS_BELOW != mark {
-        return Answer::Refused(Refusal::SameEdition);
+    if word.payload() >> BITS_BELOW != edition as u32 {
+        return Err(Refusal::SameEdition);
     }
-    Answer::Accepted
+    Ok(())
 }

@@ -7,9 +7,9 @@ ghost use Rattle.field.specs.Field.{P};
 ghost use Rattle.board_words.specs.Words.{payload_of};
 ghost use Rattle.board_words.specs.Elements.{element_of, element_at, elements_at, element_test, elements_test};
 
-use board_words::Word;
+use board_words::{Kind, Word};
 use field_elements::Fp;
-use refusals::{Answer, Refusal};
+use refusals::Refusal;
 
 // The number that three payloads spell, where it is a 64-bit one.
 fn value(high: Word, middle: Word, low: Word) -> u64
@@ -24,43 +24,40 @@ const MOST_HIGH: u32 = 15;
 
 // The three kinds of the element whose first word is word `index`, then its value. A payload above 15 makes 2^64 or
 // more, which no shift here may see.
-pub fn test(file: &[u8], index: usize) -> Answer
+pub fn test(file: &[u8], index: usize) -> Result<(), Refusal>
     requires { 4 * index + 12 ≤ length file.now }
     ensures { result ≡ element_test file.now index }
 {
     let high = Word::read(file, index);
-    if high.kind() != 1 {
-        return Answer::Refused(Refusal::WrongKind(index));
+    if high.kind() != Kind::High {
+        return Err(Refusal::WrongKind(index));
     }
     let middle = Word::read(file, index + 1);
-    if middle.kind() != 2 {
-        return Answer::Refused(Refusal::WrongKind(index + 1));
+    if middle.kind() != Kind::Middle {
+        return Err(Refusal::WrongKind(index + 1));
     }
     let low = Word::read(file, index + 2);
-    if low.kind() != 3 {
-        return Answer::Refused(Refusal::WrongKind(index + 2));
+    if low.kind() != Kind::Low {
+        return Err(Refusal::WrongKind(index + 2));
     }
     if MOST_HIGH < high.payload() {
-        return Answer::Refused(Refusal::WrongValue(index));
+        return Err(Refusal::WrongValue(index));
     }
     if !Fp::is_canonical(value(high, middle, low)) {
-        return Answer::Refused(Refusal::WrongValue(index));
+        return Err(Refusal::WrongValue(index));
     }
-    Answer::Accepted
+    Ok(())
 }
 
 // The same of `count` elements, element by element.
-pub fn test_all(file: &[u8], index: usize, count: usize) -> Answer
+pub fn test_all(file: &[u8], index: usize, count: usize) -> Result<(), Refusal>
     requires { 4 * index + 12 * count ≤ length file.now }
     ensures { result ≡ elements_test file.now index count }
 {
     for i in 0..count {
-        let of_element = test(file, index + 3 * i);
-        let Answer::Accepted = of_element else {
-            return of_element;
-        };
+        test(file, index + 3 * i)?;
     }
-    Answer::Accepted
+    Ok(())
 }
 
 // The element whose first word is word `index`, once its test has accepted it.
@@ -82,7 +79,7 @@ pub fn read_all(file: &[u8], index: usize, destination: &mut [u64])
     ensures { destination.new
         ≡ elements_at file.now index (length destination.old) }
 {
-    for i in 0..destination.len() {
-        destination[i] = read(file, index + 3 * i);
+    for (i, slot) in destination.iter_mut().enumerate() {
+        *slot = read(file, index + 3 * i);
     }
 }

@@ -6,12 +6,9 @@ use Prim.Native.Nat.{ℕ, ◌+◌, ◌*◌}
 use native.Mathlib.Omega.{arith}
 use lib.ListN.{length, length-append, take, drop}
 use lib.Seq.{take_at, drop_at}
-use Rattle.lists.specs.Lists.{tab}
 use Rattle.field_words.specs.Words.{AllCanonical}
 use Rattle.field_words.proofs.Laws.{append_canonical}
 use Rattle.numbers.specs.Numbers.{tap_words, IsPermitted}
-use Rattle.refusals.specs.Refusals.{digest, digest_words}
-use Rattle.refusals.specs.declared.Digest.{Digest}
 use Rattle.board_words.specs.Words.{AllBytes, bytes_of}
 use Rattle.board.specs.Board.{element_count}
 use Rattle.board_short_words.specs.Short.{short_words_of}
@@ -121,7 +118,3 @@ board_canonical file h = (
   shorts_canonical file (first_word file 1 4) (tap_words (short_batches_in file))
       (λ i l. rw (first_add file 1 4 i) at (h.elements (4 + i) (omega arith))),
 )
-
-pub claim_is : (file : List ℕ) (d : Digest) → digest (short_claim_in file) ≡ d → short_claim_in file ≡ digest_words d
-unfolding short_claim_in shorts_at tab
-claim_is file d e = ap digest_words e

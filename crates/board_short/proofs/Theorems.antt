@@ -11,16 +11,14 @@ use native.Mathlib.Omega.{arith}
 use borrow.Author.Tests.{eq-eqb, ne_eqb, eqb-true, eqb-false, le-leb, lt-leb, leb-true, leb-false}
 use lib.Dec.{eqb, leb}
 use lib.ListN.{length, length-append}
+use Rattle.std.specs.Prelude.{Ok, Err}
 use Rattle.lists.specs.Lists.{cell}
 use Rattle.numbers.specs.Numbers.{tap_words, tap_word_batches}
-use Rattle.refusals.specs.Refusals.{told, digest, digest_words}
+use Rattle.refusals.specs.Refusals.{told, value_of}
 use Rattle.refusals.specs.Answers.{after}
 use Rattle.refusals.specs.declared.Refusal.{Refusal}
 use Rattle.refusals.specs.declared.Refusal.TheVariants.{DestinationLength, FileLength, WrongKind, WrongValue}
 use Rattle.refusals.specs.declared.Refusal.TheVariants.{LongElement}
-use Rattle.refusals.specs.declared.Answer.TheVariants as answer
-use Rattle.refusals.specs.declared.Digest.{Digest}
-use Rattle.refusals.specs.declared.DigestAnswer.TheVariants.{Accepted, Refused}
 use Rattle.refusals.proofs.Laws.{AnswerEnds, unless_ends, after_ends, refusal_ends, ends_refusal}
 use Rattle.board_words.specs.Words.{kind_of, word_at, AllBytes}
 use Rattle.board_words.specs.Elements.{element_at, IsElement}
@@ -30,9 +28,11 @@ use Rattle.board_short_read.specs.Reading.{first_word, shorts_test, ElementFault
 use Rattle.board_short_read.specs.Reading.{second_kind, no_third, third_kind, too_large, needless}
 use Rattle.board_words.proofs.Laws.{words_spell}
 use Rattle.board_short_words.proofs.Words.{one_word, three_words, needed_most, needed_least, needed_whole}
-use Rattle.board_short_read.proofs.Tests.{Stops, element, tail, stops, first_refused, bytes_after, faulty, fault_refused}
+use Rattle.board_short_read.proofs.Tests.{Stops, element, tail, stops, first_refused, bytes_after, faulty}
+use Rattle.board_short_read.proofs.Tests.{fault_refused}
 use Rattle.board_short.specs.ShortBoard.{short_file_of, short_file_size, pack_short_test, packed_short, mark_in}
-use Rattle.board_short.specs.ShortBoard.{short_spare_in, short_taps_in, short_claim_in, short_count_test, unpack_short_test}
+use Rattle.board_short.specs.ShortBoard.{short_spare_in, short_taps_in, short_claim_in, short_count_test}
+use Rattle.board_short.specs.ShortBoard.{unpack_short_test}
 use Rattle.board_short.specs.ShortBoard.{unpack_short_answer, ReadsOn, ThreeForOne, FirstFault, no_count, count_kind}
 use Rattle.board_short.specs.ShortBoard.{count_value, no_room, short_batches_in}
 use Rattle.board_short.specs.ShortBoard as faults
@@ -42,14 +42,14 @@ use Rattle.board_short.proofs.Answers.{returned, from_room, CountFault, kind, va
 use Rattle.board_short.proofs.Answers.{count_fault_refused}
 use Rattle.board_short.proofs.Files as files
 use Rattle.board_short.proofs.Round.{packed_board, packed_claim, packed_taps, board_packs, board_canonical}
-use Rattle.board_short.proofs.Round.{claim_is, taps_length}
+use Rattle.board_short.proofs.Round.{taps_length}
 
 -- ---- there and back
 
 -- what the writer accepts is read back: claim and taps
 pub unpack_packed : (taps claim : List ℕ) (size : ℕ) → length claim ≡ 4
-    → pack_short_test taps claim size ≡ answer.Accepted
-    → (unpack_short_answer (packed_short taps claim) (length taps) ≡ Accepted (digest claim))
+    → pack_short_test taps claim size ≡ Ok tt
+    → (unpack_short_answer (packed_short taps claim) (length taps) ≡ Ok claim)
     × (short_taps_in (packed_short taps claim) ≡ taps)
 unfolding packed_short
 unpack_packed taps claim size c e =
@@ -59,43 +59,42 @@ unpack_packed taps claim size c e =
     let board = packed_board taps claim k h.permitted h.taps_size h.taps_canonical c h.claim_canonical in (
       ap (unpack_short_answer file) h.taps_size
           ∙ unpack_returns file (tap_words k) (unpack_complete file k board)
-          ∙ ap (λ s. Accepted (digest s))
+          ∙ ap (λ s. Ok s)
           (packed_claim taps claim k h.permitted h.taps_size h.taps_canonical c h.claim_canonical),
       packed_taps taps claim k h.permitted h.taps_size h.taps_canonical c h.claim_canonical,
     )
 
 -- what the reader accepts is written to the same bytes
-pub pack_unpack : (file : List ℕ) (size : ℕ) (d : Digest) → AllBytes file → unpack_short_answer file size ≡ Accepted d
-    → (pack_short_test (short_taps_in file) (digest_words d) (length file) ≡ answer.Accepted)
-    × (packed_short (short_taps_in file) (digest_words d) ≡ file)
+pub pack_unpack : (file : List ℕ) (size : ℕ) (d : List ℕ) → AllBytes file → unpack_short_answer file size ≡ Ok d
+    → (pack_short_test (short_taps_in file) d (length file) ≡ Ok tt)
+    × (packed_short (short_taps_in file) d ≡ file)
 unfolding packed_short
 pack_unpack file size d bytes e =
     let r = returned file size d e in
     let h = (unpack_accepted file size r.0).0 in
-    let c = claim_is file d r.1 in
     let canonical = board_canonical file h in
     let k-is : tap_word_batches (length (short_taps_in file)) ≡ short_batches_in file = omega (arith, taps_length file) in
     let same = board_packs file h bytes in
     let size_is : length file ≡ short_file_size (short_taps_in file) (short_claim_in file) =
     ap length (sym same) ∙ files.file_length (short_taps_in file) (short_claim_in file) (short_batches_in file) in (
-      pack_complete (short_taps_in file) (digest_words d) (length file) (short_batches_in file) (record {
+      pack_complete (short_taps_in file) d (length file) (short_batches_in file) (record {
         permitted = h.permitted;
         taps_size = taps_length file;
-        size_is = rw c at size_is;
-        claim_canonical = rw c at canonical.0;
+        size_is = rw r.1 at size_is;
+        claim_canonical = rw r.1 at canonical.0;
         taps_canonical = canonical.1;
       }),
-      rw (sym c, k-is) same,
+      rw (sym r.1, k-is) same,
     )
 
 -- so two accepted files that hold the same claim and taps are equal
-pub one_file : (f g : List ℕ) (m n : ℕ) (d : Digest) → AllBytes f → AllBytes g → unpack_short_answer f m ≡ Accepted d
-    → unpack_short_answer g n ≡ Accepted d → short_taps_in f ≡ short_taps_in g → f ≡ g
+pub one_file : (f g : List ℕ) (m n : ℕ) (d : List ℕ) → AllBytes f → AllBytes g → unpack_short_answer f m ≡ Ok d
+    → unpack_short_answer g n ≡ Ok d → short_taps_in f ≡ short_taps_in g → f ≡ g
 one_file f g m n d bf bg ef eg t =
-    sym (pack_unpack f m d bf ef).1 ∙ ap (λ s. packed_short s (digest_words d)) t ∙ (pack_unpack g n d bg eg).1
+    sym (pack_unpack f m d bf ef).1 ∙ ap (λ s. packed_short s d) t ∙ (pack_unpack g n d bg eg).1
 
 -- the room that a reader accepted is that of the taps
-pub accepted_room : (file : List ℕ) (size : ℕ) (d : Digest) → unpack_short_answer file size ≡ Accepted d
+pub accepted_room : (file : List ℕ) (size : ℕ) (d : List ℕ) → unpack_short_answer file size ≡ Ok d
     → size ≡ length (short_taps_in file)
 accepted_room file size d e = (unpack_accepted file size (returned file size d e).0).1 ∙ sym (taps_length file)
 
@@ -133,7 +132,7 @@ walked file size k r on (element i l b q) = faults.element k i on l b (faulty fi
 walked file size k r on (tail b q f) = faults.tail k on b q f
 
 module _ (file : List ℕ) (size : ℕ) where
-  room_faults : 4 ≤ length file → short_count_test (word_at file 0) ≡ answer.Accepted
+  room_faults : 4 ≤ length file → short_count_test (word_at file 0) ≡ Ok tt
       → AnswerEnds (FirstFault file size) (from_room file size)
   unfolding short_batches_in
   room_faults four g =
@@ -160,11 +159,11 @@ module _ (file : List ℕ) (size : ℕ) where
       (λ f. after_ends Q (short_count_test (word_at file 0)) (from_room file size) (count_faults (leb-true _ _ f))
       (room_faults (leb-true _ _ f)))
 
-  pub first_fault : (r : Refusal) → unpack_short_test file size ≡ answer.Refused r → FirstFault file size r
+  pub first_fault : (r : Refusal) → unpack_short_test file size ≡ Err r → FirstFault file size r
   first_fault r e = ends_refusal (FirstFault file size) (unpack_short_test file size) r faults_all e
 
 pub fault_first : (file : List ℕ) (size : ℕ) (r : Refusal) → FirstFault file size r
-    → unpack_short_test file size ≡ answer.Refused r
+    → unpack_short_test file size ≡ Err r
 unfolding unpack_short_test
 fault_first file size r (no_count h e) = rw (lt-leb _ _ h, e)
 fault_first file size r (count_kind h n e) =
@@ -178,7 +177,7 @@ fault_first file size r (faults.element k i on l b q) =
     unpack_elements file size k on
     ∙ first_refused file 1 (element_count k) i r l b (fault_refused file (first_word file 1 i) r q)
 fault_first file size r (faults.tail k on b q e) =
-    unpack_elements file size k on ∙ bytes_after file 1 (element_count k) b q ∙ ap answer.Refused (sym e)
+    unpack_elements file size k on ∙ bytes_after file 1 (element_count k) b q ∙ ap Err (sym e)
 
 -- 18 is said of an element alone, and of no other fault of it
 module _ (file : List ℕ) (size j : ℕ) where
@@ -194,7 +193,7 @@ module _ (file : List ℕ) (size j : ℕ) where
   in_element i (no_third h a b l e) = absurd (not_18 FileLength refl e)
   in_element i (third_kind h a b n e) = absurd (not_18 (WrongKind (i + 2)) refl e)
   in_element i (too_large h a b c l e) = absurd (not_18 (WrongValue i) refl e)
-  in_element i (needless h is low e) = (ap (λ r. (told r).value) e, h, is, low)
+  in_element i (needless h is low e) = (ap (λ r. value_of (told r).place) e, h, is, low)
 
   three_for_one : FirstFault file size (LongElement j) → ThreeForOne file size j
   three_for_one (no_count h e) = absurd (not_18 FileLength refl e)
@@ -216,7 +215,7 @@ module _ (file : List ℕ) (size j : ℕ) where
       }
   three_for_one (faults.tail k on b q e) = absurd (not_18 FileLength refl e)
 
-  pub eighteen : (unpack_short_test file size ≡ answer.Refused (LongElement j)) ↔ ThreeForOne file size j
+  pub eighteen : (unpack_short_test file size ≡ Err (LongElement j)) ↔ ThreeForOne file size j
   eighteen = (
     λ e. three_for_one (first_fault file size (LongElement j) e),
     λ t.
@@ -228,13 +227,13 @@ module _ (file : List ℕ) (size j : ℕ) where
 
 -- ---- the editions: word 0 with the mark is no full file's, and without it no short file's
 module _ (file : List ℕ) (size : ℕ) (four : 4 ≤ length file) (zero-kind : kind_of (word_at file 0) ≡ 0) where
-  pub full_refuses : mark_in (word_at file 0) ≡ 1 → unpack_answer file size ≡ Refused (WrongValue 0)
+  pub full_refuses : mark_in (word_at file 0) ≡ 1 → unpack_answer file size ≡ Err (WrongValue 0)
   unfolding unpack_answer unpack_test count_test
   full_refuses e =
       let spare : spare_in (word_at file 0) ≡ 0 → ⊥ = λ z. omega (arith, z, e) in
       rw (le-leb _ _ four, eq-eqb _ _ zero-kind, ne_eqb _ _ spare)
 
-  pub short_refuses : mark_in (word_at file 0) ≡ 0 → unpack_short_answer file size ≡ Refused (WrongValue 0)
+  pub short_refuses : mark_in (word_at file 0) ≡ 0 → unpack_short_answer file size ≡ Err (WrongValue 0)
   unfolding unpack_short_answer unpack_short_test short_count_test
   short_refuses e =
       let mark : mark_in (word_at file 0) ≡ 1 → ⊥ = λ z. omega (arith, z, e) in
@@ -242,7 +241,7 @@ module _ (file : List ℕ) (size : ℕ) (four : 4 ≤ length file) (zero-kind : 
 
   -- nor with a bit among 20 to 28
   pub spare_refused : mark_in (word_at file 0) ≡ 1 → (short_spare_in (word_at file 0) ≡ 0 → ⊥)
-      → unpack_short_answer file size ≡ Refused (WrongValue 0)
+      → unpack_short_answer file size ≡ Err (WrongValue 0)
   unfolding unpack_short_answer unpack_short_test short_count_test
   spare_refused e n = rw (le-leb _ _ four, eq-eqb _ _ zero-kind, eq-eqb _ _ e, ne_eqb _ _ n)
 

@@ -1,16 +1,12 @@
 -- The short edition of the board file: what its writer writes, and what its reader finds (document 02, U7 and U9).
 -- Assumes nothing.
-use Rattle.std.specs.Prelude.{◌≡◌, List, ◌∷◌, ◌++◌, ℕ, ◌+◌, ◌*◌, ◌/◌, ◌%◌, ◌^◌, ◌≤◌, ◌<◌, eqb, leb, length}
+use Rattle.std.specs.Prelude.{◌≡◌, List, ◌∷◌, ◌++◌, ℕ, ◌+◌, ◌*◌, ◌/◌, ◌%◌, ◌^◌, ◌≤◌, ◌<◌, eqb, leb, length, Result, Ok}
 use Rattle.field_words.specs.Words.{first_bad, canonical_words}
 use Rattle.numbers.specs.Numbers.{tap_words, permitted, tap_word_batches, is_tap_length, most_batches, IsPermitted}
-use Rattle.refusals.specs.Refusals.{digest}
-use Rattle.refusals.specs.Answers.{unless, after, digest_after, leaves}
+use Rattle.refusals.specs.Answers.{Answer, unless, after, with_value, leaves}
 use Rattle.refusals.specs.declared.Refusal.{Refusal}
 use Rattle.refusals.specs.declared.Refusal.TheVariants.{TapLength, TapWord, DestinationLength, ClaimWord, FileLength}
 use Rattle.refusals.specs.declared.Refusal.TheVariants.{WrongKind, WrongValue}
-use Rattle.refusals.specs.declared.Answer.{Answer}
-use Rattle.refusals.specs.declared.Answer.TheVariants.{Accepted}
-use Rattle.refusals.specs.declared.DigestAnswer.{DigestAnswer}
 use Rattle.board_words.specs.Words.{joined, kind_of, payload_of, word_at, bytes_of}
 use Rattle.board_words.specs.Elements.{element_at, IsElement}
 use Rattle.board.specs.Board.{element_count}
@@ -40,7 +36,7 @@ pack_short_test taps claim size =
     (unless (eqb size (short_file_size taps claim)) DestinationLength
     (unless (canonical_words claim) (ClaimWord (first_bad claim))
     (unless (canonical_words taps) (TapWord (first_bad taps))
-    Accepted)))
+    (Ok tt))))
 
 -- what it writes when it accepts
 unfoldable pub packed_short : List ℕ → List ℕ → List ℕ
@@ -86,7 +82,7 @@ short_count_test w =
     (unless (eqb (mark_in w) 1) (WrongValue 0)
     (unless (eqb (short_spare_in w) 0) (WrongValue 0)
     (unless (permitted most_batches (short_count_in w)) (WrongValue 0)
-    Accepted)))
+    (Ok tt))))
 
 -- what reading the file finds; size is the destination's length
 unfoldable pub unpack_short_test : List ℕ → ℕ → Answer
@@ -97,8 +93,8 @@ unpack_short_test file size =
     (shorts_test file 1 (element_count (short_batches_in file)))))
 
 -- the claim is returned
-unfoldable pub unpack_short_answer : List ℕ → ℕ → DigestAnswer
-unpack_short_answer file size = digest_after (unpack_short_test file size) (digest (short_claim_in file))
+unfoldable pub unpack_short_answer : List ℕ → ℕ → Result (List ℕ) Refusal
+unpack_short_answer file size = with_value (unpack_short_test file size) (short_claim_in file)
 
 -- what the reader leaves in the destination: the 12k + 4 tap words, or what was there
 unfoldable pub unpack_short_leaves : List ℕ → List ℕ → List ℕ

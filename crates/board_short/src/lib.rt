@@ -8,9 +8,9 @@ ghost use Rattle.board_short.specs.ShortBoard.{pack_short_test, pack_short_leave
 ghost use Rattle.board_short.specs.ShortBoard.{unpack_short_answer, unpack_short_leaves};
 
 use board::EXTRA_ELEMENTS;
-use board_words::Word;
-use numbers::{BATCH_TAP_WORDS, BatchCount, MOST_BATCHES, TAP_WORDS};
-use refusals::{Answer, Digest, DigestAnswer, Refusal};
+use board_words::{Kind, Word};
+use numbers::{BATCH_TAP_WORDS, MOST_BATCHES, TAP_WORDS};
+use refusals::Refusal;
 
 // The bits of word 0 that hold k.
 const COUNT_BITS: u32 = 20;
@@ -21,25 +21,24 @@ const COUNT_MASK: u32 = (1 << COUNT_BITS) - 1;
 const MARK: u32 = 1 << 29;
 
 // What the writer tests: 5, 8, 9, 6.
-fn test_pack(taps: &[u64], claim: [u64; 4], size: usize) -> Answer
+fn test_pack(taps: &[u64], claim: [u64; 4], size: usize) -> Result<(), Refusal>
     ensures { result ≡ pack_short_test taps.now claim size }
 {
-    let BatchCount::Permitted(_) = numbers::tap_batches(MOST_BATCHES, taps.len()) else {
-        return Answer::Refused(Refusal::TapLength);
-    };
+    numbers::tap_batches(MOST_BATCHES, taps.len()).ok_or(Refusal::TapLength)?;
     let of_claim = board_short_words::measure(&claim);
     let of_taps = board_short_words::measure(taps);
     if size != 4 + of_claim.bytes + of_taps.bytes {
-        return Answer::Refused(Refusal::DestinationLength);
+        return Err(Refusal::DestinationLength);
     }
-    let bad_claim = field_words::first_bad(&claim);
-    if bad_claim != 4 {
-        return Answer::Refused(Refusal::ClaimWord(bad_claim));
+    if let Some(bad_claim) = field_words::first_bad(&claim) {
+        return Err(Refusal::ClaimWord(bad_claim));
     }
     if of_taps.bad != 0 {
-        return Answer::Refused(Refusal::TapWord(field_words::first_bad(taps)));
+        if let Some(bad_tap) = field_words::first_bad(taps) {
+            return Err(Refusal::TapWord(bad_tap));
+        }
     }
-    Answer::Accepted
+    Ok(())
 }
 
 // Word 0: the mark beside k.
@@ -47,7 +46,7 @@ pub fn count_word(k: usize) -> Word
     requires { k ≤ most_batches }
     ensures { result.0 ≡ short_count_word k }
 {
-    Word::join(0, MARK | (k as u32))
+    Word::join(Kind::Count, MARK | (k as u32))
 }
 
 // Word 0, then claim and taps.
@@ -61,17 +60,14 @@ fn write_file(taps: &[u64], claim: [u64; 4], k: usize, destination: &mut [u8])
 }
 
 // The writer writes the short file of the taps and the claim when all its tests have passed.
-pub fn pack_short(taps: &[u64], claim: [u64; 4], destination: &mut [u8]) -> Answer
+pub fn pack_short(taps: &[u64], claim: [u64; 4], destination: &mut [u8]) -> Result<(), Refusal>
     ensures value { result ≡ pack_short_test taps.now claim (length destination.old) }
     ensures destination_after { destination.new
         ≡ pack_short_leaves taps.now claim destination.old }
 {
-    let answer = test_pack(taps, claim, destination.len());
-    let Answer::Accepted = answer else {
-        return answer;
-    };
+    test_pack(taps, claim, destination.len())?;
     write_file(taps, claim, taps.len() / BATCH_TAP_WORDS, destination);
-    Answer::Accepted
+    Ok(())
 }
 
 // k, in bits 0 to 19 of word 0.
@@ -82,53 +78,46 @@ pub fn count_in(word: Word) -> usize
 }
 
 // What reading word 0 finds: 13, then 14. Bits 20 to 29 are the mark alone.
-pub fn test_count(word: Word) -> Answer
+pub fn test_count(word: Word) -> Result<(), Refusal>
     ensures { result ≡ short_count_test word.0 }
 {
-    if word.kind() != 0 {
-        return Answer::Refused(Refusal::WrongKind(0));
+    if word.kind() != Kind::Count {
+        return Err(Refusal::WrongKind(0));
     }
     if word.payload() >> COUNT_BITS != MARK >> COUNT_BITS {
-        return Answer::Refused(Refusal::WrongValue(0));
+        return Err(Refusal::WrongValue(0));
     }
-    if numbers::is_permitted(MOST_BATCHES, count_in(word)) {
-        Answer::Accepted
-    } else {
-        Answer::Refused(Refusal::WrongValue(0))
+    if !numbers::is_permitted(MOST_BATCHES, count_in(word)) {
+        return Err(Refusal::WrongValue(0));
     }
+    Ok(())
 }
 
 // What the reader tests: 12 (below 4), word 0's 13 then 14, 8, then element by element 12 where the input ends, 13, 14,
 // 18, and 12 for bytes after the last.
-fn test_unpack(file: &[u8], size: usize) -> Answer
+fn test_unpack(file: &[u8], size: usize) -> Result<(), Refusal>
     ensures { result ≡ unpack_short_test file.now size }
 {
     if file.len() < 4 {
-        return Answer::Refused(Refusal::FileLength);
+        return Err(Refusal::FileLength);
     }
     let word = Word::read(file, 0);
-    let of_count = test_count(word);
-    let Answer::Accepted = of_count else {
-        return of_count;
-    };
+    test_count(word)?;
     let k = count_in(word);
     if size != BATCH_TAP_WORDS * k + TAP_WORDS {
-        return Answer::Refused(Refusal::DestinationLength);
+        return Err(Refusal::DestinationLength);
     }
     board_short_read::test_all(file, 1, BATCH_TAP_WORDS * k + EXTRA_ELEMENTS)
 }
 
 // The reader writes the taps of a short file and returns its claim when all its tests have passed.
-pub fn unpack_short(file: &[u8], destination: &mut [u64]) -> DigestAnswer
+pub fn unpack_short(file: &[u8], destination: &mut [u64]) -> Result<[u64; 4], Refusal>
     ensures value { result ≡ unpack_short_answer file.now (length destination.old) }
     ensures destination_after { destination.new ≡ unpack_short_leaves file.now destination.old }
 {
-    let of_file = test_unpack(file, destination.len());
-    let Answer::Accepted = of_file else {
-        return DigestAnswer::Refused(of_file.refusal());
-    };
+    test_unpack(file, destination.len())?;
     let mut claim = [0; 4];
     let after_claim = board_short_read::read_all(file, 1, &mut claim);
     board_short_read::read_all(file, after_claim, destination);
-    DigestAnswer::Accepted(Digest(claim[0], claim[1], claim[2], claim[3]))
+    Ok(claim)
 }

@@ -11,19 +11,19 @@ use borrow.Author.Tests.{eq-eqb, ne_eqb, eqb-true, eqb-false, le-leb, lt-leb, le
 use borrow.Author.Tests.{ltb-false}
 use lib.Dec.{eqb, ltb, leb}
 use lib.ListN.{length}
+use Rattle.std.specs.Prelude.{Ok, Err}
 use Rattle.lists.specs.Lists.{choose}
 use Rattle.field.specs.Field.{P}
-use Rattle.refusals.specs.Answers.{unless, after}
+use Rattle.refusals.specs.Answers.{Answer, unless, after}
 use Rattle.refusals.specs.declared.Refusal.{Refusal}
 use Rattle.refusals.specs.declared.Refusal.TheVariants.{FileLength, WrongKind, WrongValue, LongElement}
-use Rattle.refusals.specs.declared.Answer.{Answer}
-use Rattle.refusals.specs.declared.Answer.TheVariants.{Accepted, Refused}
 use Rattle.refusals.proofs.Laws.{not_accepted, refused_same, passed, both_accepted}
 use Rattle.refusals.proofs.Laws.{AnswerEnds, unless_ends, ends_refusal}
 use Rattle.board_words.specs.Words.{kind_of, payload_of, word_at}
 use Rattle.board_words.specs.Elements.{element_at, element_test}
 use Rattle.board_words.proofs.Tests as elements
-use Rattle.board_short_read.specs.Reading.{is_whole, short_at, next_word, three_test, short_test, first_word, shorts_test}
+use Rattle.board_short_read.specs.Reading.{is_whole, short_at, next_word, three_test, short_test, first_word}
+use Rattle.board_short_read.specs.Reading.{shorts_test}
 use Rattle.board_short_read.specs.Reading.{IsShortElement, one, three, ElementFault, no_first, first_kind, no_second}
 use Rattle.board_short_read.specs.Reading.{second_kind, no_third, third_kind, too_large, needless}
 
@@ -34,7 +34,7 @@ from_third file j =
     (unless (eqb (kind_of (word_at file (j + 2))) 3) (WrongKind (j + 2))
     (unless (ltb (element_at file j) P) (WrongValue j)
     (unless (leb (2 ^ 30) (element_at file j)) (LongElement j)
-    Accepted)))
+    (Ok tt))))
 
 abbrev pub from_second : List ℕ → ℕ → Answer
 from_second file j =
@@ -55,7 +55,7 @@ module _ (file : List ℕ) (j : ℕ) (e : kind_of (word_at file j) ≡ 3) where
   unfolding next_word
   one_next = rw (eq-eqb _ _ e)
 
-  pub one_test : 4 * j + 4 ≤ length file → short_test file j ≡ Accepted
+  pub one_test : 4 * j + 4 ≤ length file → short_test file j ≡ Ok tt
   unfolding short_test
   one_test h = rw (le-leb _ _ h, eq-eqb _ _ e)
 
@@ -75,7 +75,7 @@ module _ (file : List ℕ) (j : ℕ) (e : eqb (kind_of (word_at file j)) 3 ≡ f
   -- the tests of the full edition's element, and what follows them
   more : (a b c d : Bool) (p q r s : Refusal) (rest : Answer)
       → unless a p (unless b q (unless c r (unless d s rest)))
-      ≡ after (unless a p (unless b q (unless c r (unless d s Accepted)))) rest
+      ≡ after (unless a p (unless b q (unless c r (unless d s (Ok tt))))) rest
   more true true true true p q r s rest = refl
   more true true true false p q r s rest = refl
   more true true false d p q r s rest = refl
@@ -84,7 +84,7 @@ module _ (file : List ℕ) (j : ℕ) (e : eqb (kind_of (word_at file j)) 3 ≡ f
 
   pub three_test_lem : 4 * j + 12 ≤ length file
       → short_test file j
-      ≡ after (element_test file j) (unless (leb (2 ^ 30) (element_at file j)) (LongElement j) Accepted)
+      ≡ after (element_test file j) (unless (leb (2 ^ 30) (element_at file j)) (LongElement j) (Ok tt))
   unfolding short_test three_test element_test
   three_test_lem h =
       let first = le-leb (4 * j + 4) (length file) (omega arith) in
@@ -96,17 +96,17 @@ module _ (file : List ℕ) (j : ℕ) (e : eqb (kind_of (word_at file j)) 3 ≡ f
       (WrongKind (j + 2)) (WrongValue j) _)
 
 -- ---- acceptance
-pub accepts : (file : List ℕ) (j : ℕ) → IsShortElement file j → short_test file j ≡ Accepted
+pub accepts : (file : List ℕ) (j : ℕ) → IsShortElement file j → short_test file j ≡ Ok tt
 accepts file j (one h e) = one_test file j e h
 accepts file j (three h is large) =
     three_test_lem file j (not_three is.high) h ∙ rw (elements.accepts file j is, le-leb _ _ large)
 
-pub first_whole : (file : List ℕ) (j : ℕ) → short_test file j ≡ Accepted → 4 * j + 4 ≤ length file
+pub first_whole : (file : List ℕ) (j : ℕ) → short_test file j ≡ Ok tt → 4 * j + 4 ≤ length file
 unfolding short_test
 first_whole file j e = leb-true _ _ (passed _ _ _ e).0
 
 -- three words are there where all of them have passed
-wholly : (file : List ℕ) (j : ℕ) → eqb (kind_of (word_at file j)) 3 ≡ false → short_test file j ≡ Accepted
+wholly : (file : List ℕ) (j : ℕ) → eqb (kind_of (word_at file j)) 3 ≡ false → short_test file j ≡ Ok tt
     → 4 * j + 12 ≤ length file
 unfolding three_test
 wholly file j k e =
@@ -118,7 +118,7 @@ wholly file j k e =
     let l = leb-true (4 * (j + 2) + 4) (length file) f.0 in
     omega arith
 
-pub accepted : (file : List ℕ) (j : ℕ) → short_test file j ≡ Accepted → IsShortElement file j
+pub accepted : (file : List ℕ) (j : ℕ) → short_test file j ≡ Ok tt → IsShortElement file j
 accepted file j e = go (ℕ_discrete (kind_of (word_at file j)) 3)
   where
     go : Dec (kind_of (word_at file j) ≡ 3) → IsShortElement file j
@@ -182,7 +182,7 @@ module _ (file : List ℕ) (j : ℕ) where
       unless_ends (ElementFault file j) (eqb (kind_of (word_at file j)) 1) (WrongKind j) (from_second file j)
       (λ a. first_kind h other (eqb-false _ _ a) refl) (λ a. second_faults h (eqb-true _ _ a))
 
-  pub faulty : (r : Refusal) → short_test file j ≡ Refused r → ElementFault file j r
+  pub faulty : (r : Refusal) → short_test file j ≡ Err r → ElementFault file j r
   unfolding short_test
   faulty r e =
       ends_refusal Q (short_test file j) r
@@ -194,11 +194,11 @@ module _ (file : List ℕ) (j : ℕ) where
       Q = ElementFault file j
 
       by_kind : 4 * j + 4 ≤ length file → (b : Bool) → eqb (kind_of (word_at file j)) 3 ≡ b
-          → AnswerEnds Q (choose b Accepted (three_test file j))
+          → AnswerEnds Q (choose b (Ok tt) (three_test file j))
       by_kind h true e = tt
       by_kind h false e = three_faults h (eqb-false _ _ e)
 
-  pub fault_refused : (r : Refusal) → ElementFault file j r → short_test file j ≡ Refused r
+  pub fault_refused : (r : Refusal) → ElementFault file j r → short_test file j ≡ Err r
   unfolding short_test three_test
   fault_refused r (no_first h e) = rw (lt-leb _ _ h, e)
   fault_refused r (first_kind h n m e) = rw (le-leb _ _ h, ne_eqb _ _ n, ne_eqb _ _ m, e)
@@ -273,7 +273,7 @@ first_add file j zero i = ap (first_word file j) (zero-add i)
 first_add file j (suc n) i = ap (first_word file j) (suc-add n i) ∙ first_add file (next_word file j) n i
 
 -- what is left of n elements after one that is accepted, and after the last
-pub tests_next : (file : List ℕ) (j n : ℕ) (t : Answer) → 1 ≤ n → t ≡ short_test file j → t ≡ Accepted
+pub tests_next : (file : List ℕ) (j n : ℕ) (t : Answer) → 1 ≤ n → t ≡ short_test file j → t ≡ Ok tt
     → shorts_test file (next_word file j) (n - 1) ≡ shorts_test file j n
 unfolding shorts_test
 tests_next file j zero t h e a = absurd (omega arith)
@@ -281,14 +281,14 @@ tests_next file j (suc n) t h e a =
     let k : suc n - 1 ≡ n = omega arith in
     ap (shorts_test file (next_word file j)) k ∙ rw (sym e ∙ a)
 
-pub tests_stop : (file : List ℕ) (j n : ℕ) (t : Answer) (r : Refusal) → 1 ≤ n → t ≡ short_test file j → t ≡ Refused r
+pub tests_stop : (file : List ℕ) (j n : ℕ) (t : Answer) (r : Refusal) → 1 ≤ n → t ≡ short_test file j → t ≡ Err r
     → t ≡ shorts_test file j n
 unfolding shorts_test
 tests_stop file j zero t r h e a = absurd (omega arith)
 tests_stop file j (suc n) t r h e a = a ∙ rw (sym e ∙ a)
 
 pub tests_end : (file : List ℕ) (j n : ℕ) → n ≡ 0
-    → unless (eqb (4 * j) (length file)) FileLength Accepted ≡ shorts_test file j n
+    → unless (eqb (4 * j) (length file)) FileLength (Ok tt) ≡ shorts_test file j n
 unfolding shorts_test
 tests_end file j n e = rw e
 
@@ -304,18 +304,18 @@ unfolding first_word
 first_and_later first later zero h = first
 first_and_later first later (suc i) h = later i (omega arith)
 
-pub each_accepted : (file : List ℕ) (j n : ℕ) → shorts_test file j n ≡ Accepted → AllShort file j n
+pub each_accepted : (file : List ℕ) (j n : ℕ) → shorts_test file j n ≡ Ok tt → AllShort file j n
 unfolding first_word shorts_test
 each_accepted file j zero e = record {
   elements = λ i h. absurd (omega arith);
-  ends = eqb-true _ _ (passed (eqb (4 * j) (length file)) FileLength Accepted e).0;
+  ends = eqb-true _ _ (passed (eqb (4 * j) (length file)) FileLength (Ok tt) e).0;
 }
 each_accepted file j (suc n) e =
     let a = both_accepted (short_test file j) (shorts_test file (next_word file j) n) e in
     let rest = each_accepted file (next_word file j) n a.1 in
     record { elements = first_and_later (accepted file j a.0) rest.elements; ends = rest.ends }
 
-pub all_accepted : (file : List ℕ) (j n : ℕ) → AllShort file j n → shorts_test file j n ≡ Accepted
+pub all_accepted : (file : List ℕ) (j n : ℕ) → AllShort file j n → shorts_test file j n ≡ Ok tt
 unfolding first_word shorts_test
 all_accepted file j zero h = rw (eq-eqb _ _ h.ends)
 all_accepted file j (suc n) h =
@@ -325,8 +325,8 @@ all_accepted file j (suc n) h =
 
 -- the first that is refused decides, and bytes after the last are refused
 pub first_refused : (file : List ℕ) (j n i : ℕ) (r : Refusal) → i < n
-    → ((m : ℕ) → m < i → IsShortElement file (first_word file j m)) → short_test file (first_word file j i) ≡ Refused r
-    → shorts_test file j n ≡ Refused r
+    → ((m : ℕ) → m < i → IsShortElement file (first_word file j m)) → short_test file (first_word file j i) ≡ Err r
+    → shorts_test file j n ≡ Err r
 unfolding first_word shorts_test
 first_refused file j zero i r h b e = absurd (omega arith)
 first_refused file j (suc n) zero r h b e = rw e
@@ -335,7 +335,7 @@ first_refused file j (suc n) (suc i) r h b e =
     (first_refused file (next_word file j) n i r (omega arith) (λ m l. b (suc m) (omega arith)) e)
 
 pub bytes_after : (file : List ℕ) (j n : ℕ) → ((m : ℕ) → m < n → IsShortElement file (first_word file j m))
-    → (4 * first_word file j n ≡ length file → ⊥) → shorts_test file j n ≡ Refused FileLength
+    → (4 * first_word file j n ≡ length file → ⊥) → shorts_test file j n ≡ Err FileLength
 unfolding first_word shorts_test
 bytes_after file j zero b e = rw (ne_eqb _ _ e)
 bytes_after file j (suc n) b e =
@@ -345,11 +345,11 @@ bytes_after file j (suc n) b e =
 -- and one of the two it is
 pub data Stops (file : List ℕ) (j n : ℕ) (r : Refusal) : Type 0 where
   element : (i : ℕ) → i < n → ((m : ℕ) → m < i → IsShortElement file (first_word file j m))
-      → short_test file (first_word file j i) ≡ Refused r → Stops file j n r
+      → short_test file (first_word file j i) ≡ Err r → Stops file j n r
   tail : ((m : ℕ) → m < n → IsShortElement file (first_word file j m)) → (4 * first_word file j n ≡ length file → ⊥)
       → r ≡ FileLength → Stops file j n r
 
-pub stops : (file : List ℕ) (j n : ℕ) (r : Refusal) → shorts_test file j n ≡ Refused r → Stops file j n r
+pub stops : (file : List ℕ) (j n : ℕ) (r : Refusal) → shorts_test file j n ≡ Err r → Stops file j n r
 unfolding first_word shorts_test
 stops file j zero r e = go (ℕ_discrete (4 * j) (length file))
   where
@@ -363,8 +363,8 @@ stops file j (suc n) r e = go (short_test file j) refl (λ h. stops file (next_w
     later is (tail b q f) = tail (first_and_later is b) q f
 
     go : (t : Answer) → short_test file j ≡ t
-        → (shorts_test file (next_word file j) n ≡ Refused r → Stops file (next_word file j) n r)
+        → (shorts_test file (next_word file j) n ≡ Err r → Stops file (next_word file j) n r)
         → Stops file j (suc n) r
-    go Accepted a rest = later (accepted file j a) (rest (rw a at e))
-    go (Refused s) a rest =
+    go (Ok _) a rest = later (accepted file j a) (rest (rw a at e))
+    go (Err s) a rest =
         element 0 (omega arith) (λ m l. absurd (omega arith)) (a ∙ (rw a at e))

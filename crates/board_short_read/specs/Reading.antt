@@ -1,14 +1,12 @@
 -- What reading an element of the short edition finds (document 02, U7). Words, and elements of three words, are the
 -- full edition's.
 -- Assumes nothing.
-use Rattle.std.specs.Prelude.{◌≡◌, Bool, List, ℕ, zero, suc, ◌+◌, ◌*◌, ◌^◌, ◌≤◌, ◌<◌, eqb, ltb, leb, length}
+use Rattle.std.specs.Prelude.{◌≡◌, Bool, List, ℕ, zero, suc, ◌+◌, ◌*◌, ◌^◌, ◌≤◌, ◌<◌, eqb, ltb, leb, length, Ok}
 use Rattle.lists.specs.Lists.{choose, tab}
 use Rattle.field.specs.Field.{P}
-use Rattle.refusals.specs.Answers.{unless, after}
+use Rattle.refusals.specs.Answers.{Answer, unless, after}
 use Rattle.refusals.specs.declared.Refusal.{Refusal}
 use Rattle.refusals.specs.declared.Refusal.TheVariants.{FileLength, WrongKind, WrongValue, LongElement}
-use Rattle.refusals.specs.declared.Answer.{Answer}
-use Rattle.refusals.specs.declared.Answer.TheVariants.{Accepted}
 use Rattle.board_words.specs.Words.{kind_of, payload_of, word_at}
 use Rattle.board_words.specs.Elements.{element_at, IsElement}
 
@@ -37,13 +35,13 @@ three_test file j =
     (unless (eqb (kind_of (word_at file (j + 2))) 3) (WrongKind (j + 2))
     (unless (ltb (element_at file j) P) (WrongValue j)
     (unless (leb (2 ^ 30) (element_at file j)) (LongElement j)
-    Accepted))))))
+    (Ok tt)))))))
 
 -- what reading it finds: 12 where there is no first word, then by the kind of that
 unfoldable pub short_test : List ℕ → ℕ → Answer
 short_test file j =
     unless (is_whole file j) FileLength
-    (choose (eqb (kind_of (word_at file j)) 3) Accepted
+    (choose (eqb (kind_of (word_at file j)) 3) (Ok tt)
     (three_test file j))
 
 -- ---- element after element, the first of them from word j on
@@ -59,7 +57,7 @@ shorts_at file j n = tab n (λ i. short_at file (first_word file j i))
 
 -- what reading them finds, element by element, and 12 for bytes after the last
 unfoldable pub shorts_test : List ℕ → ℕ → ℕ → Answer
-shorts_test file j zero = unless (eqb (4 * j) (length file)) FileLength Accepted
+shorts_test file j zero = unless (eqb (4 * j) (length file)) FileLength (Ok tt)
 shorts_test file j (suc n) = after (short_test file j) (shorts_test file (next_word file j) n)
 
 -- ---- what a refusal says: the fault of the element from word j on that comes first, word by word, and then by its

@@ -62,9 +62,9 @@ pub fn measure(elements: &[u64]) -> Measured
 {
     let mut threes: u64 = 0;
     let mut bad: u64 = 0;
-    for i in 0..elements.len() {
-        threes += takes_three(elements[i]);
-        bad += not_canonical(elements[i]);
+    for element in elements {
+        threes += takes_three(*element);
+        bad += not_canonical(*element);
     }
     Measured {
         bytes: 4 * elements.len() + 8 * (threes as usize),
@@ -107,8 +107,8 @@ pub fn write_all(elements: &[u64], index: usize, destination: &mut [u8]) -> usiz
         ≡ sets destination.old (4 * index) (bytes_of (short_words_of elements.now)) }
 {
     let mut at = index;
-    for i in 0..elements.len() {
-        at = write(elements[i], at, destination);
+    for element in elements {
+        at = write(*element, at, destination);
     }
     at
 }

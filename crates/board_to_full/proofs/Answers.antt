@@ -8,11 +8,10 @@ use native.Mathlib.Omega.{arith}
 use borrow.Author.Tests.{eq-eqb, eqb-true, le-leb, lt-leb, leb-true}
 use lib.Dec.{eqb, leb}
 use lib.ListN.{length}
+use Rattle.std.specs.Prelude.{Ok, Err}
 use Rattle.numbers.specs.Numbers.{tap_words}
-use Rattle.refusals.specs.Answers.{unless, after}
+use Rattle.refusals.specs.Answers.{Answer, unless, after}
 use Rattle.refusals.specs.declared.Refusal.TheVariants.{DestinationLength, WrongValue}
-use Rattle.refusals.specs.declared.Answer.{Answer}
-use Rattle.refusals.specs.declared.Answer.TheVariants.{Accepted, Refused}
 use Rattle.refusals.proofs.Laws.{not_accepted, passed, both_accepted, after_after}
 use Rattle.board_words.specs.Words.{word_at}
 use Rattle.board.specs.Board.{most_file_batches, element_count, file_size}
@@ -25,7 +24,7 @@ use Rattle.board_to_full.specs.ToFull.{to_full_test, NoFullForm}
 
 -- ---- the last test, and those from the elements on
 abbrev pub last_test : List ℕ → ℕ → Answer
-last_test file size = unless (eqb size (file_size (short_batches_in file))) DestinationLength Accepted
+last_test file size = unless (eqb size (file_size (short_batches_in file))) DestinationLength (Ok tt)
 
 abbrev pub from_elements : List ℕ → ℕ → Answer
 from_elements file size = after (shorts_test file 1 (element_count (short_batches_in file))) (last_test file size)
@@ -36,7 +35,7 @@ from_most file size =
 
 -- ---- in a file with the short edition's mark and at most as many batches as a full file has: all that its reader
 -- tests, lent room for the taps, and 8 last
-as_small : (file : List ℕ) (size : ℕ) → edition_test file short_mark ≡ Accepted → short_batches_in file ≤ most_file_batches
+as_small : (file : List ℕ) (size : ℕ) → edition_test file short_mark ≡ Ok tt → short_batches_in file ≤ most_file_batches
     → to_full_test file size ≡ after (unpack_short_test file (tap_words (short_batches_in file))) (last_test file size)
 unfolding to_full_test unpack_short_test
 as_small file size e small =
@@ -56,7 +55,7 @@ its_mark file h = record {
   mark_is = omega (arith, h.word, h.permitted.high);
 }
 
-pub without : (file : List ℕ) (size : ℕ) → NoFullForm file → to_full_test file size ≡ Refused (WrongValue 0)
+pub without : (file : List ℕ) (size : ℕ) → NoFullForm file → to_full_test file size ≡ Err (WrongValue 0)
 unfolding to_full_test
 without file size h =
     let c = counts file h.k h.word h.permitted in
@@ -74,11 +73,11 @@ form file =
   where
     go : (a : Answer) → short_count_test (word_at file 0) ≡ a → Dec (4 ≤ length file)
         → Dec (most_file_batches < short_batches_in file) → Dec (NoFullForm file)
-    go (Refused r) e four above =
+    go (Err r) e four above =
         no λ h. not_accepted r (sym e ∙ (counts file h.k h.word h.permitted).1)
-    go Accepted e (no n) above = no λ h. n h.four
-    go Accepted e (yes y) (no n) = no λ h. n (above_most file h)
-    go Accepted e (yes y) (yes above) =
+    go (Ok _) e (no n) above = no λ h. n h.four
+    go (Ok _) e (yes y) (no n) = no λ h. n (above_most file h)
+    go (Ok _) e (yes y) (yes above) =
         let w = count_accepted (word_at file 0) e in
         yes (record { k = short_batches_in file; four = y; word = w.0; permitted = w.1; above = above })
 
@@ -89,20 +88,20 @@ pub as_reader : (file : List ℕ) (size : ℕ) → HasMark file short_mark → (
 unfolding to_full_test unpack_short_test short_batches_in
 as_reader file size m n = go (short_count_test (word_at file 0)) refl (dec_lt most_file_batches (short_batches_in file))
   where
-    marked : edition_test file short_mark ≡ Accepted
+    marked : edition_test file short_mark ≡ Ok tt
     marked = edition.accepts file short_mark m
 
     go : (a : Answer) → short_count_test (word_at file 0) ≡ a → Dec (most_file_batches < short_batches_in file)
         → to_full_test file size ≡ after (unpack_short_test file (tap_words (short_batches_in file))) (last_test file size)
-    go (Refused r) e d = rw (marked, le-leb _ _ m.four, e) refl
-    go Accepted e (no small) = as_small file size marked (omega (arith, small))
-    go Accepted e (yes above) =
+    go (Err r) e d = rw (marked, le-leb _ _ m.four, e) refl
+    go (Ok _) e (no small) = as_small file size marked (omega (arith, small))
+    go (Ok _) e (yes above) =
         let w = count_accepted (word_at file 0) e in
         absurd (n (record { k = short_batches_in file; four = m.four; word = w.0; permitted = w.1; above = above }))
 
 -- what acceptance says of word 0
-formed : (file : List ℕ) (size : ℕ) → to_full_test file size ≡ Accepted
-    → (edition_test file short_mark ≡ Accepted) × (short_batches_in file ≤ most_file_batches)
+formed : (file : List ℕ) (size : ℕ) → to_full_test file size ≡ Ok tt
+    → (edition_test file short_mark ≡ Ok tt) × (short_batches_in file ≤ most_file_batches)
 unfolding to_full_test
 formed file size e =
     let a = both_accepted (edition_test file short_mark) _ e in
@@ -111,7 +110,7 @@ formed file size e =
     (a.0, leb-true _ _ c.0)
 
 -- ---- what acceptance says: its reader accepts, a full file can have its k, and the length is the full file's
-pub accepted : (file : List ℕ) (size : ℕ) → to_full_test file size ≡ Accepted
+pub accepted : (file : List ℕ) (size : ℕ) → to_full_test file size ≡ Ok tt
     → IsShortBoard file (short_batches_in file)
     × (short_batches_in file ≤ most_file_batches) × (size ≡ file_size (short_batches_in file))
 accepted file size e =

@@ -7,11 +7,11 @@ use Prim.Native.Nat.{ℕ, ◌≤◌, ◌<◌}
 use native.Mathlib.Decide.{dec_lt}
 use native.Mathlib.Omega.{arith}
 use lib.ListN.{length}
+use Rattle.std.specs.Prelude.{Ok}
 use Rattle.field_words.proofs.Laws.{test_good}
 use Rattle.numbers.specs.Numbers.{tap_words}
 use Rattle.numbers.proofs.Laws.{permitted_to, tap_length_complete}
 use Rattle.refusals.specs.Answers.{after, leaves}
-use Rattle.refusals.specs.declared.Answer.TheVariants.{Accepted}
 use Rattle.board.specs.Board.{most_file_batches, pack_test, packed, pack_leaves}
 use Rattle.board_short.specs.ShortBoard.{short_batches_in, short_claim_in, short_taps_in, unpack_short_test}
 use Rattle.board_short.specs.ShortBoard.{IsShortBoard}
@@ -29,7 +29,7 @@ board_mark file k h = record {
   mark_is = omega (arith, h.word, h.permitted.high);
 }
 
-module _ (file : List ℕ) (n : ℕ) (e : unpack_short_test file n ≡ Accepted) (formed : NoFullForm file → ⊥) where
+module _ (file : List ℕ) (n : ℕ) (e : unpack_short_test file n ≡ Ok tt) (formed : NoFullForm file → ⊥) where
   -- so a full file can have its k
   small : short_batches_in file ≤ most_file_batches
   small = go (dec_lt most_file_batches (short_batches_in file))

@@ -4,7 +4,6 @@
 
 ghost use Rattle.std.specs.Prelude.{◌≡◌, ℕ, ◌+◌, ◌*◌, ◌≤◌, ◌<◌, length};
 ghost use Rattle.std.proofs.lemmas.List.Edits.{sets};
-ghost use Rattle.refusals.specs.declared.Answer.TheVariants as answer;
 ghost use Rattle.board_words.specs.Words.{bytes_of};
 ghost use Rattle.board_words.specs.Elements.{words_of};
 ghost use Rattle.board.specs.Board.{most_file_batches, file_size, packed};
@@ -13,41 +12,33 @@ ghost use Rattle.board_short.specs.ShortBoard.{short_batches_in, short_claim_in,
 ghost use Rattle.board_to_full.specs.ToFull.{to_full_test, to_full_leaves};
 
 use board::{BATCH_BYTES, EXTRA_BYTES, EXTRA_ELEMENTS};
+use board_edition::Edition;
 use board_words::Word;
 use numbers::BATCH_TAP_WORDS;
-use refusals::{Answer, Refusal};
+use refusals::Refusal;
 
 // What is tested: 12 (below 4), word 0's 13, 19, 14, right after it 14 for more batches than a full file has, then
 // element by element 12 where the input ends, 13, 14, 18, and 12 for bytes after the last, and last 8.
-fn test(file: &[u8], size: usize) -> Answer
+fn test(file: &[u8], size: usize) -> Result<(), Refusal>
     ensures { result ≡ to_full_test file.now size }
 {
-    let of_edition = board_edition::test(file, board_edition::SHORT);
-    let Answer::Accepted = of_edition else {
-        return of_edition;
-    };
+    board_edition::test(file, Edition::Short)?;
     let word = Word::read(file, 0);
-    let of_count = board_short::test_count(word);
-    let Answer::Accepted = of_count else {
-        return of_count;
-    };
+    board_short::test_count(word)?;
     let k = board_short::count_in(word);
     if board::MOST_FILE_BATCHES < k {
-        return Answer::Refused(Refusal::WrongValue(0));
+        return Err(Refusal::WrongValue(0));
     }
-    let of_elements = board_short_read::test_all(file, 1, BATCH_TAP_WORDS * k + EXTRA_ELEMENTS);
-    let Answer::Accepted = of_elements else {
-        return of_elements;
-    };
+    board_short_read::test_all(file, 1, BATCH_TAP_WORDS * k + EXTRA_ELEMENTS)?;
     if size != BATCH_BYTES * k + EXTRA_BYTES {
-        return Answer::Refused(Refusal::DestinationLength);
+        return Err(Refusal::DestinationLength);
     }
-    Answer::Accepted
+    Ok(())
 }
 
 // The elements after word 0, once their tests have accepted them, become those of the full file.
 fn write_elements(file: &[u8], count: usize, destination: &mut [u8])
-    requires { ((i : ℕ) → i < count → short_test file.now (first_word file.now 1 i) ≡ answer.Accepted)
+    requires { ((i : ℕ) → i < count → short_test file.now (first_word file.now 1 i) ≡ Ok tt)
         × (4 + 12 * count ≤ length destination.old) }
     ensures { destination.new ≡ sets destination.old 4
         (bytes_of (words_of (shorts_at file.now 1 count))) }
@@ -73,14 +64,11 @@ fn write(file: &[u8], destination: &mut [u8])
 }
 
 // The converter writes the full file of a short one when all its tests have passed.
-pub fn to_full(file: &[u8], destination: &mut [u8]) -> Answer
+pub fn to_full(file: &[u8], destination: &mut [u8]) -> Result<(), Refusal>
     ensures value { result ≡ to_full_test file.now (length destination.old) }
     ensures destination_after { destination.new ≡ to_full_leaves file.now destination.old }
 {
-    let answer = test(file, destination.len());
-    let Answer::Accepted = answer else {
-        return answer;
-    };
+    test(file, destination.len())?;
     write(file, destination);
-    Answer::Accepted
+    Ok(())
 }

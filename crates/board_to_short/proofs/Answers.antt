@@ -6,11 +6,10 @@ use Prim.Native.Nat.{ℕ, ◌+◌}
 use borrow.Author.Tests.{eq-eqb, eqb-true, le-leb}
 use lib.Dec.{eqb}
 use lib.ListN.{length}
+use Rattle.std.specs.Prelude.{Ok}
 use Rattle.numbers.specs.Numbers.{tap_words}
-use Rattle.refusals.specs.Answers.{unless, after}
+use Rattle.refusals.specs.Answers.{Answer, unless, after}
 use Rattle.refusals.specs.declared.Refusal.TheVariants.{DestinationLength, FileLength}
-use Rattle.refusals.specs.declared.Answer.{Answer}
-use Rattle.refusals.specs.declared.Answer.TheVariants.{Accepted}
 use Rattle.refusals.proofs.Laws.{passed, both_accepted, after_unless, after_after}
 use Rattle.board_words.specs.Words.{word_at}
 use Rattle.board_words.specs.Elements.{elements_at, elements_test}
@@ -25,7 +24,7 @@ use Rattle.board_to_short.specs.ToShort.{to_short_test}
 
 -- ---- the tests from the file's length on, and the last of them
 abbrev pub last_test : List ℕ → ℕ → Answer
-last_test file size = unless (eqb size (short_file_size (taps_in file) (claim_in file))) DestinationLength Accepted
+last_test file size = unless (eqb size (short_file_size (taps_in file) (claim_in file))) DestinationLength (Ok tt)
 
 abbrev pub from_length : List ℕ → ℕ → Answer
 from_length file size =
@@ -39,7 +38,7 @@ pub size_is : (file : List ℕ)
 size_is file = ap (λ s. 4 + all_bytes_needed s) (sym (board_elements file))
 
 -- ---- in a file with the full edition's mark: all that Unpack tests, lent room for the taps, and 8 last
-pub as_reader : (file : List ℕ) (size : ℕ) → edition_test file full_mark ≡ Accepted
+pub as_reader : (file : List ℕ) (size : ℕ) → edition_test file full_mark ≡ Ok tt
     → to_short_test file size ≡ after (unpack_test file (tap_words (batches_in file))) (last_test file size)
 unfolding to_short_test unpack_test
 as_reader file size e =
@@ -54,19 +53,19 @@ as_reader file size e =
     ∙ ap (after (count_test (word_at file 0))) (after_unless long FileLength elements last)))
 
 -- ---- what acceptance says: the mark is the full edition's, Unpack accepts, and the length is what the elements need
-mark_accepted : (file : List ℕ) (size : ℕ) → to_short_test file size ≡ Accepted → edition_test file full_mark ≡ Accepted
+mark_accepted : (file : List ℕ) (size : ℕ) → to_short_test file size ≡ Ok tt → edition_test file full_mark ≡ Ok tt
 unfolding to_short_test
 mark_accepted file size e = (both_accepted (edition_test file full_mark) _ e).0
 
-reader_accepted : (file : List ℕ) (size : ℕ) → to_short_test file size ≡ Accepted
-    → (unpack_test file (tap_words (batches_in file)) ≡ Accepted) × (size ≡ short_file_size (taps_in file) (claim_in file))
+reader_accepted : (file : List ℕ) (size : ℕ) → to_short_test file size ≡ Ok tt
+    → (unpack_test file (tap_words (batches_in file)) ≡ Ok tt) × (size ≡ short_file_size (taps_in file) (claim_in file))
 reader_accepted file size e =
     let whole = sym (as_reader file size (mark_accepted file size e)) ∙ e in
     let b = both_accepted (unpack_test file (tap_words (batches_in file))) _ whole in
     let c = passed (eqb size (short_file_size (taps_in file) (claim_in file))) DestinationLength _ b.1 in
     (b.0, eqb-true _ _ c.0)
 
-pub accepted : (file : List ℕ) (size : ℕ) → to_short_test file size ≡ Accepted
+pub accepted : (file : List ℕ) (size : ℕ) → to_short_test file size ≡ Ok tt
     → IsBoard file (batches_in file) × (size ≡ short_file_size (taps_in file) (claim_in file))
 accepted file size e =
     let r = reader_accepted file size e in

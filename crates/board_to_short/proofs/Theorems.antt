@@ -6,11 +6,11 @@ use mathlib.Core.List.{List}
 use Prim.Native.Nat.{ℕ}
 use native.Mathlib.Omega.{arith}
 use lib.ListN.{length}
+use Rattle.std.specs.Prelude.{Ok}
 use Rattle.field_words.proofs.Laws.{test_good}
 use Rattle.numbers.specs.Numbers.{tap_words, most_batches}
 use Rattle.numbers.proofs.Laws.{permitted_to, tap_length_complete}
 use Rattle.refusals.specs.Answers.{after, leaves}
-use Rattle.refusals.specs.declared.Answer.TheVariants.{Accepted}
 use Rattle.board.specs.Board.{batches_in, claim_in, taps_in, unpack_test, IsBoard}
 use Rattle.board.proofs.Answers.{unpack_accepted}
 use Rattle.board.proofs.Round.{board_canonical, taps_length}
@@ -28,7 +28,7 @@ board_mark file k h = record {
   mark_is = omega (arith, h.word, h.permitted.high);
 }
 
-module _ (file : List ℕ) (n : ℕ) (e : unpack_test file n ≡ Accepted) where
+module _ (file : List ℕ) (n : ℕ) (e : unpack_test file n ≡ Ok tt) where
   -- nothing but the destination's length is left to test, by the converter
   converter_left : (size : ℕ) → to_short_test file size ≡ last_test file size
   converter_left size =

@@ -1,10 +1,8 @@
 -- From the full edition of the board file to the short one (document 02, U8): same claim, same taps, other edition.
 -- Assumes nothing.
-use Rattle.std.specs.Prelude.{List, ℕ, eqb, length}
-use Rattle.refusals.specs.Answers.{unless, after, leaves}
+use Rattle.std.specs.Prelude.{List, ℕ, eqb, length, Ok}
+use Rattle.refusals.specs.Answers.{Answer, unless, after, leaves}
 use Rattle.refusals.specs.declared.Refusal.TheVariants.{DestinationLength, FileLength}
-use Rattle.refusals.specs.declared.Answer.{Answer}
-use Rattle.refusals.specs.declared.Answer.TheVariants.{Accepted}
 use Rattle.board_words.specs.Words.{word_at}
 use Rattle.board_words.specs.Elements.{elements_test}
 use Rattle.board.specs.Board.{element_count, file_size, batches_in, claim_in, taps_in, count_test}
@@ -19,7 +17,7 @@ to_short_test file size =
     (unless (eqb (length file) (file_size (batches_in file))) FileLength
     (after (elements_test file 1 (element_count (batches_in file)))
     (unless (eqb size (short_file_size (taps_in file) (claim_in file))) DestinationLength
-    Accepted))))
+    (Ok tt)))))
 
 -- what is left in the destination: the short file of the taps and the claim, or what was there
 unfoldable pub to_short_leaves : List ℕ → List ℕ → List ℕ

@@ -7,7 +7,6 @@ ghost use Rattle.std.proofs.lemmas.List.Edits.{sets};
 ghost use Rattle.field.specs.Field.{P};
 ghost use Rattle.refusals.specs.Answers.{unless, after};
 ghost use Rattle.refusals.specs.declared.Refusal.TheVariants as refusal;
-ghost use Rattle.refusals.specs.declared.Answer.TheVariants as answer;
 ghost use Rattle.board_words.specs.Words.{bytes_of};
 ghost use Rattle.board_words.specs.Elements.{element_at, elements_at, elements_test};
 ghost use Rattle.board.specs.Board.{batches_in, claim_in, taps_in, IsBoard};
@@ -16,48 +15,40 @@ ghost use Rattle.board_short.specs.ShortBoard.{short_file_size, packed_short};
 ghost use Rattle.board_to_short.specs.ToShort.{to_short_test, to_short_leaves};
 
 use board::{BATCH_BYTES, EXTRA_BYTES, EXTRA_ELEMENTS};
+use board_edition::Edition;
 use board_words::Word;
 use numbers::BATCH_TAP_WORDS;
-use refusals::{Answer, Refusal};
+use refusals::Refusal;
 
 // What reading the elements after word 0 finds, element by element, then 8: the destination has not the length that
 // they need.
-fn test_elements(file: &[u8], count: usize, size: usize) -> Answer
+fn test_elements(file: &[u8], count: usize, size: usize) -> Result<(), Refusal>
     requires { 4 + 12 * count ≤ length file.now }
     ensures { result ≡ after (elements_test file.now 1 count)
         (unless (eqb size (4 + all_bytes_needed (elements_at file.now 1 count))) refusal.DestinationLength
-        answer.Accepted) }
+        (Ok tt)) }
 {
     let mut threes: u64 = 0;
     for i in 0..count {
-        let of_element = board_read::test(file, 1 + 3 * i);
-        let Answer::Accepted = of_element else {
-            return of_element;
-        };
+        board_read::test(file, 1 + 3 * i)?;
         threes += board_short_words::takes_three(board_read::read(file, 1 + 3 * i));
     }
     if size != 4 + 4 * count + 8 * (threes as usize) {
-        return Answer::Refused(Refusal::DestinationLength);
+        return Err(Refusal::DestinationLength);
     }
-    Answer::Accepted
+    Ok(())
 }
 
 // What is tested: 12 (below 4), word 0's 13, 19, 14, 12, then each element's 13 and 14, and last 8.
-fn test(file: &[u8], size: usize) -> Answer
+fn test(file: &[u8], size: usize) -> Result<(), Refusal>
     ensures { result ≡ to_short_test file.now size }
 {
-    let of_edition = board_edition::test(file, board_edition::FULL);
-    let Answer::Accepted = of_edition else {
-        return of_edition;
-    };
+    board_edition::test(file, Edition::Full)?;
     let word = Word::read(file, 0);
-    let of_count = board::test_count(word);
-    let Answer::Accepted = of_count else {
-        return of_count;
-    };
+    board::test_count(word)?;
     let k = board::count_in(word);
     if file.len() != BATCH_BYTES * k + EXTRA_BYTES {
-        return Answer::Refused(Refusal::FileLength);
+        return Err(Refusal::FileLength);
     }
     test_elements(file, BATCH_TAP_WORDS * k + EXTRA_ELEMENTS, size)
 }
@@ -89,14 +80,11 @@ fn write(file: &[u8], destination: &mut [u8])
 }
 
 // The converter writes the short file of a full one when all its tests have passed.
-pub fn to_short(file: &[u8], destination: &mut [u8]) -> Answer
+pub fn to_short(file: &[u8], destination: &mut [u8]) -> Result<(), Refusal>
     ensures value { result ≡ to_short_test file.now (length destination.old) }
     ensures destination_after { destination.new ≡ to_short_leaves file.now destination.old }
 {
-    let answer = test(file, destination.len());
-    let Answer::Accepted = answer else {
-        return answer;
-    };
+    test(file, destination.len())?;
     write(file, destination);
-    Answer::Accepted
+    Ok(())
 }

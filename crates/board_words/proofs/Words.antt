@@ -1,19 +1,45 @@
--- Kind and payload split a word and join to it; a word's bytes read back as the word, and the words of a list of bytes
+-- What a comparison of kinds says of a word; a word's bytes read back as the word, and the words of a list of bytes
 -- spell that list.
 -- Assumes nothing.
-use mathlib.Core.Path.{◌≡◌, refl, sym, ap, ◌∙◌}
+use mathlib.Core.Path.{◌≡◌, refl, sym, ap, ap₂, ◌∙◌}
+use mathlib.Core.Bool.{Bool, not, not-not}
 use mathlib.Core.List.{List, [], ◌∷◌}
 use Prim.Native.Nat.{ℕ, zero, suc, ◌+◌, ◌*◌, ◌/◌, ◌%◌, ◌^◌, ◌<◌, ◌≤◌}
 use native.Mathlib.Nat.{mod-lt}
 use native.Mathlib.Omega.{arith}
+use denote.Enum.Bare.{sameb}
+use denote.Enum.Declared.{tag_of}
+use lib.Dec.{eqb}
 use lib.ListN.{length}
 use lib.Pow.{shr-shr}
 use lib.Seq.{ext_get_or}
 use Rattle.lists.specs.Lists.{cell}
 use Rattle.lists.proofs.Each.{length_each, cell_each}
-use Rattle.board_words.specs.Words.{word_bytes, word_at, AllBytes, bytes_of}
+use Rattle.board_words.specs.Words.{number_of, kind_of, word_bytes, word_at, AllBytes, bytes_of}
+use Rattle.board_words.specs.contracts.Kind.{the_type}
+use Rattle.board_words.specs.declared.Kind.{Kind}
+use Rattle.board_words.specs.declared.Kind.TheVariants.{Count, High, Middle, Low}
 
--- ---- kind and payload
+-- ---- kinds
+
+-- kinds are compared by their numbers
+numbered : (k : Kind) → tag_of the_type k ≡ number_of k
+numbered Count = refl
+numbered High = refl
+numbered Middle = refl
+numbered Low = refl
+
+same_kind : (k q : Kind) → sameb the_type k q ≡ eqb (number_of k) (number_of q)
+same_kind k q = ap₂ eqb (numbered k) (numbered q)
+
+-- what a comparison of a kind with q says of the word w that has it, where w is v
+module _ (q k : Kind) {w v : ℕ} (kind : number_of k ≡ kind_of w) (word : w ≡ v) where
+  pub kind_same : {b t : Bool} → b ≡ sameb the_type k q → b ≡ t → eqb (kind_of v) (number_of q) ≡ t
+  kind_same is e = rw (← word, ← kind) (sym (same_kind k q) ∙ sym is ∙ e)
+
+  pub kind_other : {b t : Bool} → b ≡ not (sameb the_type k q) → b ≡ t → eqb (kind_of v) (number_of q) ≡ not t
+  kind_other is e = kind_same refl (sym (not-not (sameb the_type k q)) ∙ ap not (sym is ∙ e))
+
 -- ---- bytes
 four_bytes : (w : ℕ) → length (word_bytes w) ≡ 4
 four_bytes w = refl
@@ -91,3 +117,22 @@ bytes_unique s ws all size same = ext_get_or 0 (bytes_of ws) s (length_bytes ws 
         ∙ ap (λ w. cell (word_bytes w) b) (same j l)
         ∙ bytes_word s j b all (omega arith) m
         ∙ sym (ap (cell s) e)
+
+-- a kind's number is no other's
+pub number_unique : (k q : Kind) (n : ℕ) → number_of k ≡ n → number_of q ≡ n → k ≡ q
+number_unique Count Count n e f = refl
+number_unique Count High n e f = absurd (omega (arith, e, f))
+number_unique Count Middle n e f = absurd (omega (arith, e, f))
+number_unique Count Low n e f = absurd (omega (arith, e, f))
+number_unique High Count n e f = absurd (omega (arith, e, f))
+number_unique High High n e f = refl
+number_unique High Middle n e f = absurd (omega (arith, e, f))
+number_unique High Low n e f = absurd (omega (arith, e, f))
+number_unique Middle Count n e f = absurd (omega (arith, e, f))
+number_unique Middle High n e f = absurd (omega (arith, e, f))
+number_unique Middle Middle n e f = refl
+number_unique Middle Low n e f = absurd (omega (arith, e, f))
+number_unique Low Count n e f = absurd (omega (arith, e, f))
+number_unique Low High n e f = absurd (omega (arith, e, f))
+number_unique Low Middle n e f = absurd (omega (arith, e, f))
+number_unique Low Low n e f = refl

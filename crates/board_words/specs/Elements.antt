@@ -1,12 +1,10 @@
 -- An element of the board file, and what reading one finds (document 01, "The board file", "What is turned back").
 -- Assumes nothing.
-use Rattle.std.specs.Prelude.{◌≡◌, List, [], ◌∷◌, ℕ, zero, suc, ◌+◌, ◌*◌, ◌/◌, ◌%◌, ◌^◌, eqb, ltb}
+use Rattle.std.specs.Prelude.{◌≡◌, List, [], ◌∷◌, ℕ, zero, suc, ◌+◌, ◌*◌, ◌/◌, ◌%◌, ◌^◌, eqb, ltb, Ok}
 use Rattle.lists.specs.Lists.{each, tab}
 use Rattle.field.specs.Field.{P, Canonical}
-use Rattle.refusals.specs.Answers.{unless, after}
+use Rattle.refusals.specs.Answers.{Answer, unless, after}
 use Rattle.refusals.specs.declared.Refusal.TheVariants.{WrongKind, WrongValue}
-use Rattle.refusals.specs.declared.Answer.{Answer}
-use Rattle.refusals.specs.declared.Answer.TheVariants.{Accepted}
 use Rattle.board_words.specs.Words.{joined, kind_of, payload_of, word_at}
 
 -- ---- writing
@@ -40,11 +38,11 @@ element_test file j =
     (unless (eqb (kind_of (word_at file (j + 1))) 2) (WrongKind (j + 1))
     (unless (eqb (kind_of (word_at file (j + 2))) 3) (WrongKind (j + 2))
     (unless (ltb (element_at file j) P) (WrongValue j)
-    Accepted)))
+    (Ok tt))))
 
 -- what reading n elements finds, element by element, the first of them from word j on
 unfoldable pub elements_test : List ℕ → ℕ → ℕ → Answer
-elements_test file j zero = Accepted
+elements_test file j zero = Ok tt
 elements_test file j (suc n) = after (element_test file j) (elements_test file (j + 3) n)
 
 -- what acceptance says: the words from j on are those of a canonical element

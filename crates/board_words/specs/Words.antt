@@ -3,12 +3,21 @@
 -- Assumes nothing.
 use Rattle.std.specs.Prelude.{List, [], ◌∷◌, ℕ, ◌+◌, ◌*◌, ◌/◌, ◌%◌, ◌^◌, ◌<◌, length}
 use Rattle.lists.specs.Lists.{cell, each}
+use Rattle.board_words.specs.declared.Kind.{Kind}
+use Rattle.board_words.specs.declared.Kind.TheVariants.{Count, High, Middle, Low}
 
--- the word of a kind and a 30-bit payload
+-- the number of a kind
+abbrev pub number_of : Kind → ℕ
+number_of Count = 0
+number_of High = 1
+number_of Middle = 2
+number_of Low = 3
+
+-- the word of a kind's number and a 30-bit payload
 abbrev pub joined : ℕ → ℕ → ℕ
 joined kind payload = kind * 2 ^ 30 + payload
 
--- its kind: the top two bits
+-- its kind's number: the top two bits
 abbrev pub kind_of : ℕ → ℕ
 kind_of w = w / 2 ^ 30
 

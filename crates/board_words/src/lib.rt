@@ -4,9 +4,18 @@
 
 ghost use Rattle.std.specs.Prelude.{◌≡◌, [], ◌∷◌, ◌+◌, ◌*◌, ◌%◌, ◌^◌, ◌≤◌, ◌<◌, length};
 ghost use Rattle.std.proofs.lemmas.List.Edits.{sets};
-ghost use Rattle.board_words.specs.Words.{joined, kind_of, payload_of, word_bytes, word_at, bytes_of};
+ghost use Rattle.board_words.specs.Words.{joined, number_of, kind_of, payload_of, word_bytes, word_at, bytes_of};
 ghost use Rattle.board_words.specs.Elements.{element_words, words_of};
 ghost use Rattle.board_words.specs.ElementHelpers.{upper_words};
+
+// The kinds of words, in the order of their numbers: word 0, and an element's three words, its upper bits first.
+#[derive(Clone, Copy, PartialEq, Eq)]
+pub enum Kind {
+    Count,
+    High,
+    Middle,
+    Low,
+}
 
 // A word of the file.
 #[derive(Clone, Copy)]
@@ -18,17 +27,22 @@ impl Word {
 
     pub const PAYLOAD: u32 = 0x3fff_ffff;
 
-    pub fn join(kind: u32, payload: u32) -> Word
-        requires { (kind < 4) × (payload < 2 ^ 30) }
-        ensures { result.0 ≡ joined kind payload }
+    pub fn join(kind: Kind, payload: u32) -> Word
+        requires { payload < 2 ^ 30 }
+        ensures { result.0 ≡ joined (number_of kind) payload }
     {
-        Word((kind << 30) | payload)
+        Word(((kind as u32) << Word::PAYLOAD_BITS) | payload)
     }
 
-    pub fn kind(self) -> u32
-        ensures { result ≡ kind_of self.0 }
+    pub fn kind(self) -> Kind
+        ensures { number_of result ≡ kind_of self.0 }
     {
-        self.0 >> 30
+        match self.0 >> Word::PAYLOAD_BITS {
+            0 => Kind::Count,
+            1 => Kind::High,
+            2 => Kind::Middle,
+            _ => Kind::Low,
+        }
     }
 
     pub fn payload(self) -> u32
@@ -75,8 +89,8 @@ pub fn write_upper(element: u64, index: usize, destination: &mut [u8])
 {
     let high = (element >> 60) as u32;
     let middle = ((element >> 30) & PAYLOAD) as u32;
-    Word::join(1, high).write(index, destination);
-    Word::join(2, middle).write(index + 1, destination);
+    Word::join(Kind::High, high).write(index, destination);
+    Word::join(Kind::Middle, middle).write(index + 1, destination);
 }
 
 // The last of them becomes word `index`.
@@ -86,7 +100,7 @@ pub fn write_low(element: u64, index: usize, destination: &mut [u8])
         ≡ sets destination.old (4 * index) (bytes_of (joined 3 (element % 2 ^ 30) ∷ [])) }
 {
     let low = (element & PAYLOAD) as u32;
-    Word::join(3, low).write(index, destination);
+    Word::join(Kind::Low, low).write(index, destination);
 }
 
 // The element becomes the three words from `index` on.
@@ -105,7 +119,7 @@ pub fn write_all(elements: &[u64], index: usize, destination: &mut [u8])
     ensures { destination.new
         ≡ sets destination.old (4 * index) (bytes_of (words_of elements.now)) }
 {
-    for i in 0..elements.len() {
-        write(elements[i], index + 3 * i, destination);
+    for (i, element) in elements.iter().enumerate() {
+        write(*element, index + 3 * i, destination);
     }
 }

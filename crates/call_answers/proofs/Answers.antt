@@ -8,19 +8,12 @@ use native.Mathlib.Omega.{arith}
 use borrow.Author.Tests.{eq-eqb, ne_eqb}
 use lib.Dec.{leb}
 use lib.ListN.{length, take, drop}
+use Rattle.std.specs.Prelude.{Ok, Err}
 use Rattle.numbers.specs.Numbers.{most_batches, is_tap_length, tap_word_batches, trace_word_batches}
-use Rattle.refusals.specs.Refusals.{digest, state, pair_words}
-use Rattle.refusals.specs.Answers.{unless, after, IsRefusal, digest_after, state_after, leaves}
+use Rattle.refusals.specs.Answers.{Answer, unless, after, with_value, leaves}
 use Rattle.refusals.specs.declared.Refusal.{Refusal}
 use Rattle.refusals.specs.declared.Refusal.TheVariants.{TapLength, DestinationLength, NoSuchTap}
-use Rattle.refusals.specs.declared.Answer.{Answer}
-use Rattle.refusals.specs.declared.Answer.TheVariants as answer
-use Rattle.refusals.specs.declared.Digest.{Digest}
-use Rattle.refusals.specs.declared.State.{State}
-use Rattle.refusals.specs.declared.Pair.{Pair}
-use Rattle.refusals.specs.declared.PairAnswer.TheVariants as eight
-use Rattle.refusals.proofs.Laws.{pair_accepted, pair_refused, leaves_old, leaves_new}
-use Rattle.refusals.proofs.Returned.{eight_words}
+use Rattle.refusals.proofs.Laws.{IsRefusal, value_accepted, value_refused, leaves_old, leaves_new}
 use Rattle.table.specs.Table.{table_test}
 use Rattle.hash.specs.Hash.{final_state, input, chain, first_taps}
 use Rattle.hash.specs.Answers.{hash_test, hash_answer}
@@ -37,37 +30,30 @@ use Rattle.board.proofs.Answers.{unpack_accepted}
 use Rattle.board_short.specs.ShortBoard.{short_claim_in, short_taps_in, unpack_short_test, unpack_short_answer}
 use Rattle.board_short.specs.ShortBoard.{unpack_short_leaves, short_batches_in}
 use Rattle.board_short.proofs.Answers as short
-use Rattle.call_results.specs.Code.{refusal_code, answer_code, digest_code}
-use Rattle.call_results.specs.HandsOver.{HandsOver, HandsOverState}
-use Rattle.call_results.proofs.Handed.{answer_accepted, answer_refused, digest_refused, handed_refused}
-use Rattle.call_results.proofs.Handed.{state_handed_refused}
+use Rattle.call_results.specs.Code.{refusal_code, answer_code, words_code}
+use Rattle.call_results.specs.HandsOver.{HandsOver}
+use Rattle.call_results.proofs.Handed.{answer_refused, words_refused, handed_refused, value_code, value_written}
 use Rattle.call_answers.specs.Calls.{hash_call_test, hash_no_room, hash_call, chain_call_test}
-use Rattle.call_answers.specs.Calls.{chain_no_room, chain_call, build_call_test, build_call, edit_call_test, edit_no_room}
+use Rattle.call_answers.specs.Calls.{chain_no_room, chain_call, build_call_test, build_call, edit_call_test}
+use Rattle.call_answers.specs.Calls.{edit_no_room}
 use Rattle.call_answers.specs.Calls.{edit_call, unhash_call_test, UnhashCall, unpack_call_test, unpack_call}
 use Rattle.call_answers.specs.Calls.{unpack_short_call_test, unpack_short_call}
 
 -- ---- tests t that can only refuse, as those of a call have become where its words find no room
 module _ (t called : Answer) (same : called ≡ t) (refuses : IsRefusal t) where
-  pub stopped : (d : Digest) (code : ℕ) (old : List ℕ) → code ≡ answer_code t
-      → HandsOver (digest_after called d) code old old
+  pub stopped : (d : List ℕ) (code : ℕ) (old : List ℕ) → code ≡ answer_code t
+      → HandsOver (with_value called d) code old old
   stopped d code old e =
-      handed_refused (digest_after called d) refuses.0 code old
-      (ap (λ a. digest_after a d) (same ∙ refuses.1))
+      handed_refused (with_value called d) refuses.0 code old
+      (ap (λ a. with_value a d) (same ∙ refuses.1))
       (e ∙ sym (answer_refused t refuses.0 refuses.1))
 
-  pub state_stopped : (s : State) (code : ℕ) (old : List ℕ) → code ≡ answer_code t
-      → HandsOverState (state_after called s) code old old
-  state_stopped s code old e =
-      state_handed_refused (state_after called s) refuses.0 code old
-      (ap (λ a. state_after a s) (same ∙ refuses.1))
-      (e ∙ sym (answer_refused t refuses.0 refuses.1))
-
-  digest_stopped : (d : Digest) (code : ℕ) (old : List ℕ) → code ≡ digest_code (digest_after t d)
-      → HandsOver (digest_after called d) code old old
+  digest_stopped : (d : List ℕ) (code : ℕ) (old : List ℕ) → code ≡ words_code (with_value t d)
+      → HandsOver (with_value called d) code old old
   digest_stopped d code old e =
-      handed_refused (digest_after called d) refuses.0 code old
-      (ap (λ a. digest_after a d) (same ∙ refuses.1))
-      (e ∙ sym (digest_refused (digest_after t d) refuses.0 (ap (λ a. digest_after a d) refuses.1)))
+      handed_refused (with_value called d) refuses.0 code old
+      (ap (λ a. with_value a d) (same ∙ refuses.1))
+      (e ∙ sym (words_refused (with_value t d) refuses.0 (ap (λ a. with_value a d) refuses.1)))
 
   pub kept : {A : Type 0} (new old : A) → old ≡ leaves called new old
   kept new old = sym (ap (λ a. leaves a new old) (same ∙ refuses.1))
@@ -121,27 +107,27 @@ pub hash_no_room_refuses : (T : List ℕ) → IsRefusal (hash_no_room T)
 unfolding hash_no_room
 hash_no_room_refuses T = go (table_test T)
   where
-    go : (t : Answer) → IsRefusal (after t (answer.Refused DestinationLength))
-    go (answer.Refused r) = (r, refl)
-    go answer.Accepted = (DestinationLength, refl)
+    go : (t : Answer) → IsRefusal (after t (Err DestinationLength))
+    go (Err r) = (r, refl)
+    go (Ok _) = (DestinationLength, refl)
 
 pub chain_no_room_refuses : (T w : List ℕ) → IsRefusal (chain_no_room T w)
 unfolding chain_no_room
 chain_no_room_refuses T w = go (table_test T) (is_tap_length most_batches (length w))
   where
-    go : (t : Answer) (b : Bool) → IsRefusal (after t (unless b TapLength (answer.Refused DestinationLength)))
-    go (answer.Refused r) b = (r, refl)
-    go answer.Accepted true = (DestinationLength, refl)
-    go answer.Accepted false = (TapLength, refl)
+    go : (t : Answer) (b : Bool) → IsRefusal (after t (unless b TapLength (Err DestinationLength)))
+    go (Err r) b = (r, refl)
+    go (Ok _) true = (DestinationLength, refl)
+    go (Ok _) false = (TapLength, refl)
 
 pub edit_no_room_refuses : (T t : List ℕ) (c n : ℕ) → IsRefusal (edit_no_room T t c n)
 unfolding edit_no_room
 edit_no_room_refuses T t c n = go (opening_test T t c) (leb n (3 * trace_word_batches (length t)))
   where
-    go : (a : Answer) (b : Bool) → IsRefusal (after a (unless b NoSuchTap (answer.Refused DestinationLength)))
-    go (answer.Refused r) b = (r, refl)
-    go answer.Accepted true = (DestinationLength, refl)
-    go answer.Accepted false = (NoSuchTap, refl)
+    go : (a : Answer) (b : Bool) → IsRefusal (after a (unless b NoSuchTap (Err DestinationLength)))
+    go (Err r) b = (r, refl)
+    go (Ok _) true = (DestinationLength, refl)
+    go (Ok _) false = (NoSuchTap, refl)
 
 module _ (file : List ℕ) (taps size : ℕ) where
   pub unpack_room : size ≡ 4 → unpack_test file taps ≡ unpack_call_test file taps size
@@ -163,9 +149,9 @@ module _ (file : List ℕ) (taps size : ℕ) where
   unpack_short_without e = rw (ne_eqb size 4 e, ne_eqb 0 (12 * short_batches_in file + 4) (λ q. omega arith))
 
 -- no list of taps has 0 words
-no_list : (t : Answer) (k : ℕ) → (t ≡ answer.Accepted → 0 ≡ 12 * k + 4) → IsRefusal t
-no_list (answer.Refused r) k e = (r, refl)
-no_list answer.Accepted k e = absurd (omega (arith, e refl))
+no_list : (t : Answer) (k : ℕ) → (t ≡ Ok tt → 0 ≡ 12 * k + 4) → IsRefusal t
+no_list (Err r) k e = (r, refl)
+no_list (Ok _) k e = absurd (omega (arith, e refl))
 
 pub no_list_refuses : (file : List ℕ) → IsRefusal (unpack_test file 0)
 no_list_refuses file = no_list (unpack_test file 0) (batches_in file) (λ e. (unpack_accepted file 0 e).1)
@@ -176,36 +162,36 @@ no_short_list_refuses file =
 
 -- so that the answer for such a destination is the one that stops at 8
 module _ (file : List ℕ) (taps size : ℕ) (without : size ≡ 4 → ⊥) where
-  pub unpack_stopped : (code : ℕ) (old : List ℕ) → code ≡ digest_code (unpack_answer file 0)
+  pub unpack_stopped : (code : ℕ) (old : List ℕ) → code ≡ words_code (unpack_answer file 0)
       → HandsOver (unpack_call file taps size) code old old
   unfolding unpack_answer unpack_call
   unpack_stopped code old e =
       digest_stopped (unpack_test file 0) (unpack_call_test file taps size) (unpack_without file taps size without)
-      (no_list_refuses file) (digest (claim_in file)) code old e
+      (no_list_refuses file) (claim_in file) code old e
 
-  pub unpack_short_stopped : (code : ℕ) (old : List ℕ) → code ≡ digest_code (unpack_short_answer file 0)
+  pub unpack_short_stopped : (code : ℕ) (old : List ℕ) → code ≡ words_code (unpack_short_answer file 0)
       → HandsOver (unpack_short_call file taps size) code old old
   unfolding unpack_short_answer unpack_short_call
   unpack_short_stopped code old e =
       digest_stopped (unpack_short_test file 0) (unpack_short_call_test file taps size)
-      (unpack_short_without file taps size without) (no_short_list_refuses file) (digest (short_claim_in file)) code old e
+      (unpack_short_without file taps size without) (no_short_list_refuses file) (short_claim_in file) code old e
 
 -- where there is room, answer and content are the operation's
 pub hash_answer_lem : (size : ℕ) → size ≡ 12 → (T words : List ℕ) → hash_answer T words ≡ hash_call T words size
 unfolding hash_answer hash_call
 hash_answer_lem size e T words =
-    ap (λ t. state_after t (state (final_state T (input (take 4 words) (drop 4 words))))) (hash_room T words size e)
+    ap (λ t. with_value t (final_state T (input (take 4 words) (drop 4 words)))) (hash_room T words size e)
 
 module _ (size : ℕ) (four : size ≡ 4) where
   pub chain_answer_lem : (T w : List ℕ) → chain_answer T w ≡ chain_call T w size
   unfolding chain_answer chain_call
   chain_answer_lem T w =
-      ap (λ t. digest_after t (digest (chain T w (tap_word_batches (length w))))) (chain_room T w size four)
+      ap (λ t. with_value t (chain T w (tap_word_batches (length w)))) (chain_room T w size four)
 
   pub build_answer_lem : (T w : List ℕ) (rows : ℕ) → build_answer T w rows ≡ build_call T w rows size
   unfolding build_answer build_call
   build_answer_lem T w rows =
-      ap (λ t. digest_after t (digest (chain T w (tap_word_batches (length w))))) (build_room T w size rows four)
+      ap (λ t. with_value t (chain T w (tap_word_batches (length w)))) (build_room T w size rows four)
 
   pub build_left : (T w old : List ℕ) → build_leaves T w old
       ≡ leaves (build_call_test T w (length old) size) (trace T w (tap_word_batches (length w))) old
@@ -217,7 +203,7 @@ module _ (size : ℕ) (four : size ≡ 4) where
       → edit_answer T t claim c n new ≡ edit_call T t claim c n new size
   unfolding edit_answer edit_call
   edit_answer_lem T t claim c n new =
-      ap (λ a. digest_after a (digest (chain T (first_taps c (altered_taps T t n new)) c)))
+      ap (λ a. with_value a (chain T (first_taps c (altered_taps T t n new)) c))
       (edit_room T t claim c n new size four)
 
   pub edit_left : (T t claim : List ℕ) (c n : ℕ) (new : List ℕ) → edit_leaves T t claim c n new
@@ -229,7 +215,7 @@ module _ (size : ℕ) (four : size ≡ 4) where
 
   pub unpack_answer_lem : (file : List ℕ) (taps : ℕ) → unpack_answer file taps ≡ unpack_call file taps size
   unfolding unpack_answer unpack_call
-  unpack_answer_lem file taps = ap (λ t. digest_after t (digest (claim_in file))) (unpack_room file taps size four)
+  unpack_answer_lem file taps = ap (λ t. with_value t (claim_in file)) (unpack_room file taps size four)
 
   pub unpack_left : (file old : List ℕ)
       → unpack_leaves file old ≡ leaves (unpack_call_test file (length old) size) (taps_in file) old
@@ -239,7 +225,7 @@ module _ (size : ℕ) (four : size ≡ 4) where
   pub unpack_short_answer_lem : (file : List ℕ) (taps : ℕ) → unpack_short_answer file taps ≡ unpack_short_call file taps size
   unfolding unpack_short_answer unpack_short_call
   unpack_short_answer_lem file taps =
-      ap (λ t. digest_after t (digest (short_claim_in file))) (unpack_short_room file taps size four)
+      ap (λ t. with_value t (short_claim_in file)) (unpack_short_room file taps size four)
 
   pub unpack_short_left : (file old : List ℕ)
       → unpack_short_leaves file old ≡ leaves (unpack_short_call_test file (length old) size) (short_taps_in file) old
@@ -254,21 +240,14 @@ list_kept (x ∷ part) old h = absurd (omega arith)
 
 -- ---- Unhash, with room for its eight words
 module _ (T s old : List ℕ) (room : length old ≡ 8) where
-  pub unhash_handed : (p : Pair) (new : List ℕ) → unhash_answer T s ≡ eight.Accepted p → new ≡ pair_words p
-      → UnhashCall T s 0 old new
+  pub unhash_handed : (code : ℕ) (new : List ℕ) → HandsOver (unhash_answer T s) code old new → UnhashCall T s code old new
   unfolding unhash_answer
-  unhash_handed p new e f =
-      let a = pair_accepted (unhash_test T s) _ p e in
-      let t = sym (unhash_room T s (length old) room) ∙ a.0 in
-      let words = f ∙ sym (ap pair_words a.1) ∙ eight_words (taps_before T s) (taps_size T s) in
-      record { coded = answer_accepted _ t; taps = leaves_new (sym t) old refl words }
-
-  pub unhash_refused : (r : Refusal) (code : ℕ) → unhash_answer T s ≡ eight.Refused r → code ≡ refusal_code r
-      → UnhashCall T s code old old
-  unfolding unhash_answer
-  unhash_refused r code e f =
-      let t = sym (unhash_room T s (length old) room) ∙ pair_refused (unhash_test T s) _ r e in
-      record { coded = f ∙ answer_refused _ r t; taps = leaves_old (sym t) _ refl }
+  unhash_handed code new h =
+      let same = unhash_room T s (length old) room in
+      record {
+        coded = h.coded ∙ value_code (unhash_test T s) _ ∙ ap answer_code same;
+        taps = h.output ∙ value_written (unhash_test T s) _ old ∙ ap (λ t. leaves t (taps_before T s) old) same;
+      }
 
 -- and without
 pub unhash_stopped : (T s old : List ℕ) (code : ℕ) → (length old ≡ 8 → ⊥) → code ≡ answer_code (hash_no_room T)

@@ -9,12 +9,12 @@ use lib.Dec.{lit<}
 use lib.ListN.{length, length-append}
 use Rattle.numbers.specs.Numbers.{IsPermitted, most_batches, trace_word_batches}
 use Rattle.refusals.specs.Refusals.{indexed, alone}
+use Rattle.refusals.specs.declared.Place.TheVariants as place
 use Rattle.check_constraints.specs.Constraints.{Test, tests}
 use Rattle.check_constraints.specs.FirstFailing.{IsFirstFailing}
 use Rattle.check_constraints.proofs.Families.{applies_cases}
 use Rattle.check_constraints.proofs.TestList.{in_middle, number_range, test_list}
 use Rattle.check_constraints.proofs.TestCount.{length_tests}
-use Rattle.refusals.specs.declared.Answer.{Answer}
 use Rattle.refusals.proofs.Laws.{AnswerEnds}
 use Rattle.table.specs.Table.{Prepares}
 use Rattle.table_prepare.proofs.Theorems.{prepares_unique}
@@ -47,6 +47,7 @@ use Rattle.call_answers.proofs.Endings.Unpack.{unpack_call_ends}
 use Rattle.call_answers.proofs.Endings.UnpackShort.{unpack_short_call_ends}
 use Rattle.call_answers.proofs.Endings.ToShort.{to_short_ends}
 use Rattle.call_answers.proofs.Endings.ToFull.{to_full_ends}
+use Rattle.refusals.specs.Answers.{Answer}
 
 -- ---- every refusal is within the bits: a number alone, and the indices in a table, a list, a trace and a file
 alone_bits : (n : ℕ) → n < 2 ^ 6 → InBits (alone n)
@@ -110,7 +111,7 @@ short_bits file = record {
 -- row, constraint and place of a failing test
 failing_bits : (T t claim : List ℕ) (c k : ℕ) → IsPermitted k → 1 ≤ c → c ≤ k → (i q n : ℕ)
     → IsFirstFailing T t claim (tests k c) i q n
-    → InBits (record { number = 11; values = 3; row = i; constraint = q; value = n })
+    → InBits (record { number = 11; place = place.Test i q n })
 failing_bits T t claim c k p low high i q n f =
     let among = in_middle x f.before f.after in
     let in_List = (test_list k c x).0 (subst (Memᴰ x) (sym f.order) among) in
@@ -151,7 +152,7 @@ build_bits T w rows size =
 module _ (T t claim : List ℕ) (c : ℕ) (four : length claim ≡ 4) where
   failing : let k = trace_word_batches (length t) in
       CheckInputs T t claim c k → (i q n : ℕ) → IsFirstFailing T t claim (tests k c) i q n
-      → InBits (record { number = 11; values = 3; row = i; constraint = q; value = n })
+      → InBits (record { number = 11; place = place.Test i q n })
   failing h =
       let o = h.opening in
       failing_bits T t claim c (trace_word_batches (length t)) o.permitted o.low o.high

@@ -6,18 +6,13 @@
 -- the order. T is the lent table, w a list of taps, t a trace, c the number of batches that is lent with a claim, n the
 -- number of a tap and new the new one, s a state.
 -- Assumes nothing.
-use Rattle.std.specs.Prelude.{◌&&◌, List, ◌≡◌, ℕ, ◌*◌, eqb, leb, length, take, drop}
+use Rattle.std.specs.Prelude.{◌&&◌, List, ◌≡◌, ℕ, ◌*◌, eqb, leb, length, take, drop, Result, Ok, Err}
 use Rattle.field_words.specs.Words.{first_bad, canonical_words}
 use Rattle.numbers.specs.Numbers.{width, tap_words, trace_words, most_batches, is_tap_length, tap_word_batches}
 use Rattle.numbers.specs.Numbers.{trace_word_batches}
-use Rattle.refusals.specs.Refusals.{digest, state}
-use Rattle.refusals.specs.Answers.{unless, after, digest_after, state_after, leaves}
+use Rattle.refusals.specs.Answers.{Answer, unless, after, with_value, leaves}
 use Rattle.refusals.specs.declared.Refusal.TheVariants.{TapLength, TapWord, DestinationLength, ClaimWord}
 use Rattle.refusals.specs.declared.Refusal.TheVariants.{TraceWord, FileLength, NoSuchTap, NoPair}
-use Rattle.refusals.specs.declared.Answer.{Answer}
-use Rattle.refusals.specs.declared.Answer.TheVariants as answer
-use Rattle.refusals.specs.declared.DigestAnswer.{DigestAnswer}
-use Rattle.refusals.specs.declared.StateAnswer.{StateAnswer}
 use Rattle.table.specs.Table.{table_test, Prepares}
 use Rattle.hash.specs.Hash.{final_state, input, chain, first_taps}
 use Rattle.trace.specs.Trace.{trace}
@@ -28,14 +23,17 @@ use Rattle.trace_edit.specs.Answers.{altered_taps}
 use Rattle.hash_undo.specs.Unhash.{input_before, taps_before, ends_in_zeros}
 use Rattle.board_words.specs.Words.{word_at}
 use Rattle.board_words.specs.Elements.{elements_test}
-use Rattle.board.specs.Board.{file_size, element_count, pack_test, pack_leaves, batches_in, claim_in, taps_in, count_test}
+use Rattle.board.specs.Board.{file_size, element_count, pack_test, pack_leaves, batches_in, claim_in, taps_in}
+use Rattle.board.specs.Board.{count_test}
 use Rattle.board_short_read.specs.Reading.{shorts_test}
-use Rattle.board_short.specs.ShortBoard.{pack_short_test, pack_short_leaves, short_claim_in, short_taps_in, short_count_test}
+use Rattle.board_short.specs.ShortBoard.{pack_short_test, pack_short_leaves, short_claim_in, short_taps_in}
+use Rattle.board_short.specs.ShortBoard.{short_count_test}
 use Rattle.board_short.specs.ShortBoard.{short_batches_in}
 use Rattle.board_to_short.specs.ToShort.{to_short_test, to_short_leaves}
 use Rattle.board_to_full.specs.ToFull.{to_full_test, to_full_leaves}
 use Rattle.call_results.specs.Code.{answer_code, tests_code}
 use Rattle.call_results.specs.HandsOver.{HandsOver}
+use Rattle.refusals.specs.declared.Refusal.{Refusal}
 
 -- ---- the number of these calls: raised where a call that there was takes other parameters, or another length for the
 -- same k
@@ -57,15 +55,15 @@ hash_call_test T words size =
     after (table_test T)
     (unless (eqb size width) DestinationLength
     (unless (canonical_words words) (TapWord (first_bad words))
-    answer.Accepted))
+    (Ok tt)))
 
 -- what is left of it, and of Unhash's, where the words find no room
 unfoldable pub hash_no_room : List ℕ → Answer
-hash_no_room T = after (table_test T) (answer.Refused DestinationLength)
+hash_no_room T = after (table_test T) (Err DestinationLength)
 
-unfoldable pub hash_call : List ℕ → List ℕ → ℕ → StateAnswer
+unfoldable pub hash_call : List ℕ → List ℕ → ℕ → Result (List ℕ) Refusal
 hash_call T words size =
-    state_after (hash_call_test T words size) (state (final_state T (input (take 4 words) (drop 4 words))))
+    with_value (hash_call_test T words size) (final_state T (input (take 4 words) (drop 4 words)))
 
 -- Chain: 1, 2, 4, 5, 8, 6
 unfoldable pub chain_call_test : List ℕ → List ℕ → ℕ → Answer
@@ -74,17 +72,17 @@ chain_call_test T w size =
     (unless (is_tap_length most_batches (length w)) TapLength
     (unless (eqb size 4) DestinationLength
     (unless (canonical_words w) (TapWord (first_bad w))
-    answer.Accepted)))
+    (Ok tt))))
 
 -- what is left of it, and of Build's, where the four words find no room
 unfoldable pub chain_no_room : List ℕ → List ℕ → Answer
 chain_no_room T w =
     after (table_test T)
     (unless (is_tap_length most_batches (length w)) TapLength
-    (answer.Refused DestinationLength))
+    (Err DestinationLength))
 
-unfoldable pub chain_call : List ℕ → List ℕ → ℕ → DigestAnswer
-chain_call T w size = digest_after (chain_call_test T w size) (digest (chain T w (tap_word_batches (length w))))
+unfoldable pub chain_call : List ℕ → List ℕ → ℕ → Result (List ℕ) Refusal
+chain_call T w size = with_value (chain_call_test T w size) (chain T w (tap_word_batches (length w)))
 
 -- Build: 1, 2, 4, 5, 8, 6; both destinations are tested at 8
 unfoldable pub build_call_test : List ℕ → List ℕ → ℕ → ℕ → Answer
@@ -93,10 +91,10 @@ build_call_test T w rows size =
     (unless (is_tap_length most_batches (length w)) TapLength
     (unless (eqb size 4 && eqb rows (trace_words (tap_word_batches (length w)))) DestinationLength
     (unless (canonical_words w) (TapWord (first_bad w))
-    answer.Accepted)))
+    (Ok tt))))
 
-unfoldable pub build_call : List ℕ → List ℕ → ℕ → ℕ → DigestAnswer
-build_call T w rows size = digest_after (build_call_test T w rows size) (digest (chain T w (tap_word_batches (length w))))
+unfoldable pub build_call : List ℕ → List ℕ → ℕ → ℕ → Result (List ℕ) Refusal
+build_call T w rows size = with_value (build_call_test T w rows size) (chain T w (tap_word_batches (length w)))
 
 pub record BuildCall (T w : List ℕ) (code : ℕ) (old new output output' : List ℕ) : Type 0 where
   pub four : HandsOver (build_call T w (length old) (length output)) code output output'
@@ -123,11 +121,11 @@ unfoldable pub edit_no_room : List ℕ → List ℕ → ℕ → ℕ → Answer
 edit_no_room T t c n =
     after (opening_test T t c)
     (unless (leb n (3 * trace_word_batches (length t))) NoSuchTap
-    (answer.Refused DestinationLength))
+    (Err DestinationLength))
 
-unfoldable pub edit_call : List ℕ → List ℕ → List ℕ → ℕ → ℕ → List ℕ → ℕ → DigestAnswer
+unfoldable pub edit_call : List ℕ → List ℕ → List ℕ → ℕ → ℕ → List ℕ → ℕ → Result (List ℕ) Refusal
 edit_call T t claim c n new size =
-    digest_after (edit_call_test T t claim c n new size) (digest (chain T (first_taps c (altered_taps T t n new)) c))
+    with_value (edit_call_test T t claim c n new size) (chain T (first_taps c (altered_taps T t n new)) c)
 
 -- the trace t is lent to be altered, and t' is what it is afterwards
 pub record EditCall (T t claim : List ℕ) (c n : ℕ) (new : List ℕ) (code : ℕ) (t' output output' : List ℕ)
@@ -143,7 +141,7 @@ unhash_call_test T s size =
     (unless (eqb size 8) DestinationLength
     (unless (canonical_words s) (TapWord (first_bad s))
     (unless (ends_in_zeros (input_before T s)) NoPair
-    answer.Accepted)))
+    (Ok tt))))
 
 -- its two taps go to a destination of eight words, the first tap first
 pub record UnhashCall (T s : List ℕ) (code : ℕ) (old new : List ℕ) : Type 0 where
@@ -165,8 +163,8 @@ unpack_call_test file taps size =
     (unless (eqb size 4 && eqb taps (tap_words (batches_in file))) DestinationLength
     (elements_test file 1 (element_count (batches_in file))))))
 
-unfoldable pub unpack_call : List ℕ → ℕ → ℕ → DigestAnswer
-unpack_call file taps size = digest_after (unpack_call_test file taps size) (digest (claim_in file))
+unfoldable pub unpack_call : List ℕ → ℕ → ℕ → Result (List ℕ) Refusal
+unpack_call file taps size = with_value (unpack_call_test file taps size) (claim_in file)
 
 pub record UnpackCall (file : List ℕ) (code : ℕ) (taps taps' claim claim' : List ℕ) : Type 0 where
   pub four : HandsOver (unpack_call file (length taps) (length claim)) code claim claim'
@@ -186,8 +184,8 @@ unpack_short_call_test file taps size =
     (unless (eqb size 4 && eqb taps (tap_words (short_batches_in file))) DestinationLength
     (shorts_test file 1 (element_count (short_batches_in file)))))
 
-unfoldable pub unpack_short_call : List ℕ → ℕ → ℕ → DigestAnswer
-unpack_short_call file taps size = digest_after (unpack_short_call_test file taps size) (digest (short_claim_in file))
+unfoldable pub unpack_short_call : List ℕ → ℕ → ℕ → Result (List ℕ) Refusal
+unpack_short_call file taps size = with_value (unpack_short_call_test file taps size) (short_claim_in file)
 
 pub record UnpackShortCall (file : List ℕ) (code : ℕ) (taps taps' claim claim' : List ℕ) : Type 0 where
   pub four : HandsOver (unpack_short_call file (length taps) (length claim)) code claim claim'

@@ -8,28 +8,26 @@ use Prim.Native.Nat.{ℕ, ◌^◌, ◌<◌}
 use native.Mathlib.Omega.{arith}
 use borrow.Author.Tests.{eqb-false}
 use lib.Dec.{eqb, lit<}
+use Rattle.std.specs.Prelude.{List, Ok, Err}
 use Rattle.lists.specs.Lists.{choose}
-use Rattle.refusals.specs.Refusals.{told, indexed}
+use Rattle.refusals.specs.Refusals.{told, indexed, row_of, constraint_of, value_of}
 use Rattle.refusals.specs.declared.Particulars.{Particulars}
 use Rattle.refusals.specs.declared.Refusal.{Refusal}
 use Rattle.refusals.specs.declared.Refusal.TheVariants.{TableLength, TableWord, NoInverse, WrongInverse, TapLength}
 use Rattle.refusals.specs.declared.Refusal.TheVariants.{TapWord, TraceLength, DestinationLength, ClaimWord, TraceWord}
 use Rattle.refusals.specs.declared.Refusal.TheVariants.{Constraint, FileLength, WrongKind, WrongValue, NoSuchTap}
 use Rattle.refusals.specs.declared.Refusal.TheVariants.{NoPair, ClaimBatches, LongElement, SameEdition}
-use Rattle.refusals.specs.declared.Answer.{Answer}
-use Rattle.refusals.specs.declared.Answer.TheVariants as answer
-use Rattle.refusals.specs.declared.Digest.{Digest}
-use Rattle.refusals.specs.Answers.{digest_after, tests_after}
+use Rattle.refusals.specs.Answers.{Answer, with_value}
 use Rattle.refusals.proofs.Laws.{not_accepted, refused_same, AnswerEnds}
-use Rattle.call_results.specs.Code.{code, particulars_code, refusal_code, answer_code, digest_code, tests_code}
+use Rattle.call_results.specs.Code.{code, particulars_code, refusal_code, answer_code, words_code, tests_code}
 use Rattle.call_results.specs.Code.{number_in, constraint_in, row_in, value_in, Says}
 
 -- ---- what is told, within the bits
 pub record InBits (p : Particulars) : Type 0 where
   pub number : p.number < 2 ^ 6
-  pub constraint : p.constraint < 2 ^ 6
-  pub row : p.row < 2 ^ 24
-  pub value : p.value < 2 ^ 28
+  pub constraint : constraint_of p.place < 2 ^ 6
+  pub row : row_of p.place < 2 ^ 24
+  pub value : value_of p.place < 2 ^ 28
 
 -- a refusal of which that is told
 abbrev pub RefusalInBits : Refusal → Type 0
@@ -77,16 +75,16 @@ some_number r = eqb-false (told r).number 0 (numbered r)
 refusal_some : (r : Refusal) → RefusalInBits r → refusal_code r ≡ 0 → ⊥
 refusal_some r b e = some_number r (sym (says (told r) b).number ∙ ap number_in e)
 
-pub zero_accepts : (t : Answer) → AnswerEnds RefusalInBits t → answer_code t ≡ 0 → t ≡ answer.Accepted
+pub zero_accepts : (t : Answer) → AnswerEnds RefusalInBits t → answer_code t ≡ 0 → t ≡ Ok tt
 unfolding answer_code
-zero_accepts answer.Accepted b e = refl
-zero_accepts (answer.Refused r) b e = absurd (refusal_some r b e)
+zero_accepts (Ok _) b e = refl
+zero_accepts (Err r) b e = absurd (refusal_some r b e)
 
-pub zero_returns : (t : Answer) (d : Digest) → AnswerEnds RefusalInBits t → digest_code (digest_after t d) ≡ 0
-    → t ≡ answer.Accepted
-unfolding digest_code
-zero_returns answer.Accepted d b e = refl
-zero_returns (answer.Refused r) d b e = absurd (refusal_some r b e)
+pub zero_returns : (t : Answer) (d : List ℕ) → AnswerEnds RefusalInBits t → words_code (with_value t d) ≡ 0
+    → t ≡ Ok tt
+unfolding words_code
+zero_returns (Ok _) d b e = refl
+zero_returns (Err r) d b e = absurd (refusal_some r b e)
 
 -- ---- a code tells one refusal
 
@@ -112,7 +110,8 @@ refusal_of number constraint row value =
     (choose (eqb number 18) (LongElement value)
     (choose (eqb number 19) SameEdition TableLength)))))))))))))))))
 
-of_told : (r : Refusal) → refusal_of (told r).number (told r).constraint (told r).row (told r).value ≡ r
+of_told : (r : Refusal)
+    → refusal_of (told r).number (constraint_of (told r).place) (row_of (told r).place) (value_of (told r).place) ≡ r
 of_told TableLength = refl
 of_told (TableWord i) = refl
 of_told NoInverse = refl
@@ -146,23 +145,23 @@ module _ (c : ℕ) where
 
 -- so the code of an answer within the bits tells a refusal exactly where it is that one, and number 0 exactly where it
 -- is acceptance
-pub told_exactly : (t : Answer) (n c : ℕ) (r : Refusal) → c ≡ tests_code (tests_after t n)
-    → AnswerEnds RefusalInBits t → (t ≡ answer.Accepted → n < 2 ^ 28) → Says c (told r) ↔ (t ≡ answer.Refused r)
+pub told_exactly : (t : Answer) (n c : ℕ) (r : Refusal) → c ≡ tests_code (with_value t n)
+    → AnswerEnds RefusalInBits t → (t ≡ Ok tt → n < 2 ^ 28) → Says c (told r) ↔ (t ≡ Err r)
 unfolding tests_code
-told_exactly answer.Accepted n c r e b l = (
+told_exactly (Ok _) n c r e b l = (
   λ s. absurd (tells_apart c n r (rw e (says_accepted n (l refl))) s),
   λ a. absurd (not_accepted r (sym a)),
 )
-told_exactly (answer.Refused q) n c r e b l =
+told_exactly (Err q) n c r e b l =
     let said : Says c (told q) = rw e (says (told q) b) in
-    (λ s. ap answer.Refused (tells_one c q r said s), λ a. subst (λ x. Says c (told x)) (refused_same a) said)
+    (λ s. ap Err (tells_one c q r said s), λ a. subst (λ x. Says c (told x)) (refused_same a) said)
 
-pub accepted_exactly : (t : Answer) (n c : ℕ) → c ≡ tests_code (tests_after t n)
-    → AnswerEnds RefusalInBits t → (t ≡ answer.Accepted → n < 2 ^ 28) → (number_in c ≡ 0) ↔ (t ≡ answer.Accepted)
+pub accepted_exactly : (t : Answer) (n c : ℕ) → c ≡ tests_code (with_value t n)
+    → AnswerEnds RefusalInBits t → (t ≡ Ok tt → n < 2 ^ 28) → (number_in c ≡ 0) ↔ (t ≡ Ok tt)
 unfolding tests_code
-accepted_exactly answer.Accepted n c e b l =
+accepted_exactly (Ok _) n c e b l =
     let said : Says c (indexed 0 n) = rw e (says_accepted n (l refl)) in
     (λ z. refl, λ a. said.number)
-accepted_exactly (answer.Refused q) n c e b l =
+accepted_exactly (Err q) n c e b l =
     let said : Says c (told q) = rw e (says (told q) b) in
     (λ z. absurd (some_number q (sym said.number ∙ z)), λ a. absurd (not_accepted q a))

@@ -3,18 +3,11 @@
 -- 35 the row; bits 36 to 63 the index, or the tests. Each part is cut to its bits; that no answer loses anything by
 -- it is shown in crate `call_answers`, proofs/Theorems.antt.
 -- Assumes nothing.
-use Rattle.std.specs.Prelude.{◌≡◌, ℕ, ◌+◌, ◌*◌, ◌/◌, ◌%◌, ◌^◌}
-use Rattle.refusals.specs.Refusals.{told}
+use Rattle.std.specs.Prelude.{◌≡◌, List, ℕ, ◌+◌, ◌*◌, ◌/◌, ◌%◌, ◌^◌, Result, Ok, Err}
+use Rattle.refusals.specs.Refusals.{told, row_of, constraint_of, value_of}
 use Rattle.refusals.specs.declared.Particulars.{Particulars}
 use Rattle.refusals.specs.declared.Refusal.{Refusal}
-use Rattle.refusals.specs.declared.Answer.{Answer}
-use Rattle.refusals.specs.declared.Answer.TheVariants as answer
-use Rattle.refusals.specs.declared.DigestAnswer.{DigestAnswer}
-use Rattle.refusals.specs.declared.DigestAnswer.TheVariants as digest
-use Rattle.refusals.specs.declared.StateAnswer.{StateAnswer}
-use Rattle.refusals.specs.declared.StateAnswer.TheVariants as state
-use Rattle.refusals.specs.declared.TestsAnswer.{TestsAnswer}
-use Rattle.refusals.specs.declared.TestsAnswer.TheVariants as tests
+use Rattle.refusals.specs.Answers.{Answer}
 
 -- ---- the code
 
@@ -24,7 +17,7 @@ code number constraint row value =
 
 -- of what is told of a refusal
 unfoldable pub particulars_code : Particulars → ℕ
-particulars_code p = code p.number p.constraint p.row p.value
+particulars_code p = code p.number (constraint_of p.place) (row_of p.place) (value_of p.place)
 
 abbrev pub refusal_code : Refusal → ℕ
 refusal_code r = particulars_code (told r)
@@ -32,20 +25,16 @@ refusal_code r = particulars_code (told r)
 -- of an answer. Acceptance is 0, with the tests where the operation counts them; four, eight or twelve words are
 -- written, and no part of the code
 unfoldable pub answer_code : Answer → ℕ
-answer_code answer.Accepted = 0
-answer_code (answer.Refused r) = refusal_code r
+answer_code (Ok _) = 0
+answer_code (Err r) = refusal_code r
 
-unfoldable pub digest_code : DigestAnswer → ℕ
-digest_code (digest.Accepted d) = 0
-digest_code (digest.Refused r) = refusal_code r
+unfoldable pub words_code : Result (List ℕ) Refusal → ℕ
+words_code (Ok words) = 0
+words_code (Err r) = refusal_code r
 
-unfoldable pub state_code : StateAnswer → ℕ
-state_code (state.Accepted s) = 0
-state_code (state.Refused r) = refusal_code r
-
-unfoldable pub tests_code : TestsAnswer → ℕ
-tests_code (tests.Accepted n) = code 0 0 0 n
-tests_code (tests.Refused r) = refusal_code r
+unfoldable pub tests_code : Result ℕ Refusal → ℕ
+tests_code (Ok n) = code 0 0 0 n
+tests_code (Err r) = refusal_code r
 
 -- ---- what a code says
 
@@ -64,6 +53,6 @@ value_in c = c / 2 ^ 36
 -- each part is what is told
 pub record Says (c : ℕ) (p : Particulars) : Type 0 where
   pub number : number_in c ≡ p.number
-  pub constraint : constraint_in c ≡ p.constraint
-  pub row : row_in c ≡ p.row
-  pub value : value_in c ≡ p.value
+  pub constraint : constraint_in c ≡ constraint_of p.place
+  pub row : row_in c ≡ row_of p.place
+  pub value : value_in c ≡ value_of p.place

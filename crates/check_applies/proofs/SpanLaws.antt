@@ -1,8 +1,7 @@
--- The span of a row: the definition's, by the tests of the code; and that no constraint below its low or from its end on
--- applies there, however many batches there are and wherever the claim stands, which is shown by the families that apply
--- at the row's number within its batch.
+-- The span of a row: no constraint below its start or from its end on applies there, however many batches there are and
+-- wherever the claim stands, which is shown by the families that apply at the row's number within its batch.
 -- Assumes nothing.
-use mathlib.Core.Path.{◌≡◌, refl, sym, subst, ◌∙◌}
+use mathlib.Core.Path.{◌≡◌, refl, sym, subst}
 use mathlib.Core.Bool.{Bool, true, false}
 use mathlib.Core.Logic.{inl, inr, ⊎_elim}
 use Prim.Native.Nat.{ℕ, ◌≤◌, ◌<◌}
@@ -10,39 +9,14 @@ use native.Mathlib.Decide.{ℕ_discrete, dec_le}
 use native.Mathlib.Nat.{mod-lt}
 use native.Mathlib.Omega.{arith}
 use borrow.Author.Tests.{eq-eqb, ne_eqb, le-leb, lt-leb}
-use lib.Dec.{eqb}
 use Rattle.numbers.specs.Numbers.{within}
 use Rattle.check_constraints.specs.Constraints.{entering, applies}
-use Rattle.check_constraints.proofs.Families.{Applies, applies_cases, zero_columns, new_zeros, starts, output_kept, goes_on}
+use Rattle.check_constraints.proofs.Families.{Applies, applies_cases, zero_columns, new_zeros, starts}
+use Rattle.check_constraints.proofs.Families.{output_kept, goes_on}
 use Rattle.check_constraints.proofs.Families.{ends, joins, claims}
 use Rattle.check_constraints.proofs.ForwardBack.{enters_at, enters_not_at}
-use Rattle.check_applies.specs.declared.Span.{Span}
+use Rattle.std.specs.declared.ops.Range.{Range}
 use Rattle.check_applies.specs.SpanHelpers.{span, span_of}
-
--- ---- one kind of row after the other, as the code goes through them. w is the row's number within its batch
-module _ (i : ℕ) {w : ℕ} (e : w ≡ within i) where
-  pub first_row_lem : w ≡ 0 → span 1 21 ≡ span_of i
-  first_row_lem z = rw (eq-eqb (within i) 0 (sym e ∙ z))
-
-  module _ {n : Bool} (f : n ≡ entering i) (not_first : w ≡ 0 → ⊥) where
-    not_0 : eqb (within i) 0 ≡ false
-    not_0 = ne_eqb (within i) 0 (λ z. not_first (e ∙ z))
-
-    pub entering_row : n ≡ true → span 5 25 ≡ span_of i
-    entering_row z = rw (not_0, sym f ∙ z)
-
-    module _ (other : n ≡ false) where
-      pub middle_row : w ≤ 29 → span 21 33 ≡ span_of i
-      middle_row l = rw (not_0, sym f ∙ other, le-leb (within i) 29 (omega arith))
-
-      module _ (past : 29 < w) where
-        pub row_30 : w ≡ 30 → span 33 45 ≡ span_of i
-        row_30 z =
-            rw (not_0, sym f ∙ other, lt-leb (within i) 29 (omega arith), eq-eqb (within i) 30 (sym e ∙ z))
-
-        pub row_31 : (w ≡ 30 → ⊥) → span 45 53 ≡ span_of i
-        row_31 z =
-            rw (not_0, sym f ∙ other, lt-leb (within i) 29 (omega arith), ne_eqb (within i) 30 (λ q. z (e ∙ q)))
 
 -- ---- the constraints that can apply at row i stand from low on and before end
 pub record Spans (i low end : ℕ) : Type 0 where
@@ -99,30 +73,34 @@ spans i low end a b d room = record {
 module _ (i : ℕ) where
   -- a span that has room, and is the definition's
   fitting : (low end : ℕ) → span low end ≡ span_of i → 1 ≤ low → low < end → end ≤ 53 → Room (within i) low end
-      → Spans i (span_of i).0 (span_of i).1
-  fitting low end e a b d room = subst (λ s. Spans i s.0 s.1) e (spans i low end a b d room)
+      → Spans i (span_of i).start (span_of i).end
+  fitting low end e a b d room = subst (λ s. Spans i s.start s.end) e (spans i low end a b d room)
 
-  all_span : Spans i (span_of i).0 (span_of i).1
+  all_span : Spans i (span_of i).start (span_of i).end
   all_span = go (ℕ_discrete (within i) 0) (entering i) refl (dec_le (within i) 29) (ℕ_discrete (within i) 30)
     where
-      go : Dec (within i ≡ 0) → (n : Bool) → n ≡ entering i → Dec (within i ≤ 29) → Dec (within i ≡ 30)
-          → Spans i (span_of i).0 (span_of i).1
+      go : Dec (within i ≡ 0) → (n : Bool) → entering i ≡ n → Dec (within i ≤ 29) → Dec (within i ≡ 30)
+          → Spans i (span_of i).start (span_of i).end
       go (yes z) n f m l =
-          fitting 1 21 (first_row_lem i refl z) (omega arith) (omega arith) (omega arith) (omega arith)
+          fitting 1 21 (rw (eq-eqb (within i) 0 z)) (omega arith) (omega arith) (omega arith) (omega arith)
       go (no z) true f m l =
-          let e = entering_row i refl f z refl in
+          let e : span 5 25 ≡ span_of i = rw (ne_eqb (within i) 0 z, f) in
           ⊎_elim (λ h. fitting 5 25 e (omega arith) (omega arith) (omega arith) (omega arith))
           (λ h. fitting 5 25 e (omega arith) (omega arith) (omega arith) (omega arith))
-          (enters_at i (sym f))
+          (enters_at i f)
       go (no z) false f (yes m) l =
-          let h = not_entering i (sym f) in
-          fitting 21 33 (middle_row i refl f z refl m) (omega arith) (omega arith) (omega arith)
-          (omega (arith, h.0, h.1))
+          let h = not_entering i f in
+          fitting 21 33 (rw (ne_eqb (within i) 0 z, f, le-leb (within i) 29 m)) (omega arith) (omega arith)
+          (omega arith) (omega (arith, h.0, h.1))
       go (no z) false f (no m) (yes l) =
-          fitting 33 45 (row_30 i refl f z refl (omega arith) l) (omega arith) (omega arith) (omega arith) (omega arith)
+          let e : span 33 45 ≡ span_of i =
+          rw (ne_eqb (within i) 0 z, f, lt-leb (within i) 29 (omega arith), eq-eqb (within i) 30 l) in
+          fitting 33 45 e (omega arith) (omega arith) (omega arith) (omega arith)
       go (no z) false f (no m) (no l) =
-          fitting 45 53 (row_31 i refl f z refl (omega arith) l) (omega arith) (omega arith) (omega arith)
+          let e : span 45 53 ≡ span_of i =
+          rw (ne_eqb (within i) 0 z, f, lt-leb (within i) 29 (omega arith), ne_eqb (within i) 30 l) in
+          fitting 45 53 e (omega arith) (omega arith) (omega arith)
           (omega (arith, mod-lt i {m = 32} (omega arith)))
 
-  pub spanned : {s : Span} → s ≡ span_of i → Spans i s.0 s.1
-  spanned e = subst (λ s. Spans i s.0 s.1) (sym e) all_span
+  pub spanned : {s : Range ℕ} → s ≡ span_of i → Spans i s.start s.end
+  spanned e = subst (λ s. Spans i s.start s.end) (sym e) all_span

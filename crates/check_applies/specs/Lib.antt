@@ -1,1 +1,2 @@
+pub mod ComparedHelpers
 pub mod SpanHelpers

@@ -8,11 +8,10 @@ use mathlib.Core.List.{List, [], ◌∷◌, ◌++◌, Memᴰ}
 use Prim.Native.Nat.{ℕ, suc, ◌+◌}
 use native.Mathlib.Omega.{arith}
 use lib.ListN.{length}
+use Rattle.std.specs.Prelude.{Ok, Err}
 use Rattle.numbers.specs.declared.RowNumber.{RowNumber}
 use Rattle.refusals.specs.declared.Refusal.TheVariants.{Constraint}
-use Rattle.refusals.specs.declared.Answer.{Answer}
-use Rattle.refusals.specs.declared.Answer.TheVariants.{Accepted, Refused}
-use Rattle.refusals.specs.Answers.{unless}
+use Rattle.refusals.specs.Answers.{Answer, unless}
 use Rattle.refusals.proofs.Laws.{not_accepted}
 use Rattle.check_constraints.specs.Constraints.{Test, holds, tests, walk, constraint_test}
 use Rattle.check_constraints.specs.FirstFailing.{AllHold, IsFirstFailing}
@@ -32,9 +31,9 @@ module _ (T t claim : List ℕ) where
 
   -- a walk over xs after n tests comes to one of these two ends
   pub data Ends (xs : List Test) (n : ℕ) : Answer → Type 0 where
-    passes : AllHold T t claim xs → Ends xs n Accepted
+    passes : AllHold T t claim xs → Ends xs n (Ok tt)
     stops : (i q place : ℕ) → IsFirstFailing T t claim xs i q place → (m : ℕ) → m ≡ n + place
-        → Ends xs n (Refused (Constraint (record { 0 = i }) q m))
+        → Ends xs n (Err (Constraint (record { 0 = i }) q m))
 
   one_more_end : (x : Test) (xs : List Test) (n : ℕ) (r : Answer) → holds T t claim x.at x.number ≡ true
       → Ends xs (n + 1) r → Ends (x ∷ xs) n r
@@ -78,16 +77,16 @@ module _ (T t claim : List ℕ) where
   walk_stops : (xs : List Test) (i q : ℕ) (rest : List Test) (n : ℕ) → AllHold T t claim xs
       → holds T t claim i q ≡ false
       → walk T t claim (xs ++ record { at = i; number = q } ∷ rest) n
-      ≡ Refused (Constraint (record { 0 = i }) q (n + (length xs + 1)))
+      ≡ Err (Constraint (record { 0 = i }) q (n + (length xs + 1)))
   unfolding walk
   walk_stops [] i q rest n a e =
       let z : n + 1 ≡ n + (0 + 1) = omega arith in
-      rw e (ap (λ m. Refused (Constraint (record { 0 = i }) q m)) z)
+      rw e (ap (λ m. Err (Constraint (record { 0 = i }) q m)) z)
   walk_stops (x ∷ xs) i q rest n a e =
       let z : n + 1 + (length xs + 1) ≡ n + (suc (length xs) + 1) = omega arith in
       rw (a x (Memᴰ.head refl))
       (walk_stops xs i q rest (n + 1) (λ y m. a y (Memᴰ.tail m)) e
-      ∙ ap (λ m. Refused (Constraint (record { 0 = i }) q m)) z)
+      ∙ ap (λ m. Err (Constraint (record { 0 = i }) q m)) z)
 
   -- ---- through all tests
   module _ (k c : ℕ) where
@@ -95,26 +94,26 @@ module _ (T t claim : List ℕ) where
     unfolding constraint_test
     test_ends = walk_ends (tests k c) 0
 
-    pub accepted_all_hold : constraint_test T t claim c k ≡ Accepted → AllHold T t claim (tests k c)
+    pub accepted_all_hold : constraint_test T t claim c k ≡ Ok tt → AllHold T t claim (tests k c)
     accepted_all_hold = go (constraint_test T t claim c k) test_ends
       where
-        go : (r : Answer) → Ends (tests k c) 0 r → r ≡ Accepted → AllHold T t claim (tests k c)
+        go : (r : Answer) → Ends (tests k c) 0 r → r ≡ Ok tt → AllHold T t claim (tests k c)
         go r (passes a) e = a
         go r (stops i q place f m p) e = absurd (not_accepted _ e)
 
-    pub all_hold_accepted : AllHold T t claim (tests k c) → constraint_test T t claim c k ≡ Accepted
+    pub all_hold_accepted : AllHold T t claim (tests k c) → constraint_test T t claim c k ≡ Ok tt
     all_hold_accepted a = go (constraint_test T t claim c k) test_ends
       where
-        go : (r : Answer) → Ends (tests k c) 0 r → r ≡ Accepted
+        go : (r : Answer) → Ends (tests k c) 0 r → r ≡ Ok tt
         go r (passes b) = refl
         go r (stops i q place f m p) = absurd (not_both (tests k c) i q place a f)
 
     -- a refusal names row, constraint and place of the first test that fails
-    pub refused_first_failing : (i q n : ℕ) → constraint_test T t claim c k ≡ Refused (Constraint (record { 0 = i }) q n)
+    pub refused_first_failing : (i q n : ℕ) → constraint_test T t claim c k ≡ Err (Constraint (record { 0 = i }) q n)
         → IsFirstFailing T t claim (tests k c) i q n
     refused_first_failing i q n = go (constraint_test T t claim c k) test_ends
       where
-        go : (r : Answer) → Ends (tests k c) 0 r → r ≡ Refused (Constraint (record { 0 = i }) q n)
+        go : (r : Answer) → Ends (tests k c) 0 r → r ≡ Err (Constraint (record { 0 = i }) q n)
             → IsFirstFailing T t claim (tests k c) i q n
         go r (passes a) e = absurd (not_accepted _ (sym e))
         go r (stops j d place f m p) e =
@@ -126,20 +125,20 @@ module _ (T t claim : List ℕ) where
             subst₃ (λ u v l. IsFirstFailing T t claim (tests k c) u v l) x y w f
 
     pub first_failing_refused : (i q n : ℕ) → IsFirstFailing T t claim (tests k c) i q n
-        → constraint_test T t claim c k ≡ Refused (Constraint (record { 0 = i }) q n)
+        → constraint_test T t claim c k ≡ Err (Constraint (record { 0 = i }) q n)
     unfolding constraint_test
     first_failing_refused i q n f =
         let z : 0 + (length f.before + 1) ≡ n = omega (arith, f.place) in
         ap (λ l. walk T t claim l 0) f.order
         ∙ walk_stops f.before i q f.after 0 f.passed f.fails
-        ∙ ap (λ m. Refused (Constraint (record { 0 = i }) q m)) z
+        ∙ ap (λ m. Err (Constraint (record { 0 = i }) q m)) z
 
     -- and every trace that is not accepted is refused so
-    pub else_first_failing : (constraint_test T t claim c k ≡ Accepted → ⊥)
-        → (i : ℕ) × (q : ℕ) × (n : ℕ) × (constraint_test T t claim c k ≡ Refused (Constraint (record { 0 = i }) q n))
+    pub else_first_failing : (constraint_test T t claim c k ≡ Ok tt → ⊥)
+        → (i : ℕ) × (q : ℕ) × (n : ℕ) × (constraint_test T t claim c k ≡ Err (Constraint (record { 0 = i }) q n))
     else_first_failing = go (constraint_test T t claim c k) test_ends
       where
-        go : (r : Answer) → Ends (tests k c) 0 r → (r ≡ Accepted → ⊥)
-            → (i : ℕ) × (q : ℕ) × (n : ℕ) × (r ≡ Refused (Constraint (record { 0 = i }) q n))
+        go : (r : Answer) → Ends (tests k c) 0 r → (r ≡ Ok tt → ⊥)
+            → (i : ℕ) × (q : ℕ) × (n : ℕ) × (r ≡ Err (Constraint (record { 0 = i }) q n))
         go r (passes a) never = absurd (never refl)
         go r (stops i q place f m p) never = (i, q, m, refl)

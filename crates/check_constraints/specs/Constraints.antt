@@ -3,7 +3,8 @@
 -- batches, row by row; the claim is lent with c, the number of batches that it is about; i is the number of a row in
 -- the whole trace, j a column, q the number of a constraint.
 -- Assumes nothing.
-use Rattle.std.specs.Prelude.{Bool, true, false, ◌&&◌, ◌||◌, not, List, [], ◌∷◌, ◌++◌, ℕ, zero, suc, ◌+◌, ◌-◌, ◌%◌, leb, ltb, eqb}
+use Rattle.std.specs.Prelude.{Bool, true, false, ◌&&◌, ◌||◌, not, List, [], ◌∷◌, ◌++◌, ℕ, zero, suc, ◌+◌, ◌-◌, ◌%◌, leb}
+use Rattle.std.specs.Prelude.{ltb, eqb, Ok}
 use Rattle.lists.specs.Lists.{choose, cell, tab}
 use Rattle.field.specs.Field.{add, sub}
 use Rattle.numbers.specs.Numbers.{trace_row_count, width, within}
@@ -12,9 +13,7 @@ use Rattle.table.specs.Table.{inverse_of, initial_constant, first_step_constant}
 use Rattle.hash.specs.Hash.{cubes, plus, second_step}
 use Rattle.trace.specs.Trace.{row}
 use Rattle.refusals.specs.declared.Refusal.TheVariants.{Constraint}
-use Rattle.refusals.specs.declared.Answer.{Answer}
-use Rattle.refusals.specs.declared.Answer.TheVariants.{Accepted}
-use Rattle.refusals.specs.Answers.{unless}
+use Rattle.refusals.specs.Answers.{Answer, unless}
 
 -- ---- rows, forward and back
 
@@ -185,7 +184,7 @@ tests k c = tests_from k c 0 (trace_row_count k)
 
 -- the walk after n tests: it stops at the first test that fails, whose place is counted from 1
 unfoldable pub walk : List ℕ → List ℕ → List ℕ → List Test → ℕ → Answer
-walk T t claim [] n = Accepted
+walk T t claim [] n = (Ok tt)
 walk T t claim (x ∷ xs) n =
     unless (holds T t claim x.at x.number) (Constraint (record { 0 = x.at }) x.number (n + 1))
     (walk T t claim xs (n + 1))

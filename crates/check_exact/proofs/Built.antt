@@ -29,7 +29,8 @@ use Rattle.numbers.specs.Numbers.{first_row}
 use Rattle.check_constraints.specs.ReadOff.{read_input, read_taps}
 use Rattle.check_constraints.proofs.OneRound.{back_first, minus_plus}
 use Rattle.check_constraints.proofs.Equations.{Equations}
-use Rattle.check_constraints.proofs.ForwardBack.{enters_not, entering_hash, round_hash, back_is, forward_is, forward_enters}
+use Rattle.check_constraints.proofs.ForwardBack.{enters_not, entering_hash, round_hash, back_is, forward_is}
+use Rattle.check_constraints.proofs.ForwardBack.{forward_enters}
 use Rattle.check_exact.proofs.ReadList.{length_read, first_tap_read, next_tap_read, row_of_trace}
 
 module _ (T w : List ℕ) (k : ℕ) (accepted : IsTable T) (size : length w ≡ 12 * k + 4) (canonical : AllCanonical w) where

@@ -7,13 +7,12 @@ use mathlib.Core.Logic.{◌↔◌}
 use mathlib.Core.List.{List}
 use Prim.Native.Nat.{ℕ, ◌+◌, ◌*◌, ◌≤◌}
 use lib.ListN.{length}
+use Rattle.std.specs.Prelude.{Ok, Err}
 use Rattle.field_words.specs.Words.{AllCanonical}
 use Rattle.numbers.specs.Numbers.{IsPermitted}
 use Rattle.refusals.specs.declared.Refusal.TheVariants.{Constraint}
-use Rattle.refusals.specs.declared.Answer.TheVariants.{Accepted, Refused}
-use Rattle.refusals.specs.declared.TestsAnswer.TheVariants as counted
-use Rattle.refusals.specs.Answers.{tests_after}
-use Rattle.refusals.proofs.Laws.{tests_accepted}
+use Rattle.refusals.specs.Answers.{with_value}
+use Rattle.refusals.proofs.Laws.{value_accepted}
 use Rattle.table.specs.Table.{IsTable}
 use Rattle.hash.specs.Hash.{chain, first_taps}
 use Rattle.hash_chain.proofs.FirstTaps.{chain_first}
@@ -41,7 +40,7 @@ tests_say T t claim c k = (
 module _ (T : List ℕ) (k : ℕ) (table : IsTable T) (permitted : IsPermitted k) where
   -- for every c, a built trace is accepted under the output of the first 3c + 1 taps
   pub accepts_built : (c : ℕ) (w : List ℕ) → length w ≡ 12 * k + 4 → AllCanonical w
-      → constraint_test T (trace T w k) (chain T (first_taps c w) c) c k ≡ Accepted
+      → constraint_test T (trace T w k) (chain T (first_taps c w) c) c k ≡ Ok tt
   accepts_built c w size canonical =
       ap (λ claim. constraint_test T (trace T w k) claim c k) (chain_first T w c)
       ∙ walks.all_hold_accepted T (trace T w k) (chain T w c) k c
@@ -49,7 +48,7 @@ module _ (T : List ℕ) (k : ℕ) (table : IsTable T) (permitted : IsPermitted k
 
   -- so under the output its building returned; and reading it off yields the taps that it was built from
   pub reading_off_a_built_trace : (w : List ℕ) → length w ≡ 12 * k + 4 → AllCanonical w
-      → (constraint_test T (trace T w k) (chain T w k) k k ≡ Accepted) × (read_taps T (trace T w k) k ≡ w)
+      → (constraint_test T (trace T w k) (chain T w k) k k ≡ Ok tt) × (read_taps T (trace T w k) k ≡ w)
   reading_off_a_built_trace w size canonical = (
     ap (λ claim. constraint_test T (trace T w k) claim k k) (sym (chain_first T w k)) ∙ accepts_built k w size canonical,
     reads_back T w k table size canonical permitted.low,
@@ -67,23 +66,23 @@ module _ (T : List ℕ) (k : ℕ) (table : IsTable T) (permitted : IsPermitted k
 module _ (T t claim : List ℕ) (c k : ℕ) (table : IsTable T) (permitted : IsPermitted k) (low : 1 ≤ c) (high : c ≤ k)
     (size : length t ≡ 384 * k) (canonical : AllCanonical t) (four : length claim ≡ 4) where
   -- an accepted trace reports the whole of the order, which is 372 × k tests
-  pub whole_order : (n : ℕ) → tests_after (constraint_test T t claim c k) (length (tests k c)) ≡ counted.Accepted n
+  pub whole_order : (n : ℕ) → with_value (constraint_test T t claim c k) (length (tests k c)) ≡ Ok n
       → (n ≡ length (tests k c)) × (n ≡ 372 * k)
   whole_order n e =
-      let all = sym (tests_accepted (constraint_test T t claim c k) (length (tests k c)) n e).1 in
+      let all = sym (value_accepted (constraint_test T t claim c k) (length (tests k c)) n e).1 in
       (all, all ∙ length_tests k c low high)
 
   -- reading off an accepted trace yields a list whose first 3c + 1 taps chain to the claim and that has this trace
-  pub reads_that_list : constraint_test T t claim c k ≡ Accepted → IsListFor T t claim c k (read_taps T t k)
+  pub reads_that_list : constraint_test T t claim c k ≡ Ok tt → IsListFor T t claim c k (read_taps T t k)
   reads_that_list e =
       is_list_for T t claim c k table low high size canonical four
       ((tests_say T t claim c k).0 (walks.accepted_all_hold T t claim k c e))
 
   -- accepted exactly when there is such a list
-  pub accepts_exactly : (constraint_test T t claim c k ≡ Accepted) ↔ ((w : List ℕ) × IsListFor T t claim c k w)
+  pub accepts_exactly : (constraint_test T t claim c k ≡ Ok tt) ↔ ((w : List ℕ) × IsListFor T t claim c k w)
   accepts_exactly = (λ e. (read_taps T t k, reads_that_list e), λ s. from s.0 s.1)
     where
-      from : (w : List ℕ) → IsListFor T t claim c k w → constraint_test T t claim c k ≡ Accepted
+      from : (w : List ℕ) → IsListFor T t claim c k w → constraint_test T t claim c k ≡ Ok tt
       from w l =
           sym (ap (λ x. constraint_test T x claim c k) l.traced)
           ∙ sym (ap (λ x. constraint_test T (trace T w k) x c k) l.chains)
@@ -97,14 +96,14 @@ module _ (T t claim : List ℕ) (c k : ℕ) (table : IsTable T) (permitted : IsP
 
   -- a trace that is not accepted is refused with 11, and with row, constraint and place of the first test of the order
   -- that fails
-  pub first_failing : (constraint_test T t claim c k ≡ Accepted → ⊥)
-      → (i : ℕ) × (q : ℕ) × (n : ℕ) × (constraint_test T t claim c k ≡ Refused (Constraint (record { 0 = i }) q n))
+  pub first_failing : (constraint_test T t claim c k ≡ Ok tt → ⊥)
+      → (i : ℕ) × (q : ℕ) × (n : ℕ) × (constraint_test T t claim c k ≡ Err (Constraint (record { 0 = i }) q n))
       × IsFirstFailing T t claim (tests k c) i q n
   first_failing never =
       let r = walks.else_first_failing T t claim k c never in
       (r.0, r.1, r.2, r.3, walks.refused_first_failing T t claim k c r.0 r.1 r.2 r.3)
 
-  pub refuses_exactly : (i q n : ℕ) → (constraint_test T t claim c k ≡ Refused (Constraint (record { 0 = i }) q n))
+  pub refuses_exactly : (i q n : ℕ) → (constraint_test T t claim c k ≡ Err (Constraint (record { 0 = i }) q n))
       ↔ IsFirstFailing T t claim (tests k c) i q n
   refuses_exactly i q n =
       (walks.refused_first_failing T t claim k c i q n, walks.first_failing_refused T t claim k c i q n)

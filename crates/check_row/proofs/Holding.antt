@@ -16,11 +16,13 @@ use Rattle.numbers.specs.Numbers.{within}
 use Rattle.table.specs.Table.{initial_constant}
 use Rattle.trace.specs.Trace.{row}
 use Rattle.check_constraints.specs.Constraints.{entering, forward, back, holds}
-use Rattle.check_constraints.proofs.Families.{Applies, zero_columns, new_zeros, starts, output_kept, goes_on, ends, joins}
+use Rattle.check_constraints.proofs.Families.{Applies, zero_columns, new_zeros, starts, output_kept, goes_on}
+use Rattle.check_constraints.proofs.Families.{ends, joins}
 use Rattle.check_constraints.proofs.Families.{claims, applies_cases}
 use Rattle.check_constraints.proofs.Equations.{at_zero_columns, at_new_zeros, at_starts, at_goes_on, at_ends, at_joins}
 use Rattle.check_constraints.proofs.Equations.{at_claims}
 use Rattle.check_constraints.proofs.ForwardBack.{enters_at}
+use Rattle.check_applies.specs.ComparedHelpers.{At}
 use Rattle.trace_rows.specs.RowHelpers.{HasRow, tested_columns}
 use Rattle.check_steps.specs.StepHelpers.{columns}
 use Rattle.check_steps.proofs.Made.{cell_before}
@@ -68,23 +70,13 @@ placed k c i q (joins j l e r n) = record {
 }
 placed k c i q (claims j l e r) = omega arith
 
--- the row is there, and so is the next of its batch
-pub has_row : {t : List ℕ} {i : ℕ} → InTrace t i → HasRow t i
+-- the row is there
+has_row : {t : List ℕ} {i : ℕ} → InTrace t i → HasRow t i
 has_row h = record {
   canonical = h.canonical;
   inside = omega (arith, h.size, h.inside);
   small = omega (arith, h.few, h.inside);
 }
-
-pub has_next : {t : List ℕ} {i n : ℕ} → n ≡ i + 1 → InTrace t i → within i ≤ 29 → HasRow t n
-has_next e h w = record {
-  canonical = h.canonical;
-  inside = omega (arith, h.size, h.inside);
-  small = omega (arith, h.few, h.inside);
-}
-
-pub next_within : (i : ℕ) {n : ℕ} → n ≡ i + 1 → within i ≤ 29 → 1 ≤ within n
-next_within i e h = omega arith
 
 -- ---- forward and back where the code computes them, w being the row's number within its batch
 module _ (T t : List ℕ) (i : ℕ) {w : ℕ} (e : w ≡ within i) where
@@ -96,7 +88,8 @@ module _ (T t : List ℕ) (i : ℕ) {w : ℕ} (e : w ≡ within i) where
   unfolding forward_of
   no_forward_31 h = rw (le-leb 1 (within i) (omega arith), lt-leb (within i) 30 (subst (λ x. 30 < x) e h))
 
-  pub some_forward : 1 ≤ w → w ≤ 30 → {f : List ℕ} → f ≡ columns (tested_columns i) (forward T t i) → f ≡ forward_of T t i
+  pub some_forward : 1 ≤ w → w ≤ 30 → {f : List ℕ} → f ≡ columns (tested_columns i) (forward T t i)
+      → f ≡ forward_of T t i
   unfolding forward_of
   some_forward p q f =
       rw (le-leb 1 (within i) (subst (λ x. 1 ≤ x) e p), le-leb (within i) 30 (subst (λ x. x ≤ 30) e q)) f
@@ -148,56 +141,54 @@ module _ (T t : List ℕ) {i q : ℕ} (h : AppliesIn t i q) where
       let made : b ≡ back T t (i + 1) = e ∙ rw (le-leb (within i) 29 ((found h).behind l u)) refl in
       ap (λ x. cell x j) made
 
--- ---- what it compares, f being forward of the row and b back of the next, and x, y, s what is read and added
+-- ---- what it compares, j being the column, f forward of the row and b back of the next, and x, y, k, s what is read
+-- and added
 module _ (T t claim : List ℕ) {i q : ℕ} (h : AppliesIn t i q) where
   -- a test by its constraint's number, from what the definition compares there
   from : (n : ℕ) {v w : Bool} → q ≡ n → holds T t claim i n ≡ w → v ≡ w → v ≡ holds T t claim i q
   from n p d e = e ∙ sym (ap (holds T t claim i) p ∙ d)
 
-  pub holds_zeros : q < 5 → {x : ℕ} → x ≡ cell (row t i) (q - 1 + 8) → eqb x 0 ≡ holds T t claim i q
-  holds_zeros u e =
-      let l = from_one h in
-      let s : q - 1 + 8 ≡ 8 + (q - 1) = omega arith in
-      from (1 + (q - 1)) (omega arith) (at_zero_columns T t claim i (q - 1) (omega arith))
-      (ap (λ x. eqb x 0) (e ∙ ap (cell (row t i)) s))
+  module _ {j : ℕ} where
+    pub holds_zeros : At 1 4 8 q j → {x : ℕ} → x ≡ cell (row t i) j → eqb x 0 ≡ holds T t claim i q
+    holds_zeros a e =
+        from (1 + (q - 1)) (omega arith) (at_zero_columns T t claim i (q - 1) (omega arith))
+        (ap (λ x. eqb x 0) (e ∙ ap (cell (row t i)) a.2))
 
-  module _ {f b : List ℕ} (at_forward : f ≡ forward_of T t i) (at_back : b ≡ back_after T t i) where
-    pub holds_new_zeros : 5 ≤ q → q < 9 → {x : ℕ} → x ≡ cell (initial_constant T) (q - 5 + 8)
-        → eqb (cell b (q - 5 + 8)) x ≡ holds T t claim i q
-    holds_new_zeros l u e =
-        let s : q - 5 + 8 ≡ 8 + (q - 5) = omega arith in
-        from (5 + (q - 5)) (omega arith) (at_new_zeros T t claim i (q - 5) (omega arith))
-        (ap₂ eqb (is_back T t h at_back l (omega arith) (q - 5 + 8) ∙ ap (cell (back T t (i + 1))) s)
-        (e ∙ ap (cell (initial_constant T)) s))
+    module _ {f b : List ℕ} (at_forward : f ≡ forward_of T t i) (at_back : b ≡ back_after T t i) where
+      pub holds_new_zeros : At 5 8 8 q j → {k : List ℕ} → k ≡ initial_constant T
+          → eqb (cell b j) (cell k j) ≡ holds T t claim i q
+      holds_new_zeros a k =
+          from (5 + (q - 5)) (omega arith) (at_new_zeros T t claim i (q - 5) (omega arith))
+          (ap₂ eqb (is_back T t h at_back (omega arith) (omega arith) j ∙ ap (cell (back T t (i + 1))) a.2)
+          (ap₂ cell k a.2))
 
-    pub holds_starts : 9 ≤ q → q < 21 → {x k s : ℕ} → x ≡ cell (row t i) (q - 9)
-        → k ≡ cell (initial_constant T) (q - 9) → s ≡ add x k → eqb s (cell b (q - 9)) ≡ holds T t claim i q
-    holds_starts l u x k s =
-        from (9 + (q - 9)) (omega arith) (at_starts T t claim i (q - 9) (omega arith))
-        (ap₂ eqb (s ∙ ap₂ add x k) (is_back T t h at_back (omega arith) (omega arith) (q - 9)))
+      pub holds_starts : At 9 20 0 q j → {x s : ℕ} {k : List ℕ} → x ≡ cell (row t i) j → k ≡ initial_constant T
+          → s ≡ add x (cell k j) → eqb s (cell b j) ≡ holds T t claim i q
+      holds_starts a x k s =
+          from (9 + j) (omega arith) (at_starts T t claim i j (omega arith))
+          (ap₂ eqb (s ∙ ap₂ add x (ap (λ k. cell k j) k)) (is_back T t h at_back (omega arith) (omega arith) j))
 
-    pub holds_goes_on : 21 ≤ q → q < 33 → eqb (cell f (q - 21)) (cell b (q - 21)) ≡ holds T t claim i q
-    holds_goes_on l u =
-        from (21 + (q - 21)) (omega arith) (at_goes_on T t claim i (q - 21) (omega arith))
-        (ap₂ eqb
-        (is_forward T t h at_forward l (omega arith) (q - 21) ((found h).kept (q - 21) (omega arith) u))
-        (is_back T t h at_back (omega arith) u (q - 21)))
+      pub holds_goes_on : At 21 32 0 q j → eqb (cell f j) (cell b j) ≡ holds T t claim i q
+      holds_goes_on a =
+          from (21 + j) (omega arith) (at_goes_on T t claim i j (omega arith))
+          (ap₂ eqb
+          (is_forward T t h at_forward (omega arith) (omega arith) j ((found h).kept j (omega arith) (omega arith)))
+          (is_back T t h at_back (omega arith) (omega arith) j))
 
-    pub holds_ends : 33 ≤ q → q < 45 → {n x : ℕ} → n ≡ i + 1 → x ≡ cell (row t n) (q - 33)
-        → eqb (cell f (q - 33)) x ≡ holds T t claim i q
-    holds_ends l u n e =
-        from (33 + (q - 33)) (omega arith) (at_ends T t claim i (q - 33) (omega arith))
-        (ap₂ eqb (is_forward T t h at_forward (omega arith) u (q - 33) ((found h).last (q - 33) (omega arith) u))
-        (e ∙ ap (λ m. cell (row t m) (q - 33)) n))
+      pub holds_ends : At 33 44 0 q j → {n x : ℕ} → n ≡ i + 1 → x ≡ cell (row t n) j
+          → eqb (cell f j) x ≡ holds T t claim i q
+      holds_ends a n e =
+          from (33 + j) (omega arith) (at_ends T t claim i j (omega arith))
+          (ap₂ eqb
+          (is_forward T t h at_forward (omega arith) (omega arith) j ((found h).last j (omega arith) (omega arith)))
+          (e ∙ ap (λ m. cell (row t m) j) n))
 
-  pub holds_joins : 45 ≤ q → q < 49 → {n x y : ℕ} → n ≡ i + 1 → x ≡ cell (row t i) (q - 45)
-      → y ≡ cell (row t n) (q - 45) → eqb x y ≡ holds T t claim i q
-  holds_joins l u n d e =
-      from (45 + (q - 45)) (omega arith) (at_joins T t claim i (q - 45) (omega arith))
-      (ap₂ eqb d (e ∙ ap (λ m. cell (row t m) (q - 45)) n))
+    pub holds_joins : At 45 48 0 q j → {n x y : ℕ} → n ≡ i + 1 → x ≡ cell (row t i) j → y ≡ cell (row t n) j
+        → eqb x y ≡ holds T t claim i q
+    holds_joins a n d e =
+        from (45 + j) (omega arith) (at_joins T t claim i j (omega arith))
+        (ap₂ eqb d (e ∙ ap (λ m. cell (row t m) j) n))
 
-  pub holds_claims : 49 ≤ q → {x : ℕ} → x ≡ cell (row t i) (q - 49) → eqb x (cell claim (q - 49)) ≡ holds T t claim i q
-  holds_claims l e =
-      let u = to_last h in
-      from (49 + (q - 49)) (omega arith) (at_claims T t claim i (q - 49) (omega arith))
-      (ap (λ x. eqb x (cell claim (q - 49))) e)
+    pub holds_claims : At 49 52 0 q j → {x : ℕ} → x ≡ cell (row t i) j → eqb x (cell claim j) ≡ holds T t claim i q
+    holds_claims a e =
+        from (49 + j) (omega arith) (at_claims T t claim i j (omega arith)) (ap (λ x. eqb x (cell claim j)) e)

@@ -77,14 +77,14 @@ second_made T ready s cubed mixed out round count hc er ec em e =
     (mixed_cubes T ready cubed mixed er em s ec)
 
 -- ---- the first step undone
-pub undone_made : (T ready s less mixed out : List ℕ) (round : ℕ) → ready ≡ back_ready T
-    → less ≡ minus s (first_step_constant T round) → mixed ≡ mixed_by ready less
+pub undone_made : (T ready s k less mixed out : List ℕ) (round : ℕ) → ready ≡ back_ready T
+    → k ≡ first_step_constant T round → less ≡ minus s k → mixed ≡ mixed_by ready less
     → out ≡ tab 12 (λ j. montgomery_cube (cell mixed j)) → out ≡ back_step T round s
 unfolding back_step cubes back_ready
-undone_made T ready s less mixed out round er el em e =
+undone_made T ready s k less mixed out round er ek el em e =
     e
     ∙ tab_ext 12 (λ j. montgomery_cube (cell mixed j)) (λ i. cube (cell (times (inverse_of T) less) i)) same
-    ∙ ap (λ x. cubes (times (inverse_of T) x)) el
+    ∙ ap (λ x. cubes (times (inverse_of T) x)) (el ∙ ap (minus s) ek)
   where
     same : (i : ℕ) → i < 12 → montgomery_cube (cell mixed i) ≡ cube (cell (times (inverse_of T) less) i)
     same i h =

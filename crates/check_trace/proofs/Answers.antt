@@ -6,17 +6,15 @@ use mathlib.Core.Logic.{◌⊎◌, ⊎_elim}
 use Prim.Native.Nat.{ℕ, ◌*◌, ◌^◌, ◌≤◌, ◌<◌}
 use native.Mathlib.Omega.{arith}
 use lib.ListN.{length}
-use Rattle.field_words.specs.Words.{AllCanonical, first_bad, canonical_words}
+use Rattle.std.specs.Prelude.{Result, Ok, Err}
+use Rattle.field_words.specs.Words.{AllCanonical}
 use Rattle.field_words.proofs.Laws.{good_test, test_good}
 use Rattle.numbers.specs.Numbers.{IsPermitted, most_batches, trace_word_batches}
 use Rattle.numbers.proofs.Laws.{trace_length_sound, trace_length_complete}
 use Rattle.refusals.specs.declared.Refusal.{Refusal}
-use Rattle.refusals.specs.declared.Refusal.TheVariants.{ClaimWord, TraceWord, ClaimBatches}
-use Rattle.refusals.specs.declared.Answer.{Answer}
-use Rattle.refusals.specs.declared.Answer.TheVariants.{Accepted, Refused}
-use Rattle.refusals.specs.declared.TestsAnswer.{TestsAnswer}
-use Rattle.refusals.specs.Answers.{unless, tests_after}
-use Rattle.refusals.proofs.Laws.{passed, both_accepted, one_test_refused, one_test_passed}
+use Rattle.refusals.specs.declared.Refusal.TheVariants.{ClaimBatches}
+use Rattle.refusals.specs.Answers.{Answer, with_value}
+use Rattle.refusals.proofs.Laws.{passed, both_accepted}
 use Rattle.table.specs.Table.{IsTable, table_test}
 use Rattle.table.proofs.Theorems.{test_sound, test_complete}
 use Rattle.check_constraints.specs.Constraints.{constraint_test}
@@ -32,7 +30,7 @@ pub record Opened (T t : List ℕ) (c k : ℕ) : Type 0 where
   pub high : c ≤ k
 
 module _ (T t : List ℕ) (c : ℕ) where
-  pub opened : opening_test T t c ≡ Accepted → Opened T t c (trace_word_batches (length t))
+  pub opened : opening_test T t c ≡ Ok tt → Opened T t c (trace_word_batches (length t))
   unfolding opening_test
   opened e =
       let a = both_accepted (table_test T) _ e in
@@ -47,15 +45,15 @@ module _ (T t : List ℕ) (c : ℕ) where
         high = r.1;
       }
 
-  pub opens : (k : ℕ) → Opened T t c k → opening_test T t c ≡ Accepted
+  pub opens : (k : ℕ) → Opened T t c k → opening_test T t c ≡ Ok tt
   unfolding opening_test
   opens k h =
       let s = trace_length_complete most_batches (length t) k h.size h.permitted in
       rw (test_complete T h.table, s.0, s.1, in_range 1 k c h.low h.high)
 
   -- and a c that is 0 or above k gets 17
-  pub unclaimed : (k : ℕ) → table_test T ≡ Accepted → IsPermitted k → length t ≡ 384 * k → (c ≡ 0) ⊎ (k < c)
-      → opening_test T t c ≡ Refused ClaimBatches
+  pub unclaimed : (k : ℕ) → table_test T ≡ Ok tt → IsPermitted k → length t ≡ 384 * k → (c ≡ 0) ⊎ (k < c)
+      → opening_test T t c ≡ Err ClaimBatches
   unfolding opening_test
   unclaimed k table permitted size out =
       let s = trace_length_complete most_batches (length t) k size permitted in
@@ -68,8 +66,8 @@ pub record CheckInputs (T t claim : List ℕ) (c k : ℕ) : Type 0 where
   pub canonical : AllCanonical t
 
 module _ (T t claim : List ℕ) (c : ℕ) where
-  pub check_inputs : check_test T t claim c ≡ Accepted → let k = trace_word_batches (length t) in
-      CheckInputs T t claim c k × (constraint_test T t claim c k ≡ Accepted)
+  pub check_inputs : check_test T t claim c ≡ Ok tt → let k = trace_word_batches (length t) in
+      CheckInputs T t claim c k × (constraint_test T t claim c k ≡ Ok tt)
   unfolding check_test trace_test
   check_inputs e =
       let a = both_accepted (opening_test T t c) _ e in
@@ -91,49 +89,20 @@ module _ (T t claim : List ℕ) (c : ℕ) where
       rw (opens T t c k o, test_good claim h.claim_canonical, test_good t h.canonical)
       (ap (constraint_test T t claim c) (trace_length_complete most_batches (length t) k o.size o.permitted).1)
 
-  pub check_passes : (k : ℕ) → CheckInputs T t claim c k → constraint_test T t claim c k ≡ Accepted
-      → check_test T t claim c ≡ Accepted
+  pub check_passes : (k : ℕ) → CheckInputs T t claim c k → constraint_test T t claim c k ≡ Ok tt
+      → check_test T t claim c ≡ Ok tt
   check_passes k h e = check_reaches k h ∙ e
 
 -- ---- what a function learns from the tests that it passes, one after the other
 
--- what is left to be tested from 10 on
-abbrev pub from_words : List ℕ → List ℕ → List ℕ → ℕ → ℕ → Answer
-from_words T t claim c k = unless (canonical_words t) (TraceWord (first_bad t)) (constraint_test T t claim c k)
-
 -- a is what the opening tests answered; and k, which the trace's length tells, is few enough for the walk
-pub opened_by : (T t : List ℕ) (c : ℕ) {a : Answer} → a ≡ opening_test T t c → a ≡ Accepted
+pub opened_by : (T t : List ℕ) (c : ℕ) {a : Answer} → a ≡ opening_test T t c → a ≡ Ok tt
     → Opened T t c (trace_word_batches (length t)) × (trace_word_batches (length t) < 2 ^ 32)
 opened_by T t c e q =
     let o = opened T t c (sym e ∙ q) in
     (o, omega (arith, o.permitted.high))
 
--- a is what the test of the claim's words answered
-module _ (T t claim : List ℕ) (c k : ℕ) {o a : Answer}
-    (e : a ≡ unless (canonical_words claim) (ClaimWord (first_bad claim)) Accepted) where
-  pub claim_refused : {r : Refusal} → a ≡ Refused r → o ≡ Refused r → o ≡ trace_test T t claim c k
-  unfolding trace_test
-  claim_refused q p =
-      one_test_refused (canonical_words claim) (ClaimWord (first_bad claim)) e (from_words T t claim c k) q p
-
-  pub claim_passed : a ≡ Accepted → o ≡ from_words T t claim c k → o ≡ trace_test T t claim c k
-  unfolding trace_test
-  claim_passed q p = one_test_passed (canonical_words claim) (ClaimWord (first_bad claim)) e q p
-
--- and what that of the trace's words did
-module _ (T t claim : List ℕ) (c k : ℕ) {o a : Answer}
-    (e : a ≡ unless (canonical_words t) (TraceWord (first_bad t)) Accepted) where
-  pub words_refused : {r : Refusal} → a ≡ Refused r → o ≡ Refused r → o ≡ from_words T t claim c k
-  words_refused q p = one_test_refused (canonical_words t) (TraceWord (first_bad t)) e _ q p
-
-  pub words_passed : a ≡ Accepted → o ≡ constraint_test T t claim c k → o ≡ from_words T t claim c k
-  words_passed q p = one_test_passed (canonical_words t) (TraceWord (first_bad t)) e q p
-
-pub canonical_words_lem : (t : List ℕ) {a : Answer} → a ≡ unless (canonical_words t) (TraceWord (first_bad t)) Accepted
-    → a ≡ Accepted → AllCanonical t
-canonical_words_lem t e q = good_test t (passed (canonical_words t) (TraceWord (first_bad t)) Accepted (sym e ∙ q)).0
-
 -- what the last tests answered is the answer of all, where those before leave it to them
-pub walked : (n : ℕ) {o : TestsAnswer} (last : Answer) {all : Answer} → o ≡ tests_after last n → last ≡ all
-    → o ≡ tests_after all n
-walked n last q p = q ∙ ap (λ x. tests_after x n) p
+pub walked : (n : ℕ) {o : Result ℕ Refusal} (last : Answer) {all : Answer} → o ≡ with_value last n → last ≡ all
+    → o ≡ with_value all n
+walked n last q p = q ∙ ap (λ x. with_value x n) p

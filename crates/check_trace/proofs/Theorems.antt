@@ -7,7 +7,7 @@ use lib.ListN.{length}
 use Rattle.field_words.specs.Words.{AllCanonical}
 use Rattle.numbers.specs.Numbers.{IsPermitted, most_batches}
 use Rattle.numbers.proofs.Laws.{trace_length_complete}
-use Rattle.refusals.specs.Answers.{tests_after}
+use Rattle.refusals.specs.Answers.{with_value}
 use Rattle.table.specs.Table.{IsTable}
 use Rattle.check_constraints.specs.Constraints.{tests, constraint_test}
 use Rattle.check_trace.specs.Answers.{check_answer}
@@ -15,7 +15,7 @@ use Rattle.check_trace.proofs.Answers.{CheckInputs, check_reaches}
 
 module _ (T t claim : List ℕ) (c k : ℕ) (table : IsTable T) (permitted : IsPermitted k) (low : 1 ≤ c) (high : c ≤ k)
     (size : length t ≡ 384 * k) (canonical : AllCanonical t) (claim_canonical : AllCanonical claim) where
-  pub check_verdict : check_answer T t claim c ≡ tests_after (constraint_test T t claim c k) (length (tests k c))
+  pub check_verdict : check_answer T t claim c ≡ with_value (constraint_test T t claim c k) (length (tests k c))
   unfolding check_answer
   check_verdict =
       let inputs : CheckInputs T t claim c k = record {
@@ -23,5 +23,5 @@ module _ (T t claim : List ℕ) (c k : ℕ) (table : IsTable T) (permitted : IsP
         claim_canonical = claim_canonical;
         canonical = canonical;
       } in
-      ap₂ tests_after (check_reaches T t claim c k inputs)
+      ap₂ with_value (check_reaches T t claim c k inputs)
       (ap (λ n. length (tests n c)) (trace_length_complete most_batches (length t) k size permitted).1)

@@ -8,49 +8,50 @@ use native.Mathlib.Nat.{add-zero, zero-add}
 use native.Mathlib.Omega.{arith}
 use lib.ListN.{length}
 use Rattle.refusals.specs.declared.Refusal.TheVariants.{Constraint}
-use Rattle.refusals.specs.declared.TestsAnswer.{TestsAnswer}
-use Rattle.refusals.specs.declared.TestsAnswer.TheVariants.{Accepted, Refused}
-use Rattle.refusals.specs.Answers.{tests_after}
-use Rattle.check_constraints.specs.Constraints.{Test, applies, holds, row_tests, tests_from, tests, walk, constraint_test}
+use Rattle.refusals.specs.Answers.{with_value}
+use Rattle.check_constraints.specs.Constraints.{Test, applies, holds, row_tests, tests_from, tests}
+use Rattle.check_constraints.specs.Constraints.{walk, constraint_test}
 use Rattle.check_applies.proofs.SpanLaws.{Spans}
+use Rattle.std.specs.Prelude.{Result, Ok, Err}
+use Rattle.refusals.specs.declared.Refusal.{Refusal}
 
 module _ (T t claim : List ℕ) (c k : ℕ) where
   -- what is answered in the end, where n tests are walked and xs are left
-  unfoldable pub left : List Test → ℕ → TestsAnswer
-  left xs n = tests_after (walk T t claim xs n) (n + length xs)
+  unfoldable pub left : List Test → ℕ → Result ℕ Refusal
+  left xs n = with_value (walk T t claim xs n) (n + length xs)
 
   one_holds : (x : Test) (xs : List Test) (n : ℕ) → holds T t claim x.at x.number ≡ true
       → left (x ∷ xs) n ≡ left xs (n + 1)
   unfolding left walk
   one_holds x xs n e =
       let z : n + suc (length xs) ≡ n + 1 + length xs = omega arith in
-      rw e (ap (tests_after (walk T t claim xs (n + 1))) z)
+      rw e (ap (with_value (walk T t claim xs (n + 1))) z)
 
   one_fails : (x : Test) (xs : List Test) (n : ℕ) → holds T t claim x.at x.number ≡ false
-      → left (x ∷ xs) n ≡ Refused (Constraint (record { 0 = x.at }) x.number (n + 1))
+      → left (x ∷ xs) n ≡ Err (Constraint (record { 0 = x.at }) x.number (n + 1))
   unfolding left walk
   one_fails x xs n e = rw e
 
   -- from row i on, with m rows left
-  unfoldable pub rows : ℕ → ℕ → ℕ → TestsAnswer
+  unfoldable pub rows : ℕ → ℕ → ℕ → Result ℕ Refusal
   rows i m n = left (tests_from k c i m) n
 
   -- from constraint q of row i on, with m rows after it
-  unfoldable pub constraints : ℕ → ℕ → ℕ → ℕ → TestsAnswer
+  unfoldable pub constraints : ℕ → ℕ → ℕ → ℕ → Result ℕ Refusal
   constraints i q m n = left (row_tests k c i q (53 - q) ++ tests_from k c (i + 1) m) n
 
   -- what the walk has to answer
-  abbrev pub answer : TestsAnswer
-  answer = tests_after (constraint_test T t claim c k) (length (tests k c))
+  abbrev pub answer : Result ℕ Refusal
+  answer = with_value (constraint_test T t claim c k) (length (tests k c))
 
   pub start : rows 0 (32 * k) 0 ≡ answer
   unfolding left rows constraint_test tests
-  start = ap (tests_after (walk T t claim (tests_from k c 0 (32 * k)) 0)) (zero-add (length (tests_from k c 0 (32 * k))))
+  start = ap (with_value (walk T t claim (tests_from k c 0 (32 * k)) 0)) (zero-add (length (tests_from k c 0 (32 * k))))
 
   -- no row is left
-  pub done : (i m n : ℕ) → m ≡ 0 → rows i m n ≡ Accepted n
+  pub done : (i m n : ℕ) → m ≡ 0 → rows i m n ≡ Ok n
   unfolding left rows tests_from walk
-  done i m n e = rw e (ap Accepted (add-zero n))
+  done i m n e = rw e (ap Ok (add-zero n))
 
   module _ (i q m n : ℕ) (h : q ≤ 52) where
     one_more : 53 - q ≡ suc (53 - (q + 1))
@@ -66,7 +67,7 @@ module _ (T t claim : List ℕ) (c k : ℕ) where
     pass a p = rw (one_more, a) (one_holds _ _ n p)
 
     pub fail : applies k c i q ≡ true → holds T t claim i q ≡ false
-        → constraints i q m n ≡ Refused (Constraint (record { 0 = i }) q (n + 1))
+        → constraints i q m n ≡ Err (Constraint (record { 0 = i }) q (n + 1))
     unfolding constraints row_tests
     fail a p = rw (one_more, a) (one_fails _ _ n p)
 

@@ -11,11 +11,11 @@ use borrow.Author.Tests.{eq-eqb}
 use lib.Dec.{eqb}
 use lib.ListN.{length}
 use lib.Seq.{ext_get_or}
+use Rattle.std.specs.Prelude.{Ok, Err}
 use Rattle.lists.specs.Lists.{choose, cell}
 use Rattle.field_words.specs.Words.{AllCanonical}
 use Rattle.numbers.specs.Numbers.{IsPermitted}
 use Rattle.refusals.specs.declared.Refusal.TheVariants.{Constraint}
-use Rattle.refusals.specs.declared.Answer.TheVariants.{Accepted, Refused}
 use Rattle.table.specs.Table.{IsTable}
 use Rattle.hash.specs.Hash.{chain}
 use Rattle.trace.specs.Trace.{trace}
@@ -63,15 +63,15 @@ same_or_unlike s t n size size' = go (alike_or_not s t n)
 -- ---- the verdict
 module _ (T w : List ℕ) (k : ℕ) (table : IsTable T) (permitted : IsPermitted k) (size : length w ≡ 12 * k + 4)
     (canonical : AllCanonical w) (claim : List ℕ) where
-  own_output : constraint_test T (trace T w k) (chain T w k) k k ≡ Accepted
+  own_output : constraint_test T (trace T w k) (chain T w k) k k ≡ Ok tt
   own_output = (reading_off_a_built_trace T k table permitted w size canonical).0
 
-  pub chains_accepted : chain T w k ≡ claim → constraint_test T (trace T w k) claim k k ≡ Accepted
+  pub chains_accepted : chain T w k ≡ claim → constraint_test T (trace T w k) claim k k ≡ Ok tt
   chains_accepted e = sym (ap (λ d. constraint_test T (trace T w k) d k k) e) ∙ own_output
 
   pub unlike_refused : (j : ℕ) → FirstUnlike (chain T w k) claim 4 j
       → constraint_test T (trace T w k) claim k k
-      ≡ Refused (Constraint (record { 0 = 32 * k - 1 }) (49 + j) (372 * k - 3 + j))
+      ≡ Err (Constraint (record { 0 = 32 * k - 1 }) (49 + j) (372 * k - 3 + j))
   unlike_refused j u =
       let hold = accepted_all_hold T (trace T w k) (chain T w k) k k own_output in
       let fails =
@@ -79,5 +79,5 @@ module _ (T w : List ℕ) (k : ℕ) (table : IsTable T) (permitted : IsPermitted
       (λ e. u.other (sym e)) (λ m h. sym (u.before m h)) in
       let last : 32 * (k - 1) + 31 ≡ 32 * k - 1 = omega (arith, permitted.low) in
       first_failing_refused T (trace T w k) claim k k _ _ _ fails
-      ∙ ap (λ i. Refused (Constraint (record { 0 = i }) (49 + j) (choose (eqb k k) (372 * k - 3) (372 * k + 1) + j))) last
+      ∙ ap (λ i. Err (Constraint (record { 0 = i }) (49 + j) (choose (eqb k k) (372 * k - 3) (372 * k + 1) + j))) last
       ∙ rw (eq-eqb k k refl)

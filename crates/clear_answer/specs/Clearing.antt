@@ -1,23 +1,20 @@
 -- What the program answers, whatever bytes stand on its standard input (document 01, "The board file").
 -- Assumes nothing.
-use Rattle.std.specs.Prelude.{◌≡◌, List, ℕ, ◌+◌, ◌*◌, ◌-◌, ◌^◌, ◌≤◌, ◌<◌, length, drop, replicate}
+use Rattle.std.specs.Prelude.{◌≡◌, List, ℕ, ◌+◌, ◌*◌, ◌-◌, ◌^◌, ◌≤◌, ◌<◌, length, drop, replicate, Result, Ok, Err}
 use Rattle.lists.specs.Lists.{cell, tab, sum}
 use Rattle.field_words.specs.Words.{AllCanonical}
 use Rattle.numbers.specs.Numbers.{trace_row_count, tap_words, IsPermitted, tap_word_batches}
 use Rattle.refusals.specs.declared.Refusal.{Refusal}
 use Rattle.refusals.specs.declared.Refusal.TheVariants.{TableLength, Constraint}
-use Rattle.refusals.specs.declared.Answer.{Answer}
-use Rattle.refusals.specs.declared.Answer.TheVariants as answer
-use Rattle.refusals.specs.declared.DigestAnswer.TheVariants as output
-use Rattle.refusals.specs.declared.TestsAnswer.{TestsAnswer}
-use Rattle.refusals.specs.declared.TestsAnswer.TheVariants as tests_answer
 use Rattle.table.specs.Table.{raw_words, table_words, Prepares}
 use Rattle.hash.specs.Hash.{chain}
 use Rattle.trace.specs.Trace.{trace}
 use Rattle.check_constraints.specs.Constraints.{tests, constraint_test}
 use Rattle.board.specs.Board.{file_size, batches_in, taps_in, claim_in, unpack_test, unpack_answer, IsBoard}
-use Rattle.clear_answer.specs.declared.Outcome.{Outcome}
-use Rattle.clear_answer.specs.declared.Outcome.TheVariants.{Accepted, Refused, TooLong}
+use Rattle.clear_answer.specs.declared.Report.{Report}
+use Rattle.clear_answer.specs.declared.Unclear.{Unclear}
+use Rattle.clear_answer.specs.declared.Unclear.TheVariants.{Refused, TooLong}
+use Rattle.refusals.specs.Answers.{after, with_value}
 
 -- ---- the input: a raw table, and then a board file
 
@@ -43,39 +40,44 @@ file_in input = drop table_bytes input
 
 -- ---- it prepares, unpacks, builds, checks against the claim
 
--- the refusal of the tests, or what follows
-abbrev pub outcome_after : Answer → Outcome → Outcome
-outcome_after answer.Accepted o = o
-outcome_after (answer.Refused r) o = Refused r
-
--- what Check's answer for k batches comes to
-abbrev pub reported : ℕ → TestsAnswer → Outcome
-reported k (tests_answer.Accepted n) = Accepted k n
-reported k (tests_answer.Refused r) = Refused r
-
 -- the trace of the taps w, checked against the claim, which in a board file is about all k batches: k and the number of
 -- all tests, or the refusal
-unfoldable pub checked_taps : List ℕ → List ℕ → List ℕ → ℕ → Outcome
-checked_taps T w claim k = outcome_after (constraint_test T (trace T w k) claim k k) (Accepted k (length (tests k k)))
+unfoldable pub checked_taps : List ℕ → List ℕ → List ℕ → ℕ → Result Report Refusal
+checked_taps T w claim k =
+    with_value (constraint_test T (trace T w k) claim k k) (record { batches = k; tests = length (tests k k) })
 
 -- with the table prepared: the file's taps, and the file's claim
-unfoldable pub cleared : List ℕ → List ℕ → Outcome
+unfoldable pub cleared : List ℕ → List ℕ → Result Report Refusal
 cleared T file =
-    outcome_after (unpack_test file (tap_words (batches_in file)))
+    after (unpack_test file (tap_words (batches_in file)))
     (checked_taps T (taps_in file) (claim_in file) (batches_in file))
 
 -- where Prepare writes
 abbrev pub unprepared : List ℕ
 unprepared = replicate table_words 0
 
+-- the program's answer: what is told of a board that clears, or why it does not
+abbrev pub Outcome : Type 0
+Outcome = Result Report Unclear
+
+-- the refusal of a file is why the input does not clear
+abbrev pub outcome_of : Result Report Refusal → Outcome
+outcome_of (Ok report) = Ok report
+outcome_of (Err r) = Err (Refused r)
+
+-- what Check's answer for k batches comes to
+abbrev pub reported : ℕ → Result ℕ Refusal → Outcome
+reported k (Ok tests) = Ok (record { batches = k; tests = tests })
+reported k (Err r) = Err (Refused r)
+
 -- under 3168 bytes and over 5572 nothing else is looked at; the table's refusal comes before the file's
 pub data Clears (input : List ℕ) : Outcome → Type 0 where
-  short : length input < table_bytes → Clears input (Refused TableLength)
-  long : longest < length input → Clears input TooLong
+  short : length input < table_bytes → Clears input (Err (Refused TableLength))
+  long : longest < length input → Clears input (Err TooLong)
   turned_back : table_bytes ≤ length input → length input ≤ longest → (r : Refusal)
-      → Prepares (raw_in input) unprepared (answer.Refused r) unprepared → Clears input (Refused r)
+      → Prepares (raw_in input) unprepared (Err r) unprepared → Clears input (Err (Refused r))
   judged : table_bytes ≤ length input → length input ≤ longest → (T : List ℕ)
-      → Prepares (raw_in input) unprepared answer.Accepted T → Clears input (cleared T (file_in input))
+      → Prepares (raw_in input) unprepared (Ok tt) T → Clears input (outcome_of (cleared T (file_in input)))
 
 -- ---- what the answers mean
 
@@ -83,7 +85,7 @@ pub data Clears (input : List ℕ) : Outcome → Type 0 where
 pub record IsJudged (input T : List ℕ) (k : ℕ) : Type 0 where
   pub low : table_bytes ≤ length input
   pub high : length input ≤ longest
-  pub prepared : Prepares (raw_in input) unprepared answer.Accepted T
+  pub prepared : Prepares (raw_in input) unprepared (Ok tt) T
   pub board : IsBoard (file_in input) k
 
 -- and under that table the file's taps chain to its claim
@@ -106,11 +108,11 @@ pub data InputFault (input : List ℕ) (r : Refusal) : Type 0 where
   no_table : length input < table_bytes → r ≡ TableLength → InputFault input r
   -- what Prepare refuses the table for
   table_fault : table_bytes ≤ length input → length input ≤ longest
-      → Prepares (raw_in input) unprepared (answer.Refused r) unprepared → InputFault input r
+      → Prepares (raw_in input) unprepared (Err r) unprepared → InputFault input r
   -- the table being prepared, what Unpack refuses the file for, with room for its taps
   file_fault : table_bytes ≤ length input → length input ≤ longest → (T : List ℕ)
-      → Prepares (raw_in input) unprepared answer.Accepted T
-      → unpack_answer (file_in input) (tap_words (batches_in (file_in input))) ≡ output.Refused r → InputFault input r
+      → Prepares (raw_in input) unprepared (Ok tt) T
+      → unpack_answer (file_in input) (tap_words (batches_in (file_in input))) ≡ Err r → InputFault input r
   -- both being accepted, a claim that is another's: 11 with the last row, the constraint of the first word that is
   -- unlike, and its place among the last four tests (document 02, U4)
   other_claim : (k j : ℕ) → IsUnlike input k j

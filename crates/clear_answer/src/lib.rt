@@ -4,21 +4,35 @@
 ghost use Rattle.std.specs.Prelude.{◌≡◌, ◌+◌, ◌*◌, ◌/◌, ◌-◌, ◌≤◌, length};
 ghost use Rattle.field_words.specs.Words.{AllCanonical};
 ghost use Rattle.numbers.specs.Numbers.{tap_word_batches};
-ghost use Rattle.refusals.specs.Refusals.{digest_words};
 ghost use Rattle.table.specs.Table.{raw_words, IsTable, Prepares};
-ghost use Rattle.clear_answer.specs.Clearing.{table_bytes, raw_word, raw_in, reported, checked_taps, cleared};
+ghost use Rattle.clear_answer.specs.Clearing.{table_bytes, raw_word, raw_in, checked_taps, cleared};
 ghost use Rattle.clear_answer.specs.Clearing.{unprepared, Clears, Taps};
+ghost use Rattle.clear_answer.specs.declared.Unclear.TheVariants.{Refused};
 
 use board_words::Word;
 use numbers::{BATCH_TAP_WORDS, BATCH_WORDS, TAP_WORDS};
-use refusals::{Answer, Digest, DigestAnswer, Refusal, TestsAnswer};
+use refusals::Refusal;
 
-// The program's answer.
+// What is told of a board that clears.
 #[derive(Clone, Copy)]
-pub enum Outcome {
-    Accepted { batches: usize, tests: usize },
+pub struct Report {
+    pub batches: usize,
+    pub tests: usize,
+}
+
+// Why an input does not clear.
+#[derive(Clone, Copy)]
+pub enum Unclear {
     Refused(Refusal),
     TooLong,
+}
+
+impl From<Refusal> for Unclear {
+    ghost from_gives = { λ r u. u ≡ Refused r };
+
+    fn from(refusal: Refusal) -> Unclear {
+        Unclear::Refused(refusal)
+    }
 }
 
 // A raw table, 8 bytes a word.
@@ -51,7 +65,7 @@ fn read_table(input: &[u8], raw: &mut [u64])
 }
 
 // Prepares the raw table.
-fn prepare(input: &[u8], table: &mut [u64]) -> Answer
+fn prepare(input: &[u8], table: &mut [u64]) -> Result<(), Refusal>
     requires { table_bytes ≤ length input.now }
     ensures { Prepares (raw_in input.now) table.old result table.new }
 {
@@ -83,32 +97,17 @@ fn trace_room() -> [u64; TRACE_ROOM]
     [0; TRACE_ROOM]
 }
 
-// What a check of k batches comes to.
-fn reported(k: usize, checked: TestsAnswer) -> Outcome
-    ensures { result ≡ reported k checked }
-{
-    match checked {
-        TestsAnswer::Accepted(tests) => Outcome::Accepted { batches: k, tests },
-        TestsAnswer::Refused(refusal) => Outcome::Refused(refusal),
-    }
-}
-
 // Builds the trace of the taps and checks it against the claim, which is about all k batches.
-fn clear_taps(table: &[u64], taps: &[u64], claim: Digest) -> Outcome
-    requires { IsTable table.now × Taps taps.now × AllCanonical (digest_words claim) }
-    ensures { result ≡ checked_taps table.now taps.now (digest_words claim)
-        (tap_word_batches (length taps.now)) }
+fn clear_taps(table: &[u64], taps: &[u64], claim: [u64; 4]) -> Result<Report, Refusal>
+    requires { IsTable table.now × Taps taps.now × AllCanonical claim }
+    ensures { result ≡ checked_taps table.now taps.now claim (tap_word_batches (length taps.now)) }
 {
-    let k = taps.len() / BATCH_TAP_WORDS;
-    let cells = BATCH_WORDS * k;
-    let mut rows = trace_room();
-    match trace::build(table, taps, &mut rows[..cells]) {
-        DigestAnswer::Accepted(_) => {
-            let words = [claim.0, claim.1, claim.2, claim.3];
-            reported(k, check_trace::check(table, &rows[..cells], words, k))
-        }
-        DigestAnswer::Refused(refusal) => Outcome::Refused(refusal),
-    }
+    let batches = taps.len() / BATCH_TAP_WORDS;
+    let mut room = trace_room();
+    let trace = &mut room[..BATCH_WORDS * batches];
+    trace::build(table, taps, trace)?;
+    let tests = check_trace::check(table, trace, claim, batches)?;
+    Ok(Report { batches, tests })
 }
 
 // The tap words of a file of so many bytes: 12 bytes an element, of which the first four are the claim.
@@ -121,31 +120,28 @@ fn tap_words(bytes: usize) -> usize
 
 // Unpacks the file and clears its taps. For a file of another length than 144k + 100 the destination does not matter:
 // Unpack tests 12 before 8.
-fn clear_file(table: &[u64], file: &[u8]) -> Outcome
+fn clear_file(table: &[u64], file: &[u8]) -> Result<Report, Refusal>
     requires { IsTable table.now × (length file.now ≤ 2404) }
     ensures { result ≡ cleared table.now file.now }
 {
     let size = tap_words(file.len());
-    let mut taps = tap_room();
-    match board::unpack(file, &mut taps[..size]) {
-        DigestAnswer::Accepted(claim) => clear_taps(table, &taps[..size], claim),
-        DigestAnswer::Refused(refusal) => Outcome::Refused(refusal),
-    }
+    let mut room = tap_room();
+    let taps = &mut room[..size];
+    let claim = board::unpack(file, taps)?;
+    clear_taps(table, taps, claim)
 }
 
 // The answer for what stands on standard input, of which 5573 bytes are enough to know that it is too long.
-pub fn clear(input: &[u8]) -> Outcome
+pub fn clear(input: &[u8]) -> Result<Report, Unclear>
     ensures { Clears input.now result }
 {
     if input.len() < TABLE_BYTES {
-        return Outcome::Refused(Refusal::TableLength);
+        return Err(Unclear::Refused(Refusal::TableLength));
     }
     if LONGEST < input.len() {
-        return Outcome::TooLong;
+        return Err(Unclear::TooLong);
     }
     let mut table = table_room();
-    match prepare(input, &mut table) {
-        Answer::Accepted => clear_file(&table, &input[TABLE_BYTES..]),
-        Answer::Refused(refusal) => Outcome::Refused(refusal),
-    }
+    prepare(input, &mut table)?;
+    Ok(clear_file(&table, &input[TABLE_BYTES..])?)
 }

@@ -1,3 +1,1 @@
-pub mod Decimal
-pub mod Fields
 pub mod Lines

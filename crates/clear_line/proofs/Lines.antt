@@ -1,40 +1,41 @@
 -- The lines of the known days (document 01, "Known days"), and that a number of 64 bits reads back from its digits.
 -- Assumes nothing.
 use mathlib.Core.Path.{◌≡◌, refl, ap, ◌∙◌}
-use mathlib.Core.Bool.{Bool, true, false, ◌&&◌}
+use mathlib.Core.Bool.{Bool, true, ◌&&◌}
 use mathlib.Core.List.{List, [], ◌∷◌, ◌++◌, append_assoc}
-use Prim.Native.Nat.{ℕ, zero, suc, ◌+◌, ◌*◌, ◌-◌, ◌/◌, ◌%◌, ◌^◌, ◌<◌, ◌≤◌}
-use native.Mathlib.Decide.{dec_lt}
-use native.Mathlib.Nat.{pow-suc}
+use Prim.Native.Nat.{ℕ, ◌+◌, ◌*◌, ◌-◌, ◌/◌, ◌%◌, ◌^◌, ◌<◌, ◌≤◌}
 use native.Mathlib.Omega.{arith}
 use borrow.Author.Tests.{ne_eqb, le-leb, leb-true}
-use lib.Dec.{eqb, leb, ltb}
+use lib.Dec.{eqb, leb}
 use Rattle.lists.specs.Lists.{choose, each}
 use Rattle.lists.proofs.Bools.{and_both}
 use Rattle.refusals.specs.declared.Refusal.TheVariants.{TableLength, WrongKind, Constraint}
-use Rattle.clear_answer.specs.declared.Outcome.TheVariants.{Accepted, Refused, TooLong}
-use Rattle.clear_line.specs.Line.{ascii, digit, decimal_in, decimal, fields, line, text_of}
-use Rattle.clear_line.proofs.Decimal.{one_digit, last_digit}
+use Rattle.std.specs.Prelude.{Ok, Err}
+use Rattle.std.specs.Fmt.{digits, decimal}
+use Rattle.std.proofs.lemmas.Fmt.{decimal_by_steps}
+use Rattle.clear_answer.specs.declared.Unclear.TheVariants.{Refused, TooLong}
+use Rattle.clear_line.specs.Line.{ascii, fields, line, text_of}
 
-pub accepted_line : text_of (Accepted 1 372) ≡ ascii "accepted 1 372\n"
-unfolding decimal_in decimal each fields line text_of
+pub accepted_line : text_of (Ok (record { batches = 1; tests = 372 })) ≡ ascii "accepted 1 372\n"
+unfolding digits each fields line text_of
 accepted_line = refl
 
 -- however many tests the refusal names
-pub refused_line : (tests : ℕ) → text_of (Refused (Constraint (record { 0 = 31 }) 49 tests)) ≡ ascii "refused 11 31 49\n"
-unfolding decimal_in decimal each fields line text_of
+pub refused_line : (tests : ℕ)
+    → text_of (Err (Refused (Constraint (record { 0 = 31 }) 49 tests))) ≡ ascii "refused 11 31 49\n"
+unfolding digits each fields line text_of
 refused_line tests = refl
 
 -- a number alone, and one with an index
-pub alone_line : text_of (Refused TableLength) ≡ ascii "refused 1\n"
-unfolding decimal_in decimal each fields line text_of
+pub alone_line : text_of (Err (Refused TableLength)) ≡ ascii "refused 1\n"
+unfolding digits each fields line text_of
 alone_line = refl
 
-pub index_line : text_of (Refused (WrongKind 5)) ≡ ascii "refused 13 5\n"
-unfolding decimal_in decimal each fields line text_of
+pub index_line : text_of (Err (Refused (WrongKind 5))) ≡ ascii "refused 13 5\n"
+unfolding digits each fields line text_of
 index_line = refl
 
-pub long_line : text_of TooLong ≡ ascii "too long\n"
+pub long_line : text_of (Err TooLong) ≡ ascii "too long\n"
 unfolding each fields line text_of
 long_line = refl
 
@@ -50,26 +51,15 @@ unfolding read
 read_append n [] t = refl
 read_append n (d ∷ s) t = read_append (10 * n + (d - 48)) s t
 
-one : (most n : ℕ) → n < 10 → read 0 (decimal_in (suc most) n) ≡ n
-unfolding read
-one most n h = ap (read 0) (one_digit most n h) ∙ omega arith
-
-more : (most n : ℕ) → 10 ≤ n → read 0 (decimal_in most (n / 10)) ≡ n / 10 → read 0 (decimal_in (suc most) n) ≡ n
-unfolding read
-more most n h e =
-    ap (read 0) (last_digit most n h) ∙ read_append 0 (decimal_in most (n / 10)) (digit (n % 10) ∷ []) ∙ omega (arith, e)
-
-read_in : (most n : ℕ) → n < 10 ^ suc most → read 0 (decimal_in (suc most) n) ≡ n
-read_in zero n h = one 0 n h
-read_in (suc most) n h = go (dec_lt n 10) (read_in most (n / 10) (omega (arith, pow-suc 10 (suc most))))
-  where
-    go : Dec (n < 10) → read 0 (decimal_in (suc most) (n / 10)) ≡ n / 10 → read 0 (decimal_in (suc (suc most)) n) ≡ n
-    go (yes d) e = one (suc most) n d
-    go (no d) e = more (suc most) n (omega (arith, d)) e
-
 pub decimal_reads_back : (n : ℕ) → n < 2 ^ 64 → read 0 (decimal n) ≡ n
-unfolding decimal
-decimal_reads_back n h = read_in 19 n (omega arith)
+unfolding read
+decimal_reads_back = decimal_by_steps (λ n s. read 0 s ≡ n) one more
+  where
+    one : (n : ℕ) → n < 10 → read 0 ((48 + n) ∷ []) ≡ n
+    one n h = omega arith
+
+    more : (n : ℕ) (s : List ℕ) → 10 ≤ n → read 0 s ≡ n / 10 → read 0 (s ++ ((48 + n % 10) ∷ [])) ≡ n
+    more n s h e = read_append 0 s ((48 + n % 10) ∷ []) ∙ omega (arith, e)
 
 -- ---- the numbers of a line read back, each after a space, up to the line feed
 
@@ -84,21 +74,15 @@ abbrev pub plain : List ℕ → Bool
 plain [] = true
 plain (d ∷ s) = leb 48 d && plain s
 
-plain_last : (s : List ℕ) (d : ℕ) → plain s ≡ true → plain (s ++ (digit d ∷ [])) ≡ true
-plain_last [] d e = rw (le-leb 48 (digit d) (omega arith))
+plain_last : (s : List ℕ) (d : ℕ) → plain s ≡ true → plain (s ++ ((48 + d) ∷ [])) ≡ true
+plain_last [] d e = rw (le-leb 48 (48 + d) (omega arith))
 plain_last (c ∷ s) d e =
     let both = and_both (leb 48 c) (plain s) e in
     rw both.0 (plain_last s d both.1)
 
-plain_digits : (most n : ℕ) → plain (decimal_in most n) ≡ true
-unfolding decimal_in
-plain_digits zero n = refl
-plain_digits (suc most) n = go (ltb n 10) (plain_digits most (n / 10))
-  where
-    go : (b : Bool) → plain (decimal_in most (n / 10)) ≡ true
-        → plain (choose b (digit n ∷ []) (decimal_in most (n / 10) ++ (digit (n % 10) ∷ []))) ≡ true
-    go true e = plain_last [] n refl
-    go false e = plain_last (decimal_in most (n / 10)) (n % 10) e
+plain_digits : (n : ℕ) → n < 2 ^ 64 → plain (decimal n) ≡ true
+plain_digits =
+    decimal_by_steps (λ n s. plain s ≡ true) (λ n h. plain_last [] n refl) (λ n s h e. plain_last s (n % 10) e)
 
 plain_read : (n : ℕ) (s t : List ℕ) → plain s ≡ true → numbers_in n (s ++ t) ≡ numbers_in (read n s) t
 unfolding numbers_in read
@@ -115,11 +99,11 @@ Fit [] = Unit {0}
 Fit (n ∷ s) = (n < 2 ^ 64) × Fit s
 
 fields_read_back : (n : ℕ) (s : List ℕ) → Fit s → numbers_in n (fields s ++ (10 ∷ [])) ≡ n ∷ s
-unfolding fields each numbers_in decimal
+unfolding fields each numbers_in
 fields_read_back n [] fit = refl
 fields_read_back n (m ∷ s) fit =
     ap (λ t. n ∷ numbers_in 0 t) (append_assoc (decimal m) (fields s) (10 ∷ []))
-    ∙ ap (λ t. n ∷ t) (plain_read 0 (decimal m) (fields s ++ (10 ∷ [])) (plain_digits 20 m))
+    ∙ ap (λ t. n ∷ t) (plain_read 0 (decimal m) (fields s ++ (10 ∷ [])) (plain_digits m fit.0))
     ∙ ap (λ x. n ∷ numbers_in x (fields s ++ (10 ∷ []))) (decimal_reads_back m fit.0)
     ∙ ap (λ t. n ∷ t) (fields_read_back m s fit.1)
 

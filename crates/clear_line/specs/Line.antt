@@ -1,36 +1,24 @@
 -- The one line that the program prints (document 01, "The board file").
 -- Assumes nothing.
-use Rattle.std.specs.Prelude.{List, [], ◌∷◌, ◌++◌, ℕ, zero, suc, ◌+◌, ◌/◌, ◌%◌, eqb, ltb}
+use Rattle.std.specs.Prelude.{List, [], ◌∷◌, ◌++◌, ℕ, Ok, Err}
+use Rattle.std.specs.Fmt.{decimal}
 use Prim.Native.Char.{code}
 use Prim.Native.String as text
 use Prim.Native.String.{String}
-use Rattle.lists.specs.Lists.{choose, each}
+use Rattle.lists.specs.Lists.{each}
 use Rattle.refusals.specs.Refusals.{told}
 use Rattle.refusals.specs.declared.Particulars.{Particulars}
-use Rattle.clear_answer.specs.declared.Outcome.{Outcome}
-use Rattle.clear_answer.specs.declared.Outcome.TheVariants.{Accepted, Refused, TooLong}
+use Rattle.refusals.specs.declared.Place.{Place}
+use Rattle.refusals.specs.declared.Place.TheVariants.{Nowhere, Index, Test}
+use Rattle.clear_answer.specs.Clearing.{Outcome}
+use Rattle.clear_answer.specs.declared.Unclear.TheVariants.{Refused, TooLong}
 
 -- the bytes of a text
 abbrev pub ascii : String → List ℕ
 ascii text.[] = []
 ascii (text.◌∷◌ c s) = code c ∷ ascii s
 
--- ---- numbers, in decimal, the highest digit first
-
--- a digit's byte
-abbrev pub digit : ℕ → ℕ
-digit d = 48 + d
-
--- with at most so many digits
-unfoldable pub decimal_in : ℕ → ℕ → List ℕ
-decimal_in zero n = []
-decimal_in (suc most) n = choose (ltb n 10) (digit n ∷ []) (decimal_in most (n / 10) ++ (digit (n % 10) ∷ []))
-
--- a number of 64 bits has at most 20
-unfoldable pub decimal : ℕ → List ℕ
-decimal n = decimal_in 20 n
-
--- ---- the line: fields are one space apart
+-- ---- the line: fields are one space apart, numbers in decimal
 
 -- numbers, a space before each
 unfoldable pub fields : List ℕ → List ℕ
@@ -40,15 +28,18 @@ fields numbers = each (λ n. 32 ∷ decimal n) numbers
 unfoldable pub line : List ℕ → List ℕ → List ℕ
 line word numbers = word ++ fields numbers ++ (10 ∷ [])
 
--- the refusal's number, then the place if there is one: the index, or row and constraint for 11
+-- the place if there is one: the index, or row and constraint for 11
+abbrev pub place_numbers : Place → List ℕ
+place_numbers Nowhere = []
+place_numbers (Index i) = i ∷ []
+place_numbers (Test row constraint tests) = row ∷ constraint ∷ []
+
+-- the refusal's number, then the place
 abbrev pub numbers_of : Particulars → List ℕ
-numbers_of p =
-    choose (eqb p.values 0) (p.number ∷ [])
-    (choose (eqb p.values 1) (p.number ∷ p.value ∷ [])
-    (p.number ∷ p.row ∷ p.constraint ∷ []))
+numbers_of p = p.number ∷ place_numbers p.place
 
 -- `accepted`, k, tests; or `refused`, number, then the place
 unfoldable pub text_of : Outcome → List ℕ
-text_of (Accepted k tests) = line (ascii "accepted") (k ∷ tests ∷ [])
-text_of (Refused r) = line (ascii "refused") (numbers_of (told r))
-text_of TooLong = line (ascii "too long") []
+text_of (Ok report) = line (ascii "accepted") (report.batches ∷ report.tests ∷ [])
+text_of (Err (Refused r)) = line (ascii "refused") (numbers_of (told r))
+text_of (Err TooLong) = line (ascii "too long") []

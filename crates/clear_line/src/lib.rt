@@ -1,89 +1,37 @@
 // The one line that tells the program's answer (document 01, "The board file").
 #![tactic(auto)]
 
-ghost use Rattle.std.specs.Prelude.{◌≡◌, ◌++◌, ◌+◌, ◌≤◌, length, drop};
-ghost use Rattle.std.proofs.lemmas.List.Edits.{sets};
-ghost use Rattle.clear_line.specs.Line.{ascii, decimal, fields, line, numbers_of, text_of};
+ghost use Rattle.std.specs.Prelude.{Some};
+ghost use Rattle.clear_line.specs.Line.{text_of};
 
-use clear_answer::Outcome;
-use refusals::Particulars;
+use clear_answer::{Report, Unclear};
+use refusals::{Particulars, Place};
+use std::fmt;
 
-// n in decimal, from `at` on. The place after it.
-fn put_number(n: usize, out: &mut [u8], at: usize) -> usize
-    requires { at + length (decimal n) ≤ length out.old }
-    ensures { (result ≡ at + length (decimal n)) × (out.new ≡ sets out.old at (decimal n)) }
-{
-    if n < 10 {
-        out[at] = b'0' + n as u8;
-        return at + 1;
-    }
-    let end = put_number(n / 10, out, at);
-    out[end] = b'0' + (n % 10) as u8;
-    end + 1
-}
+// An answer, which prints as its line.
+#[derive(Clone, Copy)]
+pub struct Line(pub Result<Report, Unclear>);
 
-// The bytes of a word, from the start on. The place after it.
-fn put_word(word: &[u8], out: &mut [u8]) -> usize
-    requires { length word.now ≤ length out.old }
-    ensures { (result ≡ length word.now)
-        × (out.new ≡ sets out.old 0 word.now) }
-{
-    for i in 0..word.len() {
-        out[i] = word[i];
-    }
-    word.len()
-}
+impl fmt::Display for Line {
+    ghost output = { λ line. Some (text_of line.0) };
 
-// Each number after a space, from `at` on. The place after them.
-fn put_numbers(numbers: &[usize], out: &mut [u8], at: usize) -> usize
-    requires { (length numbers.now ≤ 3) × (at + 63 ≤ length out.old) }
-    ensures { (result ≡ at + length (fields numbers.now))
-        × (out.new ≡ sets out.old at (fields numbers.now)) }
-{
-    let mut end = at;
-    for i in 0..numbers.len() {
-        out[end] = b' ';
-        end = put_number(numbers[i], out, end + 1);
-    }
-    end
-}
-
-// A word, its numbers and the line's end. The line's length.
-fn put_line(word: &[u8], numbers: &[usize], out: &mut [u8]) -> usize
-    requires { (length numbers.now ≤ 3) × (length word.now + 64 ≤ length out.old) }
-    ensures { (result ≡ length (line word.now numbers.now))
-        × (out.new ≡ sets out.old 0 (line word.now numbers.now)) }
-{
-    let start = put_word(word, out);
-    let end = put_numbers(numbers, out, start);
-    out[end] = b'\n';
-    end + 1
-}
-
-// `refused`, the number, then the place if there is one. The line's length.
-fn put_refused(told: Particulars, out: &mut [u8]) -> usize
-    requires { 71 ≤ length out.old }
-    ensures value { result ≡ length (line (ascii "refused") (numbers_of told)) }
-    ensures out_after { out.new ≡ sets out.old 0 (line (ascii "refused") (numbers_of told)) }
-{
-    if told.values == 0 {
-        put_line(b"refused", &[told.number], out)
-    } else if told.values == 1 {
-        put_line(b"refused", &[told.number, told.value], out)
-    } else {
-        put_line(b"refused", &[told.number, told.row, told.constraint], out)
-    }
-}
-
-// The line of an answer, at the start of `out`, which is otherwise as it was. The line's length.
-pub fn text(outcome: Outcome, out: &mut [u8; 80]) -> usize
-    requires { length out.old ≡ 80 }
-    ensures value { result ≡ length (text_of outcome) }
-    ensures out_after { out.new ≡ text_of outcome ++ drop result out.old }
-{
-    match outcome {
-        Outcome::Accepted { batches, tests } => put_line(b"accepted", &[batches, tests], out),
-        Outcome::Refused(refusal) => put_refused(refusals::told(refusal), out),
-        Outcome::TooLong => put_word(b"too long\n", out),
+    #[tactic(auto, using(std::proofs::Common::append_assoc), unfolding(lists::specs::Lists::each, crate::specs::Line::fields, crate::specs::Line::line, crate::specs::Line::text_of))]
+    fn fmt<W: fmt::Write>(&self, f: &mut fmt::Formatter<W>) -> fmt::Result {
+        match self.0 {
+            Ok(Report { batches, tests }) => writeln!(f, "accepted {batches} {tests}"),
+            Err(Unclear::Refused(refusal)) => {
+                let Particulars { number, place } = refusals::told(refusal);
+                match place {
+                    Place::Nowhere => writeln!(f, "refused {number}"),
+                    Place::Index(index) => writeln!(f, "refused {number} {index}"),
+                    Place::Test {
+                        row,
+                        constraint,
+                        ..
+                    } => writeln!(f, "refused {number} {row} {constraint}"),
+                }
+            }
+            Err(Unclear::TooLong) => writeln!(f, "too long"),
+        }
     }
 }

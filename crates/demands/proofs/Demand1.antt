@@ -21,10 +21,10 @@ pub mod ToFull
 use mathlib.Core.Path.{◌≡◌, refl}
 use mathlib.Core.Bool.{false}
 use Prim.Native.Nat.{ℕ}
+use Rattle.std.specs.Prelude.{Err}
 use Rattle.refusals.specs.Refusals.{told}
 use Rattle.refusals.specs.declared.Refusal.{Refusal}
 use Rattle.refusals.specs.declared.Refusal.TheVariants.{NoInverse, WrongInverse}
-use Rattle.refusals.specs.declared.Answer.TheVariants as answer
 use Rattle.table_prepare.proofs.Theorems.{prepares_some, prepares_unique, refused_kept, no_inverse_exact, none_exactly}
 use Rattle.table_prepare.proofs.Theorems.{prepared_accepted}
 use Rattle.call_results.proofs.Bits.{tells_one, tells_apart}
@@ -52,7 +52,7 @@ use Rattle.demands.proofs.Demand1.ToFull.{to_full_numbered, to_full_keeps, to_fu
 
 -- ---- the operations
 numbered : (o : Operation) (r : Refusal) → Refuses o r → OneOf (numbers o) r
-numbered o r (prepare_refuses raw old new q h) = prepare_numbers raw old new (answer.Refused q) h
+numbered o r (prepare_refuses raw old new q h) = prepare_numbers raw old new (Err q) h
 numbered o r (hash_refuses T words q e) = hash_numbered T words q e
 numbered o r (chain_refuses T w q e) = chain_numbered T w q e
 numbered o r (build_refuses T w size q e) = build_numbered T w size q e

@@ -7,15 +7,13 @@ use mathlib.Core.Logic.{◌⊎◌, ⊎_elim, ◌↔◌, inl, inr}
 use Prim.Native.Nat.{ℕ, ◌+◌, ◌*◌, ◌≤◌}
 use native.Mathlib.Omega.{arith}
 use lib.ListN.{length}
+use Rattle.std.specs.Prelude.{Ok, Err}
 use Rattle.field_words.specs.Words.{AllCanonical}
 use Rattle.numbers.specs.Numbers.{IsPermitted, trace_word_batches}
 use Rattle.refusals.specs.Refusals.{told, indexed}
-use Rattle.refusals.specs.Answers.{tests_after, leaves}
+use Rattle.refusals.specs.Answers.{Answer, with_value, leaves}
 use Rattle.refusals.specs.declared.Refusal.TheVariants.{Constraint}
-use Rattle.refusals.specs.declared.Answer.{Answer}
-use Rattle.refusals.specs.declared.Answer.TheVariants as answer
-use Rattle.refusals.specs.declared.TestsAnswer.TheVariants.{Accepted, Refused}
-use Rattle.refusals.proofs.Laws.{not_accepted, tests_accepted, tests_refused, ends_refusal}
+use Rattle.refusals.proofs.Laws.{not_accepted, value_accepted, value_refused, ends_refusal}
 use Rattle.table.specs.Table.{IsTable}
 use Rattle.table.proofs.Theorems.{test_sound}
 use Rattle.check_constraints.specs.Constraints.{tests, constraint_test}
@@ -38,63 +36,63 @@ use Rattle.demands.specs.Demand3.{Exact, Demand3}
 module _ (T t claim : List ℕ) (c k : ℕ) (table : IsTable T) (permitted : IsPermitted k) (low : 1 ≤ c) (high : c ≤ k)
     (size : length t ≡ 384 * k) (canonical : AllCanonical t) (claim_size : length claim ≡ 4)
     (claim_canonical : AllCanonical claim) where
-  checks : check_answer T t claim c ≡ tests_after (constraint_test T t claim c k) (length (tests k c))
+  checks : check_answer T t claim c ≡ with_value (constraint_test T t claim c k) (length (tests k c))
   checks = check_verdict T t claim c k table permitted low high size canonical claim_canonical
 
   agrees : read_off_answer T t claim c (12 * k + 4) ≡ check_answer T t claim c
   agrees = same_for T t claim c k size
 
   -- an acceptance is that of the walk
-  walked : (n : ℕ) → check_answer T t claim c ≡ Accepted n → constraint_test T t claim c k ≡ answer.Accepted
-  walked n e = (tests_accepted (constraint_test T t claim c k) (length (tests k c)) n (sym checks ∙ e)).0
+  walked : (n : ℕ) → check_answer T t claim c ≡ Ok n → constraint_test T t claim c k ≡ Ok tt
+  walked n e = (value_accepted (constraint_test T t claim c k) (length (tests k c)) n (sym checks ∙ e)).0
 
-  reported : constraint_test T t claim c k ≡ answer.Accepted → check_answer T t claim c ≡ Accepted (372 * k)
+  reported : constraint_test T t claim c k ≡ Ok tt → check_answer T t claim c ≡ Ok (372 * k)
   reported e =
-      checks ∙ ap (λ a. tests_after a (length (tests k c))) e ∙ ap Accepted (length_tests k c low high)
+      checks ∙ ap (λ a. with_value a (length (tests k c))) e ∙ ap Ok (length_tests k c low high)
 
-  accepts_exactly : (check_answer T t claim c ≡ Accepted (372 * k)) ↔ ((w : List ℕ) × IsListFor T t claim c k w)
+  accepts_exactly : (check_answer T t claim c ≡ Ok (372 * k)) ↔ ((w : List ℕ) × IsListFor T t claim c k w)
   accepts_exactly =
       let e = exact.accepts_exactly T t claim c k table permitted low high size canonical claim_size in
       (λ a. e.0 (walked (372 * k) a), λ w. reported (e.1 w))
 
-  writes : (n : ℕ) (old : List ℕ) → length old ≡ 12 * k + 4 → read_off_answer T t claim c (length old) ≡ Accepted n
+  writes : (n : ℕ) (old : List ℕ) → length old ≡ 12 * k + 4 → read_off_answer T t claim c (length old) ≡ Ok n
       → IsListFor T t claim c k (read_off_leaves T t claim c old)
   unfolding read_off_answer read_off_leaves
   writes n old l e =
       let batches : trace_word_batches (length t) ≡ k = omega (arith, size) in
-      let passes = (tests_accepted (read_off_test T t claim c (length old)) _ n e).0 in
+      let passes = (value_accepted (read_off_test T t claim c (length old)) _ n e).0 in
       let left = ap (λ a. leaves a (read_taps T t (trace_word_batches (length t))) old) passes in
       let checked = sym (ap (read_off_answer T t claim c) l ∙ agrees) ∙ e in
       let read = exact.reads_that_list T t claim c k table permitted low high size canonical claim_size
       (walked n checked) in
       subst (IsListFor T t claim c k) (sym (left ∙ ap (read_taps T t) batches)) read
 
-  whole : (n : ℕ) → check_answer T t claim c ≡ Accepted n → (n ≡ 372 * k) × (n ≡ length (tests k c))
+  whole : (n : ℕ) → check_answer T t claim c ≡ Ok n → (n ≡ 372 * k) × (n ≡ length (tests k c))
   whole n e =
       let o = exact.whole_order T t claim c k table permitted low high size canonical claim_size n (sym checks ∙ e) in
       (o.1, o.0)
 
-  decided : (a : Answer) → constraint_test T t claim c k ≡ a → (check_answer T t claim c ≡ Accepted (372 * k))
-      ⊎ ((i : ℕ) × (q : ℕ) × (n : ℕ) × (check_answer T t claim c ≡ Refused (Constraint (record { 0 = i }) q n))
+  decided : (a : Answer) → constraint_test T t claim c k ≡ a → (check_answer T t claim c ≡ Ok (372 * k))
+      ⊎ ((i : ℕ) × (q : ℕ) × (n : ℕ) × (check_answer T t claim c ≡ Err (Constraint (record { 0 = i }) q n))
       × IsFirstFailing T t claim (tests k c) i q n)
-  decided answer.Accepted e = inl (reported e)
-  decided (answer.Refused r) e =
+  decided (Ok _) e = inl (reported e)
+  decided (Err r) e =
       let failing = exact.first_failing T t claim c k table permitted low high size canonical claim_size in
       let f = failing (λ a. not_accepted r (sym e ∙ a)) in
-      inr (f.0, f.1, f.2, checks ∙ ap (λ a. tests_after a (length (tests k c))) f.3, f.4)
+      inr (f.0, f.1, f.2, checks ∙ ap (λ a. with_value a (length (tests k c))) f.3, f.4)
 
   -- ---- the calls
   module _ (code : ℕ) (coded : code ≡ tests_code (check_answer T t claim c)) where
-    says_all : check_answer T t claim c ≡ Accepted (372 * k) → Says code (indexed 0 (372 * k))
+    says_all : check_answer T t claim c ≡ Ok (372 * k) → Says code (indexed 0 (372 * k))
     unfolding tests_code
     says_all e = rw (coded ∙ ap tests_code e) (says_accepted (372 * k) (omega (arith, permitted.high)))
 
-    says_failing : (i q n : ℕ) → check_answer T t claim c ≡ Refused (Constraint (record { 0 = i }) q n)
+    says_failing : (i q n : ℕ) → check_answer T t claim c ≡ Err (Constraint (record { 0 = i }) q n)
         → Says code (told (Constraint (record { 0 = i }) q n))
     unfolding check_answer tests_code
     says_failing i q n e =
         let r = Constraint (record { 0 = i }) q n in
-        let refused = tests_refused (check_test T t claim c) _ r e in
+        let refused = value_refused (check_test T t claim c) _ r e in
         let inside = ends_refusal RefusalInBits (check_test T t claim c) r (check_bits T t claim c claim_size) refused in
         rw (coded ∙ ap tests_code e) (says (told r) inside)
 
@@ -105,7 +103,7 @@ module _ (T t claim : List ℕ) (c k : ℕ) (table : IsTable T) (permitted : IsP
         ⊎_elim (λ a. inl (says_all a)) (λ f. inr (f.0, f.1, f.2, says_failing f.0 f.1 f.2 f.3, f.4))
         (decided (constraint_test T t claim c k) refl)
 
-    said_accepted : Says code (indexed 0 (372 * k)) → check_answer T t claim c ≡ Accepted (372 * k)
+    said_accepted : Says code (indexed 0 (372 * k)) → check_answer T t claim c ≡ Ok (372 * k)
     said_accepted s =
         ⊎_elim (λ a. a)
         (λ f. absurd (let s11 = (says_failing f.0 f.1 f.2 f.3).number in omega (arith, s.number, s11)))

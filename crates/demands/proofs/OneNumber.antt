@@ -6,13 +6,13 @@ use mathlib.Core.Bool.{false}
 use Prim.Native.Nat.{ℕ}
 use borrow.Author.Tests.{eqb-false}
 use lib.Dec.{eqb}
+use Rattle.std.specs.Prelude.{Err}
 use Rattle.refusals.specs.Refusals.{told}
 use Rattle.refusals.specs.declared.Refusal.{Refusal}
 use Rattle.refusals.specs.declared.Refusal.TheVariants.{TableLength, TableWord, WrongInverse}
-use Rattle.refusals.specs.declared.Answer.{Answer}
-use Rattle.refusals.specs.declared.Answer.TheVariants as answer
 use Rattle.refusals.proofs.Laws.{AnswerEnds}
 use Rattle.call_answers.proofs.Endings.Table.{TableCauses}
+use Rattle.refusals.specs.Answers.{Answer}
 
 module _ (n : ℕ) (F : Type 0) where
   abbrev pub Of : Refusal → Type 0
@@ -28,5 +28,5 @@ module _ (n : ℕ) (F : Type 0) where
     by_cell = λ i h. other (WrongInverse i) four;
   }
 
-  pub in_answer : (a : Answer) (r : Refusal) → (told r).number ≡ n → AnswerEnds Of a → a ≡ answer.Refused r → F
+  pub in_answer : (a : Answer) (r : Refusal) → (told r).number ≡ n → AnswerEnds Of a → a ≡ Err r → F
   in_answer a r e h q = subst (AnswerEnds Of) q h e

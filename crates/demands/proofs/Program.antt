@@ -10,20 +10,20 @@ use Prim.Native.Nat.{ℕ, ◌+◌, ◌*◌, ◌-◌, ◌/◌, ◌^◌, ◌<◌}
 use native.Mathlib.Omega.{arith}
 use lib.Dec.{eqb, lit<}
 use lib.ListN.{length}
+use Rattle.std.specs.Prelude.{Ok, Err}
 use Rattle.lists.specs.Lists.{choose}
 use Rattle.lists.proofs.Tab.{length_tab}
 use Rattle.table.specs.Table.{raw_words}
-use Rattle.refusals.specs.Refusals.{told}
+use Rattle.refusals.specs.Refusals.{told, row_of, constraint_of, value_of}
 use Rattle.refusals.specs.declared.Refusal.{Refusal}
 use Rattle.refusals.specs.declared.Refusal.TheVariants.{TableLength, TableWord, NoInverse, Constraint, FileLength}
 use Rattle.refusals.specs.declared.Refusal.TheVariants.{WrongKind, WrongValue}
-use Rattle.refusals.specs.declared.Answer.TheVariants as answer
 use Rattle.refusals.specs.declared.Particulars.{Particulars}
-use Rattle.refusals.proofs.Laws.{digest_refused, ends_refusal}
+use Rattle.refusals.proofs.Laws.{value_refused, ends_refusal}
 use Rattle.board.specs.Board.{batches_in, unpack_test, unpack_answer}
-use Rattle.clear_answer.specs.declared.Outcome.{Outcome}
-use Rattle.clear_answer.specs.declared.Outcome.TheVariants.{Accepted, Refused, TooLong}
-use Rattle.clear_answer.specs.Clearing.{raw_word, raw_in, file_in, unprepared, Clears, IsUnlike, InputFault, no_table}
+use Rattle.clear_answer.specs.declared.Unclear.TheVariants.{Refused, TooLong}
+use Rattle.clear_answer.specs.Clearing.{Outcome, raw_word, raw_in, file_in, unprepared, Clears, IsUnlike, InputFault}
+use Rattle.clear_answer.specs.Clearing.{no_table}
 use Rattle.clear_answer.specs.Clearing.{table_fault, file_fault, other_claim}
 use Rattle.clear_answer.proofs.Theorems as clearing
 use Rattle.clear_answer.proofs.Theorems.{Means, means_cleared, means_fault, means_long}
@@ -61,7 +61,7 @@ module _ (input : List ℕ) (Q : Refusal → Type 0) (q1 : length input < 3168 �
   fault_ends r (no_table l e) = subst Q (sym e) (q1 l)
   fault_ends r (table_fault l h p) =
       prepare_ends Q (raw_in input) unprepared (λ n. absurd (n raw_length)) (λ n. absurd (n refl)) q2 q3 unprepared
-      (answer.Refused r) p
+      (Err r) p
   fault_ends r (file_fault l h T p e) =
       let file = file_in input in
       let room = 12 * batches_in file + 4 in
@@ -69,12 +69,12 @@ module _ (input : List ℕ) (Q : Refusal → Type 0) (q1 : length input < 3168 �
       (unpack_ends Q file
       (record { by_length = q12; by_kind = λ i b. q13 i (few i b); by_value = λ i b. q14 i (few i b) }) room
       (λ n. absurd (n refl)))
-      (digest_refused (unpack_test file room) _ r e)
+      (value_refused (unpack_test file room) _ r e)
   fault_ends r (other_claim k j u e) = subst Q (sym e) (q11 k j u)
 
 -- ---- the numbers of its refusals
 module _ (input : List ℕ) (o : Outcome) (c : Clears input o) where
-  refuses_only : (r : Refusal) → o ≡ Refused r → OneOf (1 ∷ 2 ∷ 3 ∷ 12 ∷ 13 ∷ 14 ∷ 11 ∷ []) r
+  refuses_only : (r : Refusal) → o ≡ Err (Refused r) → OneOf (1 ∷ 2 ∷ 3 ∷ 12 ∷ 13 ∷ 14 ∷ 11 ∷ []) r
   refuses_only r e =
       let ns : List ℕ = 1 ∷ 2 ∷ 3 ∷ 12 ∷ 13 ∷ 14 ∷ 11 ∷ [] in
       fault_ends input (OneOf ns) (λ l. one_of 1 ns refl) (λ i h. one_of 2 ns refl) (one_of 3 ns refl)
@@ -87,7 +87,7 @@ module _ (input : List ℕ) (o : Outcome) (c : Clears input o) where
   other : (r : Refusal) → eqb (told r).number 1 ≡ false → Of1 r
   other = one.other 1 (length input < 3168)
 
-  one_exactly : (o ≡ Refused TableLength) ↔ (length input < 3168)
+  one_exactly : (o ≡ Err (Refused TableLength)) ↔ (length input < 3168)
   one_exactly = (
     λ e. fault_ends input Of1 (λ l n. l) (λ i h. other (TableWord i) refl) (other NoInverse refl)
         (other FileLength refl) (λ i h. other (WrongKind i) refl) (λ i h. other (WrongValue i) refl)
@@ -99,9 +99,9 @@ module _ (input : List ℕ) (o : Outcome) (c : Clears input o) where
   abbrev Told11 : Particulars → Type 0
   Told11 p =
       (k : ℕ) × (j : ℕ) × IsUnlike input k j
-      × (p.row ≡ 32 * k - 1) × (p.constraint ≡ 49 + j) × (p.value ≡ 372 * k - 3 + j)
+      × (row_of p.place ≡ 32 * k - 1) × (constraint_of p.place ≡ 49 + j) × (value_of p.place ≡ 372 * k - 3 + j)
 
-  unlike_refused : (i q n : ℕ) → let r = Constraint (record { 0 = i }) q n in (o ≡ Refused r) ↔ Told11 (told r)
+  unlike_refused : (i q n : ℕ) → let r = Constraint (record { 0 = i }) q n in (o ≡ Err (Refused r)) ↔ Told11 (told r)
   unlike_refused i q n = (
     λ e. fault_ends input (λ r. (told r).number ≡ 11 → Told11 (told r)) (λ l z. absurd (omega arith))
         (λ i h z. absurd (omega arith)) (λ z. absurd (omega arith)) (λ z. absurd (omega arith))
@@ -110,7 +110,7 @@ module _ (input : List ℕ) (o : Outcome) (c : Clears input o) where
     from,
   )
     where
-      from : Told11 (told (Constraint (record { 0 = i }) q n)) → o ≡ Refused (Constraint (record { 0 = i }) q n)
+      from : Told11 (told (Constraint (record { 0 = i }) q n)) → o ≡ Err (Refused (Constraint (record { 0 = i }) q n))
       from (k, j, u, at, number, place) =
           (clearing.refuses_exactly input o c _).1 (other_claim k j u (rw (at, number, place) refl))
 
@@ -122,17 +122,17 @@ refusal_in (n ∷ i ∷ []) = choose (eqb n 2) (TableWord i) (choose (eqb n 13) 
 refusal_in (n ∷ i ∷ q ∷ s) = Constraint (record { 0 = i }) q (372 * ((i + 1) / 32) - 3 + (q - 49))
 
 abbrev accepted_in : List ℕ → Outcome
-accepted_in [] = TooLong
-accepted_in (k ∷ []) = TooLong
-accepted_in (k ∷ tests ∷ s) = Accepted k tests
+accepted_in [] = Err TooLong
+accepted_in (k ∷ []) = Err TooLong
+accepted_in (k ∷ tests ∷ s) = Ok (record { batches = k; tests = tests })
 
 -- the first number stands for the word
 answer_in : List ℕ → Outcome
 unfolding read
-answer_in [] = TooLong
+answer_in [] = Err TooLong
 answer_in (n ∷ s) =
     choose (eqb n (read 0 (ascii "accepted"))) (accepted_in s)
-    (choose (eqb n (read 0 (ascii "refused"))) (Refused (refusal_in s)) TooLong)
+    (choose (eqb n (read 0 (ascii "refused"))) (Err (Refused (refusal_in s))) (Err TooLong))
 
 abbrev IsRead : Refusal → Type 0
 IsRead r = Fit (numbers_of (told r)) × (refusal_in (numbers_of (told r)) ≡ r)
@@ -159,7 +159,7 @@ line_read input o (means_cleared k s) =
     ap answer_in (line_reads_back (ascii "accepted") (k ∷ 372 * k ∷ []) refl (omega arith, (omega arith, tt)))
 line_read input o (means_fault r f) =
     let s = fault_read input r f in
-    ap answer_in (line_reads_back (ascii "refused") (numbers_of (told r)) refl s.0) ∙ ap Refused s.1
+    ap answer_in (line_reads_back (ascii "refused") (numbers_of (told r)) refl s.0) ∙ ap (λ q. Err (Refused q)) s.1
 line_read input o (means_long l) = refl
 
 line_tells : (input other : List ℕ) (a b : Outcome) → Clears input a → Clears other b → text_of a ≡ text_of b → a ≡ b
@@ -176,7 +176,7 @@ program = record {
   at_most_16 = clearing.at_most_16;
   checks_built = clearing.checks_built;
   refuses_exactly = λ input o r c. clearing.refuses_exactly input o c r;
-  refuses_only = λ input r c. refuses_only input (Refused r) c r refl;
+  refuses_only = λ input r c. refuses_only input (Err (Refused r)) c r refl;
   one_exactly = one_exactly;
   unlike_refused = λ input o i q n c. unlike_refused input o c i q n;
   long_exactly = clearing.long_exactly;

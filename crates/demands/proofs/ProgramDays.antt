@@ -8,13 +8,13 @@ use native.Mathlib.Omega.{arith}
 use lib.Count.{ones}
 use lib.ListN.{length, length-append, get_or-append, replicate, set}
 use lib.Seq.{drop_at}
+use Rattle.std.specs.Prelude.{Ok, Err}
 use Rattle.lists.specs.Lists.{cell, tab, sum, each}
 use Rattle.lists.proofs.Each.{length_each, cell_each}
 use Rattle.lists.proofs.Sum.{sum_ext}
 use Rattle.lists.proofs.Tab.{tab_ext, tab_cell}
 use Rattle.field.specs.Field.{halving, power, root}
 use Rattle.refusals.specs.declared.Refusal.TheVariants.{Constraint}
-use Rattle.refusals.specs.declared.Answer.TheVariants as answer
 use Rattle.matrix.specs.Matrix.{times_column, times}
 use Rattle.table.specs.Table.{raw_words}
 use Rattle.table.specs.Table.{matrix_of, constant, initial_constant, first_step_constant, second_step_constant}
@@ -24,7 +24,7 @@ use Rattle.board_words.specs.Words.{word_at}
 use Rattle.board_words.specs.Elements.{element_at, elements_at, element_test, elements_test}
 use Rattle.board.specs.Board.{batches_in, claim_in, taps_in, count_test, unpack_test}
 use Rattle.board.proofs.Answers.{unpack_accepted}
-use Rattle.clear_answer.specs.declared.Outcome.TheVariants.{Accepted, Refused}
+use Rattle.clear_answer.specs.declared.Unclear.TheVariants.{Refused}
 use Rattle.clear_answer.specs.Clearing.{raw_word, raw_in, file_in, unprepared, Clears, IsJudged, other_claim}
 use Rattle.clear_answer.proofs.Theorems.{means_cleared, means_fault, means_clears}
 use Rattle.known_days.specs.Days.{shifted, raw_z, Z}
@@ -65,7 +65,7 @@ module _ (file : List ℕ) where
   file_is = drop_at (each raw_bytes raw_z) file 3168 table_size
 
   -- ---- a file of one batch of zero taps
-  module _ (passes : unpack_test file 16 ≡ answer.Accepted) (one_batch : batches_in file ≡ 1)
+  module _ (passes : unpack_test file 16 ≡ Ok tt) (one_batch : batches_in file ≡ 1)
       (zeros : taps_in file ≡ replicate 16 0) where
     is_judged : IsJudged (with_z file) Z 1
     unfolding with_z
@@ -90,7 +90,7 @@ module _ (file : List ℕ) where
   claim_is claim e = ap claim_in file_is ∙ e
 
 -- ---- the two days
-pub zero_day : Clears (with_z zero_file) (Accepted 1 372)
+pub zero_day : Clears (with_z zero_file) (Ok (record { batches = 1; tests = 372 }))
 unfolding ones tab word_at element_at elements_at element_test elements_test batches_in claim_in taps_in count_test unpack_test
     zero_file
 zero_day =
@@ -101,7 +101,7 @@ zero_day =
       chains = zero_output zero_file refl refl refl ∙ sym (claim_is zero_file (replicate 4 0) refl);
     }))
 
-pub other_day : Clears (with_z (set zero_file 12 1)) (Refused (Constraint (record { 0 = 31 }) 49 369))
+pub other_day : Clears (with_z (set zero_file 12 1)) (Err (Refused (Constraint (record { 0 = 31 }) 49 369)))
 unfolding ones tab word_at element_at elements_at element_test elements_test batches_in claim_in taps_in count_test unpack_test
     zero_file
 other_day =

@@ -12,22 +12,18 @@ use native.Mathlib.Omega.{arith}
 use borrow.Author.Tests.{eqb-false}
 use lib.Dec.{eqb}
 use lib.ListN.{length}
+use Rattle.std.specs.Prelude.{Ok, Err}
 use Rattle.field_words.specs.Words.{AllCanonical, first_bad, IsFirstBad, canonical_words}
 use Rattle.field_words.proofs.Laws.{good_test}
 use Rattle.numbers.specs.Numbers.{IsPermitted, tap_word_batches, trace_word_batches}
-use Rattle.refusals.specs.Refusals.{told, digest, digest_words}
-use Rattle.refusals.specs.Answers.{unless, digest_after}
+use Rattle.refusals.specs.Refusals.{told}
+use Rattle.refusals.specs.Answers.{unless, with_value}
 use Rattle.refusals.specs.Causes.{by, by_index, in_order}
 use Rattle.refusals.specs.declared.Refusal.{Refusal}
 use Rattle.refusals.specs.declared.Refusal.TheVariants.{TableLength, TableWord, WrongInverse, TapWord, TraceLength}
 use Rattle.refusals.specs.declared.Refusal.TheVariants.{DestinationLength, ClaimWord, TraceWord, NoSuchTap}
 use Rattle.refusals.specs.declared.Refusal.TheVariants.{ClaimBatches}
-use Rattle.refusals.specs.declared.Answer.TheVariants as answer
-use Rattle.refusals.specs.declared.Digest.{Digest}
-use Rattle.refusals.specs.declared.DigestAnswer.TheVariants.{Accepted}
-use Rattle.refusals.specs.declared.DigestAnswer.TheVariants as four
-use Rattle.refusals.specs.declared.TestsAnswer.TheVariants as counted
-use Rattle.refusals.proofs.Laws.{passed, digest_accepted, digest_refused, leaves_new}
+use Rattle.refusals.proofs.Laws.{passed, value_accepted, value_refused, leaves_new}
 use Rattle.refusals.proofs.Causes.{Never, never_by, never_index, never_either, reached}
 use Rattle.table.specs.Table.{IsTable}
 use Rattle.table.proofs.Theorems.{test_sound, test_complete}
@@ -48,13 +44,12 @@ use Rattle.trace_edit.specs.Answers.{edit_test, altered_taps, edit_answer, edit_
 use Rattle.trace_rewrite.proofs.Altered.{length_altered, altered_canonical, altered_same, output_before}
 use Rattle.trace_edit.proofs.Answers.{edit_inputs}
 use Rattle.trace_edit.proofs.Theorems.{accepts_exactly, earlier_rows, row_tells_tap}
-use Rattle.call_results.specs.Code.{digest_code, Says}
+use Rattle.call_results.specs.Code.{words_code, Says}
 use Rattle.call_answers.specs.Calls.{EditCall}
 use Rattle.call_answers.proofs.Answers.{edit_answer_lem}
 use Rattle.demands.specs.Request1.{Edited, InRange, IsAbove, IsBadTap, Request1}
 use Rattle.demands.specs.TurnedBack.{opening_causes, constraint_causes, edit_call_causes}
 use Rattle.demands.proofs.Called as Called
-use Rattle.refusals.proofs.Returned.{four_words}
 use Rattle.demands.proofs.Demand1.{demand_1}
 use Rattle.demands.proofs.Demand2.{demand_2}
 use Rattle.demands.proofs.TurnedBack.{words, opening, turned_back}
@@ -63,40 +58,33 @@ use Rattle.demands.proofs.TurnedBack.{words, opening, turned_back}
 module _ (T v : List ℕ) (k : ℕ) (table : IsTable T) (permitted : IsPermitted k) (size : length v ≡ 12 * k + 4)
     (canonical : AllCanonical v) where
   built : (old : List ℕ) → length old ≡ 384 * k
-      → (build_answer T v (length old) ≡ Accepted (digest (chain T v k))) × (build_leaves T v old ≡ trace T v k)
+      → (build_answer T v (length old) ≡ Ok (chain T v k)) × (build_leaves T v old ≡ trace T v k)
   built old l = demand_2.builds T v old k (test_complete T table) permitted size canonical l
 
   module _ (c : ℕ) (low : 1 ≤ c) (high : c ≤ k) where
     -- the output of the first 3c + 1 taps, as it is returned
-    abbrev output : Digest
-    output = digest (chain T (first_taps c v) c)
-
-    output_words : digest_words output ≡ chain T (first_taps c v) c
-    unfolding chain
-    output_words =
-        ap (λ s. digest_words (digest s)) (chain_first T v c)
-        ∙ four_words (output_at T v (3 * c)) (output_is_tap T v k size canonical (3 * c)).size
-        ∙ sym (chain_first T v c)
+    abbrev output : List ℕ
+    output = chain T (first_taps c v) c
 
     -- under it
     read : (room : List ℕ) → length room ≡ 12 * k + 4
-        → (read_off_answer T (trace T v k) (digest_words output) c (length room) ≡ counted.Accepted (372 * k))
-        × (read_off_leaves T (trace T v k) (digest_words output) c room ≡ v)
+        → (read_off_answer T (trace T v k) output c (length room) ≡ Ok (372 * k))
+        × (read_off_leaves T (trace T v k) output c room ≡ v)
     read room l =
         let b = built (trace T v k) (length_trace T v k) in
         let batches : tap_word_batches (length v) ≡ k = omega arith in
-        let r = demand_2.reads_back_early T v (trace T v k) room c (digest (chain T v k)) b.0 (l ∙ sym size) low
+        let r = demand_2.reads_back_early T v (trace T v k) room c (chain T v k) b.0 (l ∙ sym size) low
         (omega arith) in (
-          ap₂ (λ s x. read_off_answer T s x c (length room)) (sym b.1) output_words
+          ap (λ s. read_off_answer T s output c (length room)) (sym b.1)
               ∙ r.0
-              ∙ ap (λ m. counted.Accepted (372 * m)) batches,
-          ap₂ (λ s x. read_off_leaves T s x c room) (sym b.1) output_words ∙ r.1,
+              ∙ ap (λ m. Ok (372 * m)) batches,
+          ap (λ s. read_off_leaves T s output c room) (sym b.1) ∙ r.1,
         )
 
-    checked : check_answer T (trace T v k) (digest_words output) c ≡ counted.Accepted (372 * k)
+    checked : check_answer T (trace T v k) output c ≡ Ok (372 * k)
     checked =
-        sym (same_for T (trace T v k) (digest_words output) c k (length_trace T v k))
-        ∙ ap (read_off_answer T (trace T v k) (digest_words output) c) (sym size)
+        sym (same_for T (trace T v k) output c k (length_trace T v k))
+        ∙ ap (read_off_answer T (trace T v k) output c) (sym size)
         ∙ (read v size).0
 
 -- ---- a tap above 3c alters no output of c batches
@@ -110,7 +98,7 @@ module _ (T t claim : List ℕ) (c k n : ℕ) (new w : List ℕ) (inputs : Check
     (list : IsListFor T t claim c k w) (there : n ≤ 3 * k) (four : length claim ≡ 4) (four' : length new ≡ 4)
     (words : AllCanonical new) where
   edited : let v = altered w n new in
-      Edited T t claim c n new (trace T v k) (digest (chain T (first_taps c v) c)) k w
+      Edited T t claim c n new (trace T v k) (chain T (first_taps c v) c) k w
   edited = record {
     permitted = o.permitted;
     claimed = (o.low, o.high);
@@ -124,7 +112,7 @@ module _ (T t claim : List ℕ) (c k n : ℕ) (new w : List ℕ) (inputs : Check
     as_built = built T v k o.table o.permitted size canonical;
     as_returned = λ old l e.
         (built T v k o.table o.permitted size canonical old l).0
-        ∙ ap (λ s. Accepted (digest s)) (sym (chain_first T v c ∙ ap (chain T v) e));
+        ∙ ap (λ s. Ok s) (sym (chain_first T v c ∙ ap (chain T v) e));
     checks = checked T v k o.table o.permitted size canonical c o.low o.high;
     reads_off = read T v k o.table o.permitted size canonical c o.low o.high;
     earlier_rows = λ i l.
@@ -160,17 +148,17 @@ module _ (T t claim : List ℕ) (c k n : ℕ) (new w : List ℕ) (inputs : Check
 
       -- an output that is the old one is the claim
       returned : chain T (first_taps c v) c ≡ chain T (first_taps c w) c
-          → digest_words (digest (chain T (first_taps c v) c)) ≡ claim
-      returned e = ap (λ s. digest_words (digest s)) (e ∙ list.chains) ∙ four_words claim four
+          → (chain T (first_taps c v) c) ≡ claim
+      returned e = e ∙ list.chains
 
-edits : (T t claim : List ℕ) (c n : ℕ) (new : List ℕ) (d : Digest) → length claim ≡ 4 → length new ≡ 4
-    → edit_answer T t claim c n new ≡ Accepted d
+edits : (T t claim : List ℕ) (c n : ℕ) (new d : List ℕ) → length claim ≡ 4 → length new ≡ 4
+    → edit_answer T t claim c n new ≡ Ok d
     → (k : ℕ) × (w : List ℕ) × Edited T t claim c n new (edit_leaves T t claim c n new) d k w
 unfolding edit_answer edit_leaves altered_taps
 edits T t claim c n new d four four' e =
     let k = trace_word_batches (length t) in
     let w = read_taps T t k in
-    let a = digest_accepted (edit_test T t claim c n new) _ d e in
+    let a = value_accepted (edit_test T t claim c n new) _ d e in
     let i = edit_inputs T t claim c n new a.0 in
     let o = i.0.opening in
     let list = reads_that_list T t claim c k o.table o.permitted o.low o.high o.size i.0.canonical
@@ -259,8 +247,8 @@ module _ (T t claim : List ℕ) (c n : ℕ) (new : List ℕ) where
   all_words : (q : ℕ → Refusal) (s : List ℕ) → ((r : Refusal) → by_index q (IsFirstBad s) r → ⊥) → AllCanonical s
   all_words q s none = good_test s (passes (canonical_words s) ((words q s).accepts_exactly.1 none))
     where
-      passes : (b : Bool) → unless b (q (first_bad s)) answer.Accepted ≡ answer.Accepted → b ≡ true
-      passes b e = (passed b (q (first_bad s)) answer.Accepted e).0
+      passes : (b : Bool) → unless b (q (first_bad s)) (Ok tt) ≡ Ok tt → b ≡ true
+      passes b e = (passed b (q (first_bad s)) (Ok tt) e).0
 
   none_bad : (q : ℕ → Refusal) (s : List ℕ) → AllCanonical s → (r : Refusal) → by_index q (IsFirstBad s) r → ⊥
   none_bad q s all r h = h.1.bad (all h.0 h.1.within)
@@ -307,35 +295,35 @@ module _ (T t claim : List ℕ) (c n : ℕ) (new : List ℕ) where
         inr (r.0, inr (λ q l. omega (arith, l.0, h.2, r.1), rest.1 h.3)),
   )
 
-  fifteen_exactly : (edit_answer T t claim c n new ≡ four.Refused NoSuchTap) ↔ IsAbove T t c n
+  fifteen_exactly : (edit_answer T t claim c n new ≡ Err NoSuchTap) ↔ IsAbove T t c n
   unfolding edit_answer
   fifteen_exactly =
       let d = (turned_back.edit T t claim c n new).refuses_exactly NoSuchTap in
       let f = fifteen T t c n from_claim from_claim_never in (
-        λ e. f.0 (d.0 (digest_refused (edit_test T t claim c n new) _ NoSuchTap e)),
-        λ h. ap (λ a. digest_after a (digest (chain T (first_taps c (altered_taps T t n new)) c))) (d.1 (f.1 h)),
+        λ e. f.0 (d.0 (value_refused (edit_test T t claim c n new) _ NoSuchTap e)),
+        λ h. ap (λ a. with_value a (chain T (first_taps c (altered_taps T t n new)) c)) (d.1 (f.1 h)),
       )
 
-  six_exactly : (i : ℕ) → (edit_answer T t claim c n new ≡ four.Refused (TapWord i)) ↔ IsBadTap T t claim c n new i
+  six_exactly : (i : ℕ) → (edit_answer T t claim c n new ≡ Err (TapWord i)) ↔ IsBadTap T t claim c n new i
   unfolding edit_answer
   six_exactly i =
       let d = (turned_back.edit T t claim c n new).refuses_exactly (TapWord i) in
       let f = six_from from_claim (AllCanonical claim × AllCanonical t × IsFirstBad new i) i (six i) in (
         λ e.
-            let x = f.0 (d.0 (digest_refused (edit_test T t claim c n new) _ (TapWord i) e)) in
+            let x = f.0 (d.0 (value_refused (edit_test T t claim c n new) _ (TapWord i) e)) in
             (x.0, x.1, x.2, x.3.0, x.3.1, x.3.2),
         λ h.
             let refused = d.1 (f.1 (h.0, h.1, h.2, (h.3, h.4, h.5))) in
-            ap (λ a. digest_after a (digest (chain T (first_taps c (altered_taps T t n new)) c))) refused,
+            ap (λ a. with_value a (chain T (first_taps c (altered_taps T t n new)) c)) refused,
       )
 
 -- ---- the call
 module _ (T t claim : List ℕ) (c n : ℕ) (new t' output output' : List ℕ) (code : ℕ) (four-claim : length claim ≡ 4)
     (four-new : length new ≡ 4) (called : EditCall T t claim c n new code t' output output') where
   call_accepts_exactly : (code ≡ 0)
-      ↔ ((length output ≡ 4) × ((m : ℕ) × (check_answer T t claim c ≡ counted.Accepted m))
+      ↔ ((length output ≡ 4) × ((m : ℕ) × (check_answer T t claim c ≡ Ok m))
       × (n ≤ 3 * trace_word_batches (length t)) × AllCanonical new)
-  unfolding digest_code
+  unfolding words_code
   call_accepts_exactly = (
     λ z.
         let zero = subst (λ x. EditCall T t claim c n new x t' output output') z called in
@@ -345,7 +333,7 @@ module _ (T t claim : List ℕ) (c n : ℕ) (new t' output output' : List ℕ) (
     λ h.
         let a = (accepts_exactly T t claim c n new).1 (h.1, h.2, h.3) in
         called.four.coded
-        ∙ ap digest_code (sym (edit_answer_lem (length output) h.0 T t claim c n new) ∙ a.1),
+        ∙ ap words_code (sym (edit_answer_lem (length output) h.0 T t claim c n new) ∙ a.1),
   )
 
   by_causes : (r : Refusal) → Says code (told r) ↔ edit_call_causes T t claim c n new (length output) r
@@ -391,7 +379,7 @@ module _ (T t claim : List ℕ) (c n : ℕ) (new t' output output' : List ℕ) (
 
 call_edits : (T t claim : List ℕ) (c n : ℕ) (new t' output output' : List ℕ) → length claim ≡ 4 → length new ≡ 4
     → EditCall T t claim c n new 0 t' output output'
-    → (k : ℕ) × (w : List ℕ) × (d : Digest) × Edited T t claim c n new t' d k w × (output' ≡ digest_words d)
+    → (k : ℕ) × (w : List ℕ) × (d : List ℕ) × Edited T t claim c n new t' d k w × (output' ≡ d)
 call_edits T t claim c n new t' output output' four-claim four-new called =
     let e = (Called.edited T t claim c n new t' output output' four-claim four-new called).1 in
     let x = edits T t claim c n new e.0 four-claim four-new e.1 in

@@ -11,20 +11,17 @@ use native.Mathlib.Omega.{arith}
 use borrow.Author.Tests.{eqb-false}
 use lib.Dec.{eqb}
 use lib.ListN.{length}
+use Rattle.std.specs.Prelude.{Ok, Err}
 use Rattle.field_words.specs.Words.{AllCanonical}
 use Rattle.numbers.specs.Numbers.{tap_words, trace_word_batches}
 use Rattle.numbers.specs.declared.RowNumber.{RowNumber}
-use Rattle.refusals.specs.Refusals.{told}
-use Rattle.refusals.specs.Answers.{tests_after}
+use Rattle.refusals.specs.Refusals.{told, row_of, constraint_of, value_of}
+use Rattle.refusals.specs.Answers.{Answer, with_value}
 use Rattle.refusals.specs.declared.Refusal.{Refusal}
 use Rattle.refusals.specs.declared.Refusal.TheVariants.{TableLength, TableWord, WrongInverse, TapWord, TraceLength}
 use Rattle.refusals.specs.declared.Refusal.TheVariants.{DestinationLength, ClaimWord, TraceWord, NoSuchTap}
 use Rattle.refusals.specs.declared.Refusal.TheVariants.{ClaimBatches}
-use Rattle.refusals.specs.declared.Answer.{Answer}
-use Rattle.refusals.specs.declared.Answer.TheVariants as answer
-use Rattle.refusals.specs.declared.DigestAnswer.TheVariants as four
-use Rattle.refusals.specs.declared.TestsAnswer.TheVariants.{Refused}
-use Rattle.refusals.proofs.Laws.{AnswerEnds, digest_refused, digest_turned_back, tests_refused}
+use Rattle.refusals.proofs.Laws.{AnswerEnds, value_refused, value_turned_back}
 use Rattle.table.proofs.Theorems.{test_sound, test_complete}
 use Rattle.check_constraints.specs.Constraints.{tests}
 use Rattle.check_constraints.specs.FirstFailing.{IsFirstFailing}
@@ -51,7 +48,7 @@ use Rattle.demands.proofs.Demand1.Words.{digest_none}
 
 -- ---- of a refusal only 11 matters here: what P says of its row, constraint and count
 abbrev OfEleven : (ℕ → ℕ → ℕ → Type 0) → Refusal → Type 0
-OfEleven P r = (told r).number ≡ 11 → P (told r).row (told r).constraint (told r).value
+OfEleven P r = (told r).number ≡ 11 → P (row_of (told r).place) (constraint_of (told r).place) (value_of (told r).place)
 
 module _ (P : ℕ → ℕ → ℕ → Type 0) where
   other : (r : Refusal) → eqb (told r).number 11 ≡ false → OfEleven P r
@@ -71,14 +68,14 @@ module _ (P : ℕ → ℕ → ℕ → Type 0) where
   }
 
   -- in an answer, and in the word that tells it
-  in_answer : (a : Answer) (i q n : ℕ) → AnswerEnds (OfEleven P) a → a ≡ answer.Refused (eleven i q n) → P i q n
+  in_answer : (a : Answer) (i q n : ℕ) → AnswerEnds (OfEleven P) a → a ≡ Err (eleven i q n) → P i q n
   in_answer a i q n h e = subst (AnswerEnds (OfEleven P)) e h refl
 
-  in_word : (a : Answer) (m code i q n : ℕ) → code ≡ tests_code (tests_after a m) → AnswerEnds RefusalInBits a
+  in_word : (a : Answer) (m code i q n : ℕ) → code ≡ tests_code (with_value a m) → AnswerEnds RefusalInBits a
       → AnswerEnds (OfEleven P) a → Says code (told (eleven i q n)) → P i q n
   unfolding tests_code code_of_lem
-  in_word answer.Accepted m code i q n e b h s = absurd (omega (arith, s.number))
-  in_word (answer.Refused r) m code i q n e b h s =
+  in_word (Ok _) m code i q n e b h s = absurd (omega (arith, s.number))
+  in_word (Err r) m code i q n e b h s =
       let u = says (told r) b in
       subst₃ P (sym u.row ∙ ap row_in (sym e) ∙ s.row)
       (sym u.constraint ∙ ap constraint_in (sym e) ∙ s.constraint)
@@ -86,11 +83,11 @@ module _ (P : ℕ → ℕ → ℕ → Type 0) where
       (h (sym u.number ∙ ap number_in (sym e) ∙ s.number))
 
 -- what a word says of a refusal
-pub word_says : (a : Answer) (m code : ℕ) (r : Refusal) → code ≡ tests_code (tests_after a m) → AnswerEnds RefusalInBits a
-    → a ≡ answer.Refused r → Says code (told r)
+pub word_says : (a : Answer) (m code : ℕ) (r : Refusal) → code ≡ tests_code (with_value a m) → AnswerEnds RefusalInBits a
+    → a ≡ Err r → Says code (told r)
 unfolding tests_code
 word_says a m code r e b q =
-    subst (λ x. Says x (told r)) (sym (e ∙ ap (λ x. tests_code (tests_after x m)) q))
+    subst (λ x. Says x (told r)) (sym (e ∙ ap (λ x. tests_code (with_value x m)) q))
     (says (told r) (subst (AnswerEnds RefusalInBits) q b))
 
 -- ---- what has been passed where the tests end with 11, for one table, trace, claim and c
@@ -110,11 +107,11 @@ module _ (T t claim : List ℕ) (c : ℕ) where
 
   -- Check answers so
   answered : (k i q n : ℕ) → Reached T t claim c k × IsFirstFailing T t claim (tests k c) i q n
-      → check_answer T t claim c ≡ Refused (eleven i q n)
+      → check_answer T t claim c ≡ Err (eleven i q n)
   answered k i q n (h, f) =
       check_verdict T t claim c k (test_sound T h.table) h.permitted h.low h.high h.size h.canonical
       h.claim_canonical
-      ∙ ap (λ a. tests_after a (length (tests k c))) (first_failing_refused T t claim k c i q n f)
+      ∙ ap (λ a. with_value a (length (tests k c))) (first_failing_refused T t claim k c i q n f)
 
   abbrev k : ℕ
   k = trace_word_batches (length t)
@@ -160,61 +157,61 @@ counted T t claim c k i q n f =
     record { first_failing = f; place_is = f.place ∙ place_of_test k c i q f.before f.after f.order }
 
 check_counts : (T t claim : List ℕ) (c i q n : ℕ)
-    → (check_answer T t claim c ≡ Refused (eleven i q n))
+    → (check_answer T t claim c ≡ Err (eleven i q n))
     ↔ ((k : ℕ) × Reached T t claim c k × Counted T t claim c k i q n)
 unfolding check_answer
 check_counts T t claim c i q n = (
   λ e.
       let k = trace_word_batches (length t) in
-      let test = tests_refused (check_test T t claim c) _ (eleven i q n) e in
+      let test = value_refused (check_test T t claim c) _ (eleven i q n) e in
       let p = in_answer (Passed T t claim c) (check_test T t claim c) i q n (check_passed T t claim c) test in
       (k, p.0, counted T t claim c k i q n p.1),
   λ s. answered T t claim c s.0 i q n (s.1, s.2.first_failing),
 )
 
 read_off_alike : (T t claim : List ℕ) (c size i q n : ℕ)
-    → (read_off_answer T t claim c size ≡ Refused (eleven i q n))
-    ↔ ((check_answer T t claim c ≡ Refused (eleven i q n)) × (size ≡ tap_words (trace_word_batches (length t))))
+    → (read_off_answer T t claim c size ≡ Err (eleven i q n))
+    ↔ ((check_answer T t claim c ≡ Err (eleven i q n)) × (size ≡ tap_words (trace_word_batches (length t))))
 unfolding read_off_answer
 read_off_alike T t claim c size i q n = (
   λ e.
       let test = read_off_test T t claim c size in
       let p = in_answer (ReadOffPassed T t claim c size) test i q n (read_off_passed T t claim c size)
-      (tests_refused test _ (eleven i q n) e) in
+      (value_refused test _ (eleven i q n) e) in
       (answered T t claim c _ i q n p.1, p.0),
   λ s. ap (read_off_answer T t claim c) s.1 ∙ same_answer T t claim c ∙ s.0,
 )
 
 edit_alike : (T t claim : List ℕ) (c m : ℕ) (new : List ℕ) (i q n : ℕ)
-    → (edit_answer T t claim c m new ≡ four.Refused (eleven i q n))
-    ↔ ((check_answer T t claim c ≡ Refused (eleven i q n)) × (m ≤ 3 * trace_word_batches (length t)) × AllCanonical new)
+    → (edit_answer T t claim c m new ≡ Err (eleven i q n))
+    ↔ ((check_answer T t claim c ≡ Err (eleven i q n)) × (m ≤ 3 * trace_word_batches (length t)) × AllCanonical new)
 unfolding edit_answer check_answer
 edit_alike T t claim c m new i q n = (
   λ e.
       let test = edit_test T t claim c m new in
       let p = in_answer (EditPassed T t claim c m new) test i q n (edit_passed T t claim c m new)
-      (digest_refused test _ (eleven i q n) e) in
+      (value_refused test _ (eleven i q n) e) in
       (answered T t claim c _ i q n p.2, p.0, p.1),
   λ s.
-      let refused = tests_refused (check_test T t claim c) _ (eleven i q n) s.0 in
-      sym (digest_turned_back refl _ (same_test T t claim c m new s.1 s.2 ∙ refused)),
+      let refused = value_refused (check_test T t claim c) _ (eleven i q n) s.0 in
+      sym (value_turned_back refl _ (same_test T t claim c m new s.1 s.2 ∙ refused)),
 )
 
 -- ---- the calls
 check_called : (T t claim : List ℕ) (c code i q n : ℕ) → length claim ≡ 4 → code ≡ tests_code (check_answer T t claim c)
-    → Says code (told (eleven i q n)) ↔ (check_answer T t claim c ≡ Refused (eleven i q n))
+    → Says code (told (eleven i q n)) ↔ (check_answer T t claim c ≡ Err (eleven i q n))
 unfolding check_answer
 check_called T t claim c code i q n size e =
     let test = check_test T t claim c in
     let b = bits.check_bits T t claim c size in (
       λ s. answered T t claim c _ i q n
           (in_word (Passed T t claim c) test _ code i q n e b (check_passed T t claim c) s),
-      λ h. word_says test _ code (eleven i q n) e b (tests_refused test _ (eleven i q n) h),
+      λ h. word_says test _ code (eleven i q n) e b (value_refused test _ (eleven i q n) h),
     )
 
 read_off_called : (T t claim taps taps' : List ℕ) (c code i q n : ℕ) → length claim ≡ 4
     → ReadOffCall T t claim c code taps taps'
-    → Says code (told (eleven i q n)) ↔ (read_off_answer T t claim c (length taps) ≡ Refused (eleven i q n))
+    → Says code (told (eleven i q n)) ↔ (read_off_answer T t claim c (length taps) ≡ Err (eleven i q n))
 unfolding read_off_answer
 read_off_called T t claim taps taps' c code i q n size h =
     let room = length taps in
@@ -224,13 +221,13 @@ read_off_called T t claim taps taps' c code i q n size h =
           let p = in_word (ReadOffPassed T t claim c room) test _ code i q n h.coded b
           (read_off_passed T t claim c room) s in
           (read_off_alike T t claim c room i q n).1 (answered T t claim c _ i q n p.1, p.0),
-      λ e. word_says test _ code (eleven i q n) h.coded b (tests_refused test _ (eleven i q n) e),
+      λ e. word_says test _ code (eleven i q n) h.coded b (value_refused test _ (eleven i q n) e),
     )
 
 edit_called : (T t claim : List ℕ) (c m : ℕ) (new t' output output' : List ℕ) (code i q n : ℕ) → length claim ≡ 4
     → length new ≡ 4 → EditCall T t claim c m new code t' output output'
     → Says code (told (eleven i q n))
-    ↔ ((edit_answer T t claim c m new ≡ four.Refused (eleven i q n)) × (length output ≡ 4))
+    ↔ ((edit_answer T t claim c m new ≡ Err (eleven i q n)) × (length output ≡ 4))
 unfolding edit_answer edit_call
 edit_called T t claim c m new t' output output' code i q n size size' h =
     let room = length output in
@@ -243,7 +240,7 @@ edit_called T t claim c m new t' output output' code i q n size size' h =
           let l = p.1 in
           ((edit_alike T t claim c m new i q n).1 (answered T t claim c _ i q n l.2, l.0, l.1), p.0),
       λ s.
-          let refused = digest_refused (edit_test T t claim c m new) _ (eleven i q n) s.0 in
+          let refused = value_refused (edit_test T t claim c m new) _ (eleven i q n) s.0 in
           word_says test 0 code (eleven i q n) coded b (sym (edit_room T t claim c m new room s.1) ∙ refused),
     )
 

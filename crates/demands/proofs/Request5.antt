@@ -10,31 +10,23 @@ use native.Mathlib.Omega.{arith}
 use borrow.Author.Tests.{eqb-true}
 use lib.Dec.{eqb}
 use lib.ListN.{length, length-append}
+use Rattle.std.specs.Prelude.{Result, Ok, Err, take, drop}
 use Rattle.lists.specs.Lists.{cell}
 use Rattle.field.specs.Field.{P}
 use Rattle.field_words.specs.Words.{CanonicalTo, AllCanonical, first_bad, canonical_words}
 use Rattle.field_words.proofs.Laws.{bad_at, good_before, stops, scanned_bad, bad_test}
 use Rattle.numbers.specs.Numbers.{IsPermitted, tap_word_batches, trace_word_batches}
-use Rattle.refusals.specs.Refusals.{told, state, state_words, pair, pair_words}
-use Rattle.refusals.specs.Answers.{unless, after, leaves}
+use Rattle.refusals.specs.Refusals.{told}
+use Rattle.refusals.specs.Answers.{Answer, unless, after, leaves}
 use Rattle.refusals.specs.declared.Refusal.{Refusal}
 use Rattle.refusals.specs.declared.Refusal.TheVariants.{TapWord, DestinationLength, NoPair}
-use Rattle.refusals.specs.declared.Answer.{Answer}
-use Rattle.refusals.specs.declared.Answer.TheVariants as answer
-use Rattle.refusals.specs.declared.Digest.{Digest}
-use Rattle.refusals.specs.declared.DigestAnswer.TheVariants as four
-use Rattle.refusals.specs.declared.State.{State}
-use Rattle.refusals.specs.declared.StateAnswer.TheVariants as final
-use Rattle.refusals.specs.declared.Pair.{Pair}
-use Rattle.refusals.specs.declared.PairAnswer.TheVariants.{Accepted, Refused}
-use Rattle.refusals.specs.declared.TestsAnswer.TheVariants as tests
-use Rattle.refusals.proofs.Laws.{not_accepted, passed, both_accepted, digest_accepted, pair_accepted, tests_accepted}
-use Rattle.refusals.proofs.Laws.{pair_refused, pair_turned_back, pair_returned, AnswerEnds}
-use Rattle.refusals.proofs.Returned.{eight_words}
+use Rattle.refusals.proofs.Laws.{not_accepted, passed, both_accepted, value_accepted}
+use Rattle.refusals.proofs.Laws.{value_refused, value_turned_back, value_returned, AnswerEnds}
 use Rattle.table.specs.Table.{table_test}
 use Rattle.table.proofs.Theorems.{test_sound, test_complete}
-use Rattle.hash.specs.Hash.{tap, output_at}
-use Rattle.hash.specs.Answers.{hash_answer}
+use Rattle.hash.specs.Hash.{final_state, input, tap, output_at}
+use Rattle.hash.specs.Answers.{hash_test, hash_answer}
+use Rattle.hash.proofs.States.{final_state_state}
 use Rattle.trace.specs.Trace.{row}
 use Rattle.trace.specs.Answers.{build_test, build_answer, build_leaves}
 use Rattle.trace.proofs.Answers.{build_inputs}
@@ -64,14 +56,13 @@ one_pair : (T s words others : List ℕ) → length s ≡ 12 → length words �
     → EndsIn T words s → EndsIn T others s → words ≡ others
 one_pair T s words others twelve eight eight' e f =
     let both = sym (hash_answered T s twelve words eight e) ∙ hash_answered T s twelve others eight' f in
-    let same = (pair_accepted answer.Accepted (pair words) (pair others) both).1 in
-    sym (eight_words words eight) ∙ ap pair_words same ∙ eight_words others eight'
+    (value_accepted (Ok tt) words others both).1
 
 -- ---- 16
 module _ (T s : List ℕ) where
   -- what was tested before it
   abbrev Tested : Type 0
-  Tested = (table_test T ≡ answer.Accepted) × AllCanonical s
+  Tested = (table_test T ≡ Ok tt) × AllCanonical s
 
   abbrev At16 : Refusal → Type 0
   At16 r = (told r).number ≡ 16 → Tested
@@ -86,13 +77,13 @@ module _ (T s : List ℕ) where
       })
       T s (λ i l h. absurd (omega arith)) (λ t c h. (t, c))
 
-  reached : unhash_answer T s ≡ Refused NoPair → Tested
+  reached : unhash_answer T s ≡ Err NoPair → Tested
   unfolding unhash_answer
-  reached e = subst (AnswerEnds At16) (pair_refused (unhash_test T s) _ NoPair e) at_16 refl
+  reached e = subst (AnswerEnds At16) (value_refused (unhash_test T s) _ NoPair e) at_16 refl
 
   sixteen_exactly : length s ≡ 12
-      → (unhash_answer T s ≡ Refused NoPair)
-      ↔ ((table_test T ≡ answer.Accepted) × AllCanonical s
+      → (unhash_answer T s ≡ Err NoPair)
+      ↔ ((table_test T ≡ Ok tt) × AllCanonical s
       × ((words : List ℕ) → length words ≡ 8 → EndsIn T words s → ⊥))
   sixteen_exactly twelve = (
     λ e.
@@ -100,15 +91,15 @@ module _ (T s : List ℕ) where
         (r.0, r.1, λ words eight h. not_both words (sym (hash_answered T s twelve words eight h) ∙ e)),
     λ h.
         ⊎_elim (λ (w : (words : List ℕ) × (length words ≡ 8) × EndsIn T words s). absurd (h.2 w.0 w.1 w.2))
-        (λ (e : unhash_answer T s ≡ Refused NoPair). e)
+        (λ (e : unhash_answer T s ≡ Err NoPair). e)
         (answered_or_16 T s twelve (test_sound T h.0) h.1),
   )
     where
-      not_both : (words : List ℕ) → Accepted (pair words) ≡ Refused NoPair → ⊥
-      not_both words e = not_accepted NoPair (sym (pair_refused answer.Accepted (pair words) NoPair e))
+      not_both : (words : List ℕ) → ◌≡◌ {A = Result (List ℕ) Refusal} (Ok words) (Err NoPair) → ⊥
+      not_both words e = not_accepted NoPair (sym (value_refused (Ok tt) words NoPair e))
 
 -- ---- what comes before
-table_first : (T s : List ℕ) (r : Refusal) → table_test T ≡ answer.Refused r → unhash_answer T s ≡ Refused r
+table_first : (T s : List ℕ) (r : Refusal) → table_test T ≡ Err r → unhash_answer T s ≡ Err r
 unfolding unhash_answer unhash_test
 table_first T s r e = rw e
 
@@ -121,25 +112,25 @@ module _ (T s : List ℕ) (i : ℕ) where
 
   -- what is known where 6 is answered
   named : (a : Answer) (b z : Bool) → AnswerEnds (λ r. (told r).number ≡ 6 → ⊥) a
-      → after a (unless b (TapWord (first_bad s)) (unless z NoPair answer.Accepted)) ≡ answer.Refused (TapWord i)
-      → (a ≡ answer.Accepted) × (b ≡ false) × (first_bad s ≡ i)
-  named answer.Accepted false z n e = (refl, refl, cc)
-  named answer.Accepted true false n e = absurd (let z : ◌≡◌ {A = ℕ} 0 1 = cc in omega arith)
-  named answer.Accepted true true n e = absurd (let z : ◌≡◌ {A = ℕ} 0 1 = cc in omega arith)
-  named (answer.Refused r) b z n e = absurd (n (ap (λ x. (told x).number) (one e)))
+      → after a (unless b (TapWord (first_bad s)) (unless z NoPair (Ok tt))) ≡ Err (TapWord i)
+      → (a ≡ Ok tt) × (b ≡ false) × (first_bad s ≡ i)
+  named (Ok _) false z n e = (refl, refl, cc)
+  named (Ok _) true false n e = absurd (let z : ◌≡◌ {A = ℕ} 0 1 = cc in omega arith)
+  named (Ok _) true true n e = absurd (let z : ◌≡◌ {A = ℕ} 0 1 = cc in omega arith)
+  named (Err r) b z n e = absurd (n (ap (λ x. (told x).number) (one e)))
     where
-      one : {p q : Refusal} → answer.Refused p ≡ answer.Refused q → p ≡ q
+      one : {p q : Refusal} → ◌≡◌ {A = Answer} (Err p) (Err q) → p ≡ q
       one e = cc
 
   six_exactly : length s ≡ 12
-      → (unhash_answer T s ≡ Refused (TapWord i))
-      ↔ ((table_test T ≡ answer.Accepted) × (i < 12) × (P ≤ cell s i) × CanonicalTo i s)
+      → (unhash_answer T s ≡ Err (TapWord i))
+      ↔ ((table_test T ≡ Ok tt) × (i < 12) × (P ≤ cell s i) × CanonicalTo i s)
   unfolding unhash_answer unhash_test
   six_exactly twelve = (
     λ e.
         let n =
         named (table_test T) (canonical_words s) (ends_in_zeros (input_before T s)) table_never_6
-        (pair_refused (unhash_test T s) _ (TapWord i) e) in
+        (value_refused (unhash_test T s) _ (TapWord i) e) in
         let inside = bad_test s n.1 in (
           n.0,
           omega (arith, inside, n.2),
@@ -149,27 +140,34 @@ module _ (T s : List ℕ) (i : ℕ) where
     λ h.
         let first = stops s i (omega (arith, h.1)) h.3 h.2 in
         let other : canonical_words s ≡ false = scanned_bad s first (λ e. omega (arith, h.1)) in
-        let refuses : unhash_test T s ≡ answer.Refused (TapWord i) = rw (h.0, other, first) in
-        sym (pair_turned_back refl _ refuses),
+        let refuses : unhash_test T s ≡ Err (TapWord i) = rw (h.0, other, first) in
+        sym (value_turned_back refl _ refuses),
   )
 
-answers : (T s : List ℕ) → length s ≡ 12 → table_test T ≡ answer.Accepted → AllCanonical s
-    → ((p : Pair) × (unhash_answer T s ≡ Accepted p)) ⊎ (unhash_answer T s ≡ Refused NoPair)
+answers : (T s : List ℕ) → length s ≡ 12 → table_test T ≡ Ok tt → AllCanonical s
+    → ((p : List ℕ) × (unhash_answer T s ≡ Ok p)) ⊎ (unhash_answer T s ≡ Err NoPair)
 answers T s twelve table canonical =
     ⊎_elim
     (λ (w : (words : List ℕ) × (length words ≡ 8) × EndsIn T words s).
-    inl (pair w.0, hash_answered T s twelve w.0 w.1 w.2))
-    (λ (e : unhash_answer T s ≡ Refused NoPair). inr e)
+    inl (w.0, hash_answered T s twelve w.0 w.1 w.2))
+    (λ (e : unhash_answer T s ≡ Err NoPair). inr e)
     (answered_or_16 T s twelve (test_sound T table) canonical)
 
 -- ---- there and back
-unhash_of_hash : (T words : List ℕ) (s : State) → length words ≡ 8 → hash_answer T words ≡ final.Accepted s
-    → unhash_answer T (state_words s) ≡ Accepted (pair words)
-unhash_of_hash T words s eight e = hash_answered T (state_words s) refl words eight e
+unhash_of_hash : (T words s : List ℕ) → length words ≡ 8 → hash_answer T words ≡ Ok s
+    → unhash_answer T s ≡ Ok words
+unfolding hash_answer
+unhash_of_hash T words s eight e =
+    let a = value_accepted (hash_test T words) _ s e in
+    let twelve = subst (λ x. length x ≡ 12) a.1 (final_state_state T (input (take 4 words) (drop 4 words))).size in
+    hash_answered T s twelve words eight e
 
-hash_of_unhash : (T s : List ℕ) (p : Pair) → length s ≡ 12 → unhash_answer T s ≡ Accepted p
-    → hash_answer T (pair_words p) ≡ final.Accepted (state s)
-hash_of_unhash T s p twelve e = answered_hash T s twelve (pair_words p) refl e
+hash_of_unhash : (T s p : List ℕ) → length s ≡ 12 → unhash_answer T s ≡ Ok p
+    → hash_answer T p ≡ Ok s
+unfolding unhash_answer
+hash_of_unhash T s p twelve e =
+    let a = value_accepted (unhash_test T s) _ p e in
+    answered_hash T s twelve p (subst (λ x. length x ≡ 8) a.1 (taps_size T s)) e
 
 -- ---- the call from another language
 module _ (T s old new : List ℕ) (code : ℕ) (called : UnhashCall T s code old new) where
@@ -178,25 +176,25 @@ module _ (T s old new : List ℕ) (code : ℕ) (called : UnhashCall T s code old
   asked = unhash_call_test T s (length old)
 
   -- a word that says no refusal is that of an acceptance
-  accepted : length s ≡ 12 → code ≡ 0 → asked ≡ answer.Accepted
+  accepted : length s ≡ 12 → code ≡ 0 → asked ≡ Ok tt
   accepted twelve e = zero_accepts asked (unhash_bits T s (length old) twelve) (sym called.coded ∙ e)
 
   -- an acceptance has room, and then writes the two taps
-  has_room : asked ≡ answer.Accepted → length old ≡ 8
+  has_room : asked ≡ Ok tt → length old ≡ 8
   unfolding unhash_call_test
   has_room e =
       let a = both_accepted (table_test T) _ e in
       eqb-true (length old) 8 (passed (eqb (length old) 8) DestinationLength _ a.1).0
 
-  written : asked ≡ answer.Accepted → new ≡ taps_before T s
+  written : asked ≡ Ok tt → new ≡ taps_before T s
   written e = called.taps ∙ ap (λ t. leaves t (taps_before T s) old) e
 
   eight_left : length old ≡ 8 → length new ≡ 8
   eight_left room = ap length called.taps ∙ go asked
     where
       go : (t : Answer) → length (leaves t (taps_before T s) old) ≡ 8
-      go answer.Accepted = taps_size T s
-      go (answer.Refused r) = room
+      go (Ok _) = taps_size T s
+      go (Err r) = room
 
   call_exactly : length s ≡ 12 → (code ≡ 0) ↔ ((length old ≡ 8) × EndsIn T new s)
   unfolding unhash_answer answer_code
@@ -205,24 +203,24 @@ module _ (T s old new : List ℕ) (code : ℕ) (called : UnhashCall T s code old
         let a = accepted twelve e in
         let room = has_room a in
         let passes = unhash_room T s (length old) room ∙ a in
-        let found = sym (pair_returned refl passes refl) in (
+        let found = sym (value_returned refl passes refl) in (
           room,
           subst (λ w. EndsIn T w s) (sym (written a)) (answered_hash T s twelve (taps_before T s) (taps_size T s) found),
         ),
     λ h.
         let found = hash_answered T s twelve new (eight_left h.0) h.1 in
-        let passes = (pair_accepted (unhash_test T s) _ (pair new) found).0 in
+        let passes = (value_accepted (unhash_test T s) _ new found).0 in
         called.coded ∙ ap answer_code (sym (unhash_room T s (length old) h.0) ∙ passes),
   )
 
-  call_refuses : (r : Refusal) → length old ≡ 8 → unhash_answer T s ≡ Refused r → (code ≡ refusal_code r) × (new ≡ old)
+  call_refuses : (r : Refusal) → length old ≡ 8 → unhash_answer T s ≡ Err r → (code ≡ refusal_code r) × (new ≡ old)
   unfolding unhash_answer answer_code
   call_refuses r room e =
-      let refuses = sym (unhash_room T s (length old) room) ∙ pair_refused (unhash_test T s) _ r e in
+      let refuses = sym (unhash_room T s (length old) room) ∙ value_refused (unhash_test T s) _ r e in
       (called.coded ∙ ap answer_code refuses, called.taps ∙ ap (λ t. leaves t (taps_before T s) old) refuses)
 
   call_without : (length old ≡ 8 → ⊥)
-      → (code ≡ answer_code (after (table_test T) (answer.Refused DestinationLength))) × (new ≡ old)
+      → (code ≡ answer_code (after (table_test T) (Err DestinationLength))) × (new ≡ old)
   unfolding hash_no_room
   call_without without =
       let refuses = unhash_without T s (length old) without in
@@ -233,9 +231,9 @@ module _ (T s old new : List ℕ) (code : ℕ) (called : UnhashCall T s code old
 
 -- ---- row 31
 module _ (T w : List ℕ) (k : ℕ) (permitted : IsPermitted k) (size : length w ≡ 12 * k + 4) (canonical : AllCanonical w)
-    (t : List ℕ) (d : Digest) (shown : Ends T w k k t d) where
+    (t d : List ℕ) (shown : Ends T w k k t d) where
   rows_31 : (b : ℕ) → b < k
-      → unhash_answer T (row t (32 * b + 31)) ≡ Accepted (pair (output_at T w (3 * b + 2) ++ tap w (3 * b + 3)))
+      → unhash_answer T (row t (32 * b + 31)) ≡ Ok (output_at T w (3 * b + 2) ++ tap w (3 * b + 3))
   rows_31 b l =
       let h = 3 * b + 2 in
       let r = shown.rows_31 b l in
@@ -249,7 +247,7 @@ module _ (T w : List ℕ) (k : ℕ) (permitted : IsPermitted k) (size : length w
       ) in
       ap (unhash_answer T) (sym r.2)
       ∙ unhash_of_hash T (output_at T w h ++ tap w (h + 1)) r.0 eight r.1
-      ∙ ap (λ n. Accepted (pair (output_at T w h ++ tap w n))) next
+      ∙ ap (λ n. Ok (output_at T w h ++ tap w n)) next
 
   gives_back : GivesBack T w k t
   gives_back =
@@ -265,22 +263,22 @@ module _ (T w : List ℕ) (k : ℕ) (permitted : IsPermitted k) (size : length w
       c : 3 * (k - 1) + 3 ≡ 3 * k
       c = omega (arith, permitted.low)
 
-builds : (T w old : List ℕ) (d : Digest) → build_answer T w (length old) ≡ four.Accepted d
+builds : (T w old d : List ℕ) → build_answer T w (length old) ≡ Ok d
     → GivesBack T w (tap_word_batches (length w)) (build_leaves T w old)
 unfolding build_answer
 builds T w old d e =
-    let i = build_inputs T w (length old) (digest_accepted (build_test T w (length old)) _ d e).0 in
+    let i = build_inputs T w (length old) (value_accepted (build_test T w (length old)) _ d e).0 in
     gives_back T w (tap_word_batches (length w)) i.permitted i.taps i.canonical (build_leaves T w old) d
     (request_3.builds T w old d e)
 
 -- an accepted trace is one that was built
-checks : (T t claim : List ℕ) (c n : ℕ) → length claim ≡ 4 → check_answer T t claim c ≡ tests.Accepted n
+checks : (T t claim : List ℕ) (c n : ℕ) → length claim ≡ 4 → check_answer T t claim c ≡ Ok n
     → (k : ℕ) × (w : List ℕ) × IsListFor T t claim c k w × GivesBack T w k t
 unfolding check_answer
 checks T t claim c n four e =
     let k = trace_word_batches (length t) in
     let w = read_taps T t k in
-    let i = check_inputs T t claim c (tests_accepted (check_test T t claim c) _ n e).0 in
+    let i = check_inputs T t claim c (value_accepted (check_test T t claim c) _ n e).0 in
     let o = i.0.opening in
     let list = reads_that_list T t claim c k o.table o.permitted o.low o.high o.size i.0.canonical
     four i.1 in

@@ -10,19 +10,16 @@ use Prim.Native.Nat.{ℕ, ◌+◌, ◌*◌, ◌-◌, ◌≤◌, ◌<◌}
 use native.Mathlib.Omega.{arith}
 use lib.Dec.{eqb}
 use lib.ListN.{length, take}
+use Rattle.std.specs.Prelude.{Ok, Err}
 use Rattle.lists.specs.Lists.{cell}
 use Rattle.field_words.specs.Words.{AllCanonical}
 use Rattle.numbers.specs.Numbers.{IsPermitted, trace_word_batches}
 use Rattle.refusals.specs.Refusals.{told}
-use Rattle.refusals.specs.Answers.{tests_after}
+use Rattle.refusals.specs.Answers.{Answer, with_value}
 use Rattle.refusals.specs.declared.Refusal.{Refusal}
 use Rattle.refusals.specs.declared.Refusal.TheVariants.{TapWord, TraceLength, DestinationLength, ClaimWord, TraceWord}
 use Rattle.refusals.specs.declared.Refusal.TheVariants.{Constraint, NoSuchTap, ClaimBatches}
-use Rattle.refusals.specs.declared.Answer.{Answer}
-use Rattle.refusals.specs.declared.Answer.TheVariants as answer
-use Rattle.refusals.specs.declared.DigestAnswer.TheVariants as four
-use Rattle.refusals.specs.declared.TestsAnswer.TheVariants.{Accepted, Refused}
-use Rattle.refusals.proofs.Laws.{AnswerEnds, digest_refused, tests_refused, tests_accepted}
+use Rattle.refusals.proofs.Laws.{AnswerEnds, value_refused, value_accepted}
 use Rattle.table.specs.Table.{table_test}
 use Rattle.table.proofs.Theorems.{test_complete}
 use Rattle.hash.specs.Hash.{chain, first_taps}
@@ -64,18 +61,18 @@ module _ (T t claim : List ℕ) (c : ℕ) where
   other : (r : Refusal) → eqb (told r).number 17 ≡ false → Of17 r
   other = one.other 17 (OutOfRange T t c)
 
-  in_answer : (a : Answer) → AnswerEnds Of17 a → a ≡ answer.Refused ClaimBatches → OutOfRange T t c
+  in_answer : (a : Answer) → AnswerEnds Of17 a → a ≡ Err ClaimBatches → OutOfRange T t c
   in_answer a = one.in_answer 17 (OutOfRange T t c) a ClaimBatches refl
 
-  in_word : (a : Answer) (m code : ℕ) → code ≡ tests_code (tests_after a m) → AnswerEnds RefusalInBits a
+  in_word : (a : Answer) (m code : ℕ) → code ≡ tests_code (with_value a m) → AnswerEnds RefusalInBits a
       → AnswerEnds Of17 a → Says code (told ClaimBatches) → OutOfRange T t c
   unfolding tests_code code_of_lem
-  in_word answer.Accepted m code e b h s = absurd (omega (arith, s.number))
-  in_word (answer.Refused r) m code e b h s =
+  in_word (Ok _) m code e b h s = absurd (omega (arith, s.number))
+  in_word (Err r) m code e b h s =
       h (sym (says (told r) b).number ∙ ap number_in (sym e) ∙ s.number)
 
   -- ---- where the tests of each operation end with it
-  out : (k : ℕ) → table_test T ≡ answer.Accepted → IsPermitted k → length t ≡ 384 * k → (c ≡ 0) ⊎ (k < c)
+  out : (k : ℕ) → table_test T ≡ Ok tt → IsPermitted k → length t ≡ 384 * k → (c ≡ 0) ⊎ (k < c)
       → Of17 ClaimBatches
   out k e p s o z = record { table = e; k = k; permitted = p; size = s; out = o }
 
@@ -113,49 +110,49 @@ module _ (T t claim : List ℕ) (c : ℕ) where
 
   -- ---- and that they do: it is what the opening tests answer, which are before all others
   module _ (x : OutOfRange T t c) where
-    opening : opening_test T t c ≡ answer.Refused ClaimBatches
+    opening : opening_test T t c ≡ Err ClaimBatches
     opening = unclaimed T t c x.k x.table x.permitted x.size x.out
 
-    check_refuses : check_test T t claim c ≡ answer.Refused ClaimBatches
+    check_refuses : check_test T t claim c ≡ Err ClaimBatches
     unfolding check_test
     check_refuses = rw opening
 
-    read_off_refuses : (size : ℕ) → read_off_test T t claim c size ≡ answer.Refused ClaimBatches
+    read_off_refuses : (size : ℕ) → read_off_test T t claim c size ≡ Err ClaimBatches
     unfolding read_off_test
     read_off_refuses size = rw opening
 
-    edit_refuses : (n : ℕ) (new : List ℕ) → edit_test T t claim c n new ≡ answer.Refused ClaimBatches
+    edit_refuses : (n : ℕ) (new : List ℕ) → edit_test T t claim c n new ≡ Err ClaimBatches
     unfolding edit_test
     edit_refuses n new = rw opening
 
     edit_call_refuses : (n : ℕ) (new : List ℕ) (size : ℕ)
-        → edit_call_test T t claim c n new size ≡ answer.Refused ClaimBatches
+        → edit_call_test T t claim c n new size ≡ Err ClaimBatches
     unfolding edit_call_test
     edit_call_refuses n new size = rw opening
 
 -- ---- 17 by each operation
-check_17 : (T t claim : List ℕ) (c : ℕ) → (check_answer T t claim c ≡ Refused ClaimBatches) ↔ OutOfRange T t c
+check_17 : (T t claim : List ℕ) (c : ℕ) → (check_answer T t claim c ≡ Err ClaimBatches) ↔ OutOfRange T t c
 unfolding check_answer
 check_17 T t claim c = (
-  λ e. in_answer T t claim c (check_test T t claim c) (check_ends T t claim c) (tests_refused _ _ ClaimBatches e),
+  λ e. in_answer T t claim c (check_test T t claim c) (check_ends T t claim c) (value_refused _ _ ClaimBatches e),
   λ x. rw (check_refuses T t claim c x),
 )
 
 read_off_17 : (T t claim : List ℕ) (c size : ℕ)
-    → (read_off_answer T t claim c size ≡ Refused ClaimBatches) ↔ OutOfRange T t c
+    → (read_off_answer T t claim c size ≡ Err ClaimBatches) ↔ OutOfRange T t c
 unfolding read_off_answer
 read_off_17 T t claim c size = (
   λ e. in_answer T t claim c (read_off_test T t claim c size) (read_off_ends T t claim c size)
-      (tests_refused _ _ ClaimBatches e),
+      (value_refused _ _ ClaimBatches e),
   λ x. rw (read_off_refuses T t claim c x size),
 )
 
 edit_17 : (T t claim : List ℕ) (c n : ℕ) (new : List ℕ)
-    → (edit_answer T t claim c n new ≡ four.Refused ClaimBatches) ↔ OutOfRange T t c
+    → (edit_answer T t claim c n new ≡ Err ClaimBatches) ↔ OutOfRange T t c
 unfolding edit_answer
 edit_17 T t claim c n new = (
   λ e. in_answer T t claim c (edit_test T t claim c n new) (edit_ends T t claim c n new)
-      (digest_refused _ _ ClaimBatches e),
+      (value_refused _ _ ClaimBatches e),
   λ x. rw (edit_refuses T t claim c x n new),
 )
 
@@ -194,16 +191,16 @@ edit_call_17 T t claim c n new t' output output' code size size' h =
     )
 
 -- ---- the claim along an accepted trace: the list that it stands for, and where its outputs are shown
-module _ (T t claim : List ℕ) (c n : ℕ) (size : length claim ≡ 4) (e : check_answer T t claim c ≡ Accepted n) where
+module _ (T t claim : List ℕ) (c n : ℕ) (size : length claim ≡ 4) (e : check_answer T t claim c ≡ Ok n) where
   abbrev k : ℕ
   k = trace_word_batches (length t)
 
   abbrev w : List ℕ
   w = read_taps T t k
 
-  inputs : CheckInputs T t claim c k × (constraint_test T t claim c k ≡ answer.Accepted)
+  inputs : CheckInputs T t claim c k × (constraint_test T t claim c k ≡ Ok tt)
   unfolding check_answer
-  inputs = check_inputs T t claim c (tests_accepted (check_test T t claim c) _ n (e)).0
+  inputs = check_inputs T t claim c (value_accepted (check_test T t claim c) _ n (e)).0
 
   o : Opened T t c k
   o = inputs.0.opening
@@ -223,7 +220,7 @@ module _ (T t claim : List ℕ) (c n : ℕ) (size : length claim ≡ 4) (e : che
   shows_claim : take 4 (row t (32 * (c - 1) + 31)) ≡ claim
   shows_claim = row_shows c o.low o.high ∙ list.chains
 
-  moves : (d : ℕ) → 1 ≤ d → d ≤ k → check_answer T t (take 4 (row t (32 * (d - 1) + 31))) d ≡ Accepted n
+  moves : (d : ℕ) → 1 ≤ d → d ≤ k → check_answer T t (take 4 (row t (32 * (d - 1) + 31))) d ≡ Ok n
   moves d low high =
       let output = output_is_tap T w k list.size list.canonical d in
       let is = row_shows d low high ∙ chain_first T w d in
@@ -240,22 +237,22 @@ module _ (T t claim : List ℕ) (c n : ℕ) (size : length claim ≡ 4) (e : che
       } in
       ap (λ x. check_answer T t x d) is
       ∙ at-d.accepts_exactly.1 (w, there)
-      ∙ ap Accepted (sym (at_c.whole_order n e).0)
+      ∙ ap Ok (sym (at_c.whole_order n e).0)
 
 -- ---- another claim
-other_claim : (T t claim other : List ℕ) (c j n : ℕ) → check_answer T t claim c ≡ Accepted n → AllCanonical other
+other_claim : (T t claim other : List ℕ) (c j n : ℕ) → check_answer T t claim c ≡ Ok n → AllCanonical other
     → j < 4 → (cell other j ≡ cell claim j → ⊥) → ((m : ℕ) → m < j → cell other m ≡ cell claim m)
     → check_answer T t other c
-    ≡ Refused (Constraint (record { 0 = row31 (c - 1) }) (49 + j) (claim_place (trace_word_batches (length t)) c + j))
+    ≡ Err (Constraint (record { 0 = row31 (c - 1) }) (49 + j) (claim_place (trace_word_batches (length t)) c + j))
 unfolding check_answer
 other_claim T t claim other c j n e canonical word unlike like =
     let k = trace_word_batches (length t) in
-    let i = check_inputs T t claim c (tests_accepted (check_test T t claim c) _ n e).0 in
+    let i = check_inputs T t claim c (value_accepted (check_test T t claim c) _ n e).0 in
     let o = i.0.opening in
     let hold = accepted_all_hold T t claim k c i.1 in
     let f = other_claim_fails T t claim other k c j o.low o.high word hold unlike like in
     check_verdict T t other c k o.table o.permitted o.low o.high o.size i.0.canonical canonical
-    ∙ ap (λ a. tests_after a (length (tests k c))) (first_failing_refused T t other k c _ _ _ f)
+    ∙ ap (λ a. with_value a (length (tests k c))) (first_failing_refused T t other k c _ _ _ f)
 
 -- ---- the request
 pub request_6 : Request6

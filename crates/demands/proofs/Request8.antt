@@ -12,25 +12,23 @@ use native.Mathlib.Omega.{arith}
 use borrow.Author.Tests.{eq-eqb, ne_eqb, eqb-true, eqb-false, le-leb, lt-leb}
 use lib.Dec.{eqb}
 use lib.ListN.{length}
+use Rattle.std.specs.Prelude.{Ok, Err}
 use Rattle.numbers.specs.Numbers.{tap_words, tap_word_batches}
-use Rattle.refusals.specs.Refusals.{digest, digest_words}
-use Rattle.refusals.specs.Answers.{unless, digest_after, leaves}
+use Rattle.refusals.specs.Answers.{Answer, unless, with_value, leaves}
 use Rattle.refusals.specs.declared.Refusal.{Refusal}
 use Rattle.refusals.specs.declared.Refusal.TheVariants.{DestinationLength, FileLength, WrongKind, WrongValue}
-use Rattle.refusals.specs.declared.Answer.{Answer}
-use Rattle.refusals.specs.declared.Answer.TheVariants as answer
-use Rattle.refusals.specs.declared.Digest.{Digest}
-use Rattle.refusals.specs.declared.DigestAnswer.TheVariants.{Accepted}
-use Rattle.refusals.proofs.Laws.{not_accepted, digest_refused}
+use Rattle.refusals.proofs.Laws.{not_accepted, value_refused}
 use Rattle.board_words.specs.Words.{kind_of, word_at, AllBytes}
 use Rattle.board_words.proofs.Round.{length_elements}
-use Rattle.board.specs.Board.{file_size, pack_test, packed, pack_leaves, batches_in, claim_in, taps_in, count_test, unpack_test}
+use Rattle.board.specs.Board.{file_size, pack_test, packed, pack_leaves, batches_in, claim_in, taps_in, count_test}
+use Rattle.board.specs.Board.{unpack_test}
 use Rattle.board.specs.Board.{unpack_answer, unpack_leaves}
 use Rattle.board.proofs.Answers as board_answers
 use Rattle.board.proofs.Round as board_round
 use Rattle.board.proofs.Theorems as board
 use Rattle.board_short_read.proofs.Round.{length_shorts}
-use Rattle.board_short.specs.ShortBoard.{short_file_size, pack_short_test, packed_short, pack_short_leaves, short_claim_in}
+use Rattle.board_short.specs.ShortBoard.{short_file_size, pack_short_test, packed_short, pack_short_leaves}
+use Rattle.board_short.specs.ShortBoard.{short_claim_in}
 use Rattle.board_short.specs.ShortBoard.{short_taps_in, short_count_test, unpack_short_test, unpack_short_answer}
 use Rattle.board_short.specs.ShortBoard.{unpack_short_leaves, short_batches_in}
 use Rattle.board_short.proofs.Answers as short_answers
@@ -66,19 +64,19 @@ module _ (file : List ℕ) where
   abbrev short_room : ℕ
   short_room = tap_words (short_batches_in file)
 
-  full_no_count : length file < 4 → unpack_test file room ≡ answer.Refused FileLength
+  full_no_count : length file < 4 → unpack_test file room ≡ Err FileLength
   unfolding unpack_test
   full_no_count h = rw (lt-leb _ _ h)
 
-  full_kind : 4 ≤ length file → (kind_of (word_at file 0) ≡ 0 → ⊥) → unpack_test file room ≡ answer.Refused (WrongKind 0)
+  full_kind : 4 ≤ length file → (kind_of (word_at file 0) ≡ 0 → ⊥) → unpack_test file room ≡ Err (WrongKind 0)
   unfolding unpack_test count_test
   full_kind h n = rw (le-leb _ _ h, ne_eqb _ _ n)
 
-  full_other : HasMark file short_mark → unpack_test file room ≡ answer.Accepted → ⊥
+  full_other : HasMark file short_mark → unpack_test file room ≡ Ok tt → ⊥
   unfolding unpack_answer
   full_other h e =
       not_accepted (WrongValue 0)
-      (sym (digest_refused (unpack_test file room) _ (WrongValue 0)
+      (sym (value_refused (unpack_test file room) _ (WrongValue 0)
       (short.full_refuses file room h.four h.kind h.mark_is)) ∙ e)
 
   full_reader : Reader file short_mark (unpack_test file room)
@@ -94,20 +92,20 @@ module _ (file : List ℕ) where
         (λ n. refl);
   }
 
-  short_no_count : length file < 4 → unpack_short_test file short_room ≡ answer.Refused FileLength
+  short_no_count : length file < 4 → unpack_short_test file short_room ≡ Err FileLength
   unfolding unpack_short_test
   short_no_count h = rw (lt-leb _ _ h)
 
   short_kind : 4 ≤ length file → (kind_of (word_at file 0) ≡ 0 → ⊥)
-      → unpack_short_test file short_room ≡ answer.Refused (WrongKind 0)
+      → unpack_short_test file short_room ≡ Err (WrongKind 0)
   unfolding unpack_short_test short_count_test
   short_kind h n = rw (le-leb _ _ h, ne_eqb _ _ n)
 
-  short_other : HasMark file full_mark → unpack_short_test file short_room ≡ answer.Accepted → ⊥
+  short_other : HasMark file full_mark → unpack_short_test file short_room ≡ Ok tt → ⊥
   unfolding unpack_short_answer
   short_other h e =
       not_accepted (WrongValue 0)
-      (sym (digest_refused (unpack_short_test file short_room) _ (WrongValue 0)
+      (sym (value_refused (unpack_short_test file short_room) _ (WrongValue 0)
       (short.short_refuses file short_room h.four h.kind h.mark_is)) ∙ e)
 
   short_reader : Reader file full_mark (unpack_short_test file short_room)
@@ -168,7 +166,7 @@ module _ (file : List ℕ) (size : ℕ) where
   unfolding to_short_test unpack_answer
   to_short_answers =
       converters.answers file full_mark short_mark (not_full (word_at file 0)) full_not_short (unpack_test file (room file))
-      (digest (claim_in file)) (eqb size short_bytes) (FitsShort file size) fits_short no_short _ (full_reader file)
+      (claim_in file) (eqb size short_bytes) (FitsShort file size) fits_short no_short _ (full_reader file)
       ⊥ (no λ f. f) (λ f. absurd f) (λ f. absurd f)
       (λ h n. to_short_tests.as_reader file size (edition.accepts file full_mark h))
 
@@ -177,60 +175,60 @@ module _ (file : List ℕ) (size : ℕ) where
   unfolding to_full_test unpack_short_answer
   to_full_answers =
       converters.answers file short_mark full_mark (not_short (word_at file 0)) short_not_full
-      (unpack_short_test file (short_room file)) (digest (short_claim_in file)) (eqb size full_bytes) (FitsFull file size)
+      (unpack_short_test file (short_room file)) (short_claim_in file) (eqb size full_bytes) (FitsFull file size)
       fits_full no_full _ (short_reader file) (NoFullForm file) (to_full_tests.form file) (to_full_tests.its_mark file)
       (to_full_tests.without file size) (to_full_tests.as_reader file size)
 
 -- ---- what Unpack leaves where it accepts
-full_left : (file old : List ℕ) → unpack_test file (length old) ≡ answer.Accepted → unpack_leaves file old ≡ taps_in file
+full_left : (file old : List ℕ) → unpack_test file (length old) ≡ Ok tt → unpack_leaves file old ≡ taps_in file
 unfolding unpack_leaves
 full_left file old e = ap (λ a. leaves a (taps_in file) old) e
 
 -- ---- the converter answers and leaves what the writer does
-to_short_writes : (file old taps : List ℕ) (d : Digest) → unpack_answer file (length taps) ≡ Accepted d
-    → (to_short_test file (length old) ≡ pack_short_test (unpack_leaves file taps) (digest_words d) (length old))
-    × (to_short_leaves file old ≡ pack_short_leaves (unpack_leaves file taps) (digest_words d) old)
+to_short_writes : (file old taps d : List ℕ) → unpack_answer file (length taps) ≡ Ok d
+    → (to_short_test file (length old) ≡ pack_short_test (unpack_leaves file taps) d (length old))
+    × (to_short_leaves file old ≡ pack_short_leaves (unpack_leaves file taps) d old)
 to_short_writes file old taps d e =
     let r = board_answers.returned file (length taps) d e in
     let list = sym (full_left file taps r.0) in
-    let claim = board_round.claim_is file d r.1 in (
+    let claim = r.1 in (
       to_short.as_writer file (length taps) r.0 (length old)
           ∙ ap₂ (λ t c. pack_short_test t c (length old)) list claim,
       to_short.left_as_writer file (length taps) r.0 old ∙ ap₂ (λ t c. pack_short_leaves t c old) list claim,
     )
 
-to_full_writes : (file old taps : List ℕ) (d : Digest) → unpack_short_answer file (length taps) ≡ Accepted d
+to_full_writes : (file old taps d : List ℕ) → unpack_short_answer file (length taps) ≡ Ok d
     → (NoFullForm file → ⊥)
-    → (to_full_test file (length old) ≡ pack_test (unpack_short_leaves file taps) (digest_words d) (length old))
-    × (to_full_leaves file old ≡ pack_leaves (unpack_short_leaves file taps) (digest_words d) old)
+    → (to_full_test file (length old) ≡ pack_test (unpack_short_leaves file taps) d (length old))
+    × (to_full_leaves file old ≡ pack_leaves (unpack_short_leaves file taps) d old)
 to_full_writes file old taps d e formed =
     let r = short_answers.returned file (length taps) d e in
     let list = sym (taps_left file taps d e) in
-    let claim = short_round.claim_is file d r.1 in (
+    let claim = r.1 in (
       to_full.as_writer file (length taps) r.0 formed (length old)
           ∙ ap₂ (λ t c. pack_test t c (length old)) list claim,
       to_full.left_as_writer file (length taps) r.0 formed old ∙ ap₂ (λ t c. pack_leaves t c old) list claim,
     )
 
 -- ---- a file that is accepted with n words of room is refused with 8 for any other room
-by_room : (test : ℕ → Answer) (m n : ℕ) → test n ≡ answer.Accepted
-    → ((m ≡ n → ⊥) → test m ≡ answer.Refused DestinationLength)
-    → test m ≡ unless (eqb m n) DestinationLength answer.Accepted
+by_room : (test : ℕ → Answer) (m n : ℕ) → test n ≡ Ok tt
+    → ((m ≡ n → ⊥) → test m ≡ Err DestinationLength)
+    → test m ≡ unless (eqb m n) DestinationLength (Ok tt)
 by_room test m n e f = go (ℕ_discrete m n)
   where
-    go : Dec (m ≡ n) → test m ≡ unless (eqb m n) DestinationLength answer.Accepted
+    go : Dec (m ≡ n) → test m ≡ unless (eqb m n) DestinationLength (Ok tt)
     go (yes q) = rw (eq-eqb m n q) (ap test q ∙ e)
     go (no q) = rw (ne_eqb m n q) (f q)
 
-full_by_room : (file : List ℕ) (m n : ℕ) → unpack_test file n ≡ answer.Accepted
-    → unpack_test file m ≡ unless (eqb m n) DestinationLength answer.Accepted
+full_by_room : (file : List ℕ) (m n : ℕ) → unpack_test file n ≡ Ok tt
+    → unpack_test file m ≡ unless (eqb m n) DestinationLength (Ok tt)
 full_by_room file m n e =
     let u = board_answers.unpack_accepted file n e in
     by_room (unpack_test file) m n e
     (λ q. board_answers.unpack_no_room file m (batches_in file) u.0 (λ s. q (s ∙ sym u.1)))
 
-short_by_room : (file : List ℕ) (m n : ℕ) → unpack_short_test file n ≡ answer.Accepted
-    → unpack_short_test file m ≡ unless (eqb m n) DestinationLength answer.Accepted
+short_by_room : (file : List ℕ) (m n : ℕ) → unpack_short_test file n ≡ Ok tt
+    → unpack_short_test file m ≡ unless (eqb m n) DestinationLength (Ok tt)
 short_by_room file m n e =
     let u = short_answers.unpack_accepted file n e in
     by_room (unpack_short_test file) m n e
@@ -239,8 +237,8 @@ short_by_room file m n e =
 -- ---- what was converted is read as the file was
 module _ (file old : List ℕ) where
   -- an accepted file, and what is written of it
-  module _ (e : to_short_test file (length old) ≡ answer.Accepted) where
-    short_read : unpack_test file (length (taps_in file)) ≡ answer.Accepted
+  module _ (e : to_short_test file (length old) ≡ Ok tt) where
+    short_read : unpack_test file (length (taps_in file)) ≡ Ok tt
     short_read =
         let a = (to_short_answers file (length old)).accepts.0 e in
         ap (unpack_test file) (board_round.taps_length file) ∙ (board_answers.returned file (room file) a.0 a.1).0
@@ -260,13 +258,13 @@ module _ (file old : List ℕ) where
         let packs = sym (to_short.as_writer file n short_read (length old)) ∙ e in
         let four = length_elements file 1 4 in
         let u = short.unpack_packed (taps_in file) (claim_in file) (length old) four packs in
-        let r = short_answers.returned written n (digest (claim_in file)) u.0 in
+        let r = short_answers.returned written n (claim_in file) u.0 in
         let tests = short_by_room written m n r.0 ∙ sym (full_by_room file m n short_read) in
         rw short_written
-        (ap₂ (λ t d. digest_after t d) tests r.1, ap₂ (λ t s. leaves t s taps) tests u.1)
+        (ap₂ (λ t d. with_value t d) tests r.1, ap₂ (λ t s. leaves t s taps) tests u.1)
 
-  module _ (e : to_full_test file (length old) ≡ answer.Accepted) where
-    full_read : unpack_short_test file (length (short_taps_in file)) ≡ answer.Accepted
+  module _ (e : to_full_test file (length old) ≡ Ok tt) where
+    full_read : unpack_short_test file (length (short_taps_in file)) ≡ Ok tt
     full_read =
         let a = (to_full_answers file (length old)).accepts.0 e in
         ap (unpack_short_test file) (short_round.taps_length file)
@@ -288,52 +286,52 @@ module _ (file old : List ℕ) where
         let packs = sym (to_full.as_writer file n full_read formed (length old)) ∙ e in
         let four = length_shorts file 1 4 in
         let u = board.unpack_packed (short_taps_in file) (short_claim_in file) (length old) four packs in
-        let r = board_answers.returned written n (digest (short_claim_in file)) u.0 in
+        let r = board_answers.returned written n (short_claim_in file) u.0 in
         let tests = full_by_room written m n r.0 ∙ sym (short_by_room file m n full_read) in
         rw full_written
-        (ap₂ (λ t d. digest_after t d) tests r.1, ap₂ (λ t s. leaves t s taps) tests u.1)
+        (ap₂ (λ t d. with_value t d) tests r.1, ap₂ (λ t s. leaves t s taps) tests u.1)
 
 -- ---- there and back
 
 -- what is read as a full file was has a full form
-has_form : (full short : List ℕ) (d : Digest) → unpack_test full (length (taps_in full)) ≡ answer.Accepted
-    → unpack_short_answer short (length (taps_in full)) ≡ Accepted d → NoFullForm short → ⊥
+has_form : (full short d : List ℕ) → unpack_test full (length (taps_in full)) ≡ Ok tt
+    → unpack_short_answer short (length (taps_in full)) ≡ Ok d → NoFullForm short → ⊥
 has_form full short d e r h =
     let most = (board_answers.unpack_accepted full (length (taps_in full)) e).0.permitted.high in
     let read = (short_answers.returned short (length (taps_in full)) d r).0 in
     let taps = (short_answers.unpack_accepted short (length (taps_in full)) read).1 in
     omega (arith, most, taps, board_round.taps_length full, to_full_tests.above_most short h)
 
-there_and_back : (file old new : List ℕ) → AllBytes file → to_short_test file (length old) ≡ answer.Accepted
+there_and_back : (file old new : List ℕ) → AllBytes file → to_short_test file (length old) ≡ Ok tt
     → length new ≡ length file
-    → (to_full_test (to_short_leaves file old) (length new) ≡ answer.Accepted)
+    → (to_full_test (to_short_leaves file old) (length new) ≡ Ok tt)
     × (to_full_leaves (to_short_leaves file old) new ≡ file)
 there_and_back file old new bytes e l =
     let taps = taps_in file in
-    let d = digest (claim_in file) in
+    let d = (claim_in file) in
     let answered = board_answers.unpack_returns file (length taps) (short_read file old e) in
     let r = to_short_reads file old e taps in
     let read = r.0 ∙ answered in
     let formed = has_form file (to_short_leaves file old) d (short_read file old e) read in
     let w = to_full_writes (to_short_leaves file old) new taps d read formed in
     let p = demand_2.packs file taps new d bytes answered l in (
-      w.0 ∙ ap (λ t. pack_test t (digest_words d) (length new)) r.1 ∙ p.0,
-      w.1 ∙ ap (λ t. pack_leaves t (digest_words d) new) r.1 ∙ p.1,
+      w.0 ∙ ap (λ t. pack_test t d (length new)) r.1 ∙ p.0,
+      w.1 ∙ ap (λ t. pack_leaves t d new) r.1 ∙ p.1,
     )
 
-back_and_there : (file old new : List ℕ) → AllBytes file → to_full_test file (length old) ≡ answer.Accepted
+back_and_there : (file old new : List ℕ) → AllBytes file → to_full_test file (length old) ≡ Ok tt
     → length new ≡ length file
-    → (to_short_test (to_full_leaves file old) (length new) ≡ answer.Accepted)
+    → (to_short_test (to_full_leaves file old) (length new) ≡ Ok tt)
     × (to_short_leaves (to_full_leaves file old) new ≡ file)
 back_and_there file old new bytes e l =
     let taps = short_taps_in file in
-    let d = digest (short_claim_in file) in
+    let d = (short_claim_in file) in
     let answered = short_answers.unpack_returns file (length taps) (full_read file old e) in
     let r = to_full_reads file old e taps in
     let w = to_short_writes (to_full_leaves file old) new taps d (r.0 ∙ answered) in
     let p = request_7.writes_back file taps new d bytes answered l in (
-      w.0 ∙ ap (λ t. pack_short_test t (digest_words d) (length new)) r.1 ∙ p.0,
-      w.1 ∙ ap (λ t. pack_short_leaves t (digest_words d) new) r.1 ∙ p.1,
+      w.0 ∙ ap (λ t. pack_short_test t d (length new)) r.1 ∙ p.0,
+      w.1 ∙ ap (λ t. pack_short_leaves t d new) r.1 ∙ p.1,
     )
 
 -- ---- the calls
@@ -353,7 +351,7 @@ call_to_full : (file taps taps' claim claim' old new new' : List ℕ) (code code
     → ToFullCall file old code new → PackCall taps' claim' old code' new' → (code ≡ code') × (new ≡ new')
 call_to_full file taps taps' claim claim' old new new' code code' reads formed converts packs =
     let a = reader_accepts file taps taps' claim claim' 0 reads refl in
-    let d = digest (short_claim_in file) in
+    let d = (short_claim_in file) in
     let h = reader_hands file taps taps' claim claim' 0 reads d a.0 a.1 in
     let w = to_full_writes file old taps d a.1 formed in
     let test = w.0 ∙ sym (ap₂ (λ t c. pack_test t c (length old)) h.1 h.2) in
@@ -362,18 +360,18 @@ call_to_full file taps taps' claim claim' old new new' code code' reads formed c
 
 -- a call's word is 0 exactly where the converter accepts
 to_short_zero : (file old new : List ℕ) (code : ℕ) → ToShortCall file old code new → code ≡ 0
-    → to_short_test file (length old) ≡ answer.Accepted
+    → to_short_test file (length old) ≡ Ok tt
 to_short_zero file old new code called zero =
     zero_accepts (to_short_test file (length old)) (bits.to_short_bits file (length old)) (sym called.coded ∙ zero)
 
 to_full_zero : (file old new : List ℕ) (code : ℕ) → ToFullCall file old code new → code ≡ 0
-    → to_full_test file (length old) ≡ answer.Accepted
+    → to_full_test file (length old) ≡ Ok tt
 to_full_zero file old new code called zero =
     zero_accepts (to_full_test file (length old)) (bits.to_full_bits file (length old)) (sym called.coded ∙ zero)
 
 call_to_short_accepts : (file old new : List ℕ) (code : ℕ) → ToShortCall file old code new
     → (code ≡ 0)
-    ↔ ((d : Digest) × (unpack_answer file (room file) ≡ Accepted d) × FitsShort file (length old))
+    ↔ ((d : List ℕ) × (unpack_answer file (room file) ≡ Ok d) × FitsShort file (length old))
 unfolding answer_code
 call_to_short_accepts file old new code called =
     let a = (to_short_answers file (length old)).accepts in (
@@ -383,7 +381,7 @@ call_to_short_accepts file old new code called =
 
 call_to_full_accepts : (file old new : List ℕ) (code : ℕ) → ToFullCall file old code new
     → (code ≡ 0)
-    ↔ ((d : Digest) × (unpack_short_answer file (short_room file) ≡ Accepted d)
+    ↔ ((d : List ℕ) × (unpack_short_answer file (short_room file) ≡ Ok d)
     × (NoFullForm file → ⊥) × FitsFull file (length old))
 unfolding answer_code
 call_to_full_accepts file old new code called =

@@ -12,23 +12,20 @@ use native.Mathlib.Omega.{arith}
 use borrow.Author.Tests.{le-leb, leb-true}
 use lib.Dec.{eqb, leb, ltb}
 use lib.ListN.{length}
+use Rattle.std.specs.Prelude.{Ok, Err}
 use Rattle.field.specs.Field.{P}
 use Rattle.field_words.specs.Words.{AllCanonical}
 use Rattle.numbers.specs.Numbers.{tap_words, IsPermittedTo, IsPermitted, most_batches, is_tap_length}
 use Rattle.numbers.specs.Numbers.{tap_word_batches, is_trace_length, trace_word_batches}
 use Rattle.numbers.proofs.Laws.{permitted_power, power_permitted, permitted_to, tap_length_sound, tap_length_complete}
 use Rattle.numbers.proofs.Laws.{trace_length_sound, trace_length_complete}
-use Rattle.refusals.specs.Refusals.{digest_words, told}
+use Rattle.refusals.specs.Refusals.{told, value_of}
 use Rattle.refusals.specs.Answers.{leaves}
 use Rattle.refusals.specs.declared.Refusal.{Refusal}
 use Rattle.refusals.specs.declared.Refusal.TheVariants.{TapLength, TapWord, TraceLength, TraceWord, DestinationLength}
 use Rattle.refusals.specs.declared.Refusal.TheVariants.{ClaimWord, ClaimBatches, Constraint, NoSuchTap, FileLength}
 use Rattle.refusals.specs.declared.Refusal.TheVariants.{WrongKind, WrongValue, LongElement, SameEdition}
-use Rattle.refusals.specs.declared.Answer.TheVariants as answer
-use Rattle.refusals.specs.declared.Digest.{Digest}
-use Rattle.refusals.specs.declared.DigestAnswer.TheVariants.{Accepted, Refused}
-use Rattle.refusals.specs.declared.TestsAnswer.TheVariants as tests
-use Rattle.refusals.proofs.Laws.{not_accepted, refused_same, digest_refused, tests_refused, AnswerEnds, unless_ends}
+use Rattle.refusals.proofs.Laws.{not_accepted, refused_same, value_refused, AnswerEnds, unless_ends}
 use Rattle.refusals.proofs.Laws.{after_ends, refusal_ends}
 use Rattle.table.specs.Table.{table_test}
 use Rattle.hash_chain.specs.Answers.{chain_test, chain_answer}
@@ -44,8 +41,10 @@ use Rattle.board.proofs.Answers as board
 use Rattle.board_short_read.specs.Reading.{first_word, ElementFault, no_first, first_kind, no_second, second_kind}
 use Rattle.board_short_read.specs.Reading.{no_third, third_kind, too_large, needless}
 use Rattle.board_short_read.proofs.Tests.{first_least}
-use Rattle.board_short.specs.ShortBoard.{short_count_word, short_file_size, pack_short_test, short_batches_in, short_claim_in}
-use Rattle.board_short.specs.ShortBoard.{short_taps_in, unpack_short_test, unpack_short_answer, unpack_short_leaves, FirstFault}
+use Rattle.board_short.specs.ShortBoard.{short_count_word, short_file_size, pack_short_test, short_batches_in}
+use Rattle.board_short.specs.ShortBoard.{short_claim_in}
+use Rattle.board_short.specs.ShortBoard.{short_taps_in, unpack_short_test, unpack_short_answer, unpack_short_leaves}
+use Rattle.board_short.specs.ShortBoard.{FirstFault}
 use Rattle.board_short.specs.ShortBoard.{no_count, count_kind, count_value, no_room}
 use Rattle.board_short.specs.ShortBoard as faults
 use Rattle.board_short.proofs.Answers as short
@@ -112,33 +111,33 @@ causes_5 most w =
     let F = TapsFit most w → ⊥ in
     record { by_length = λ z q. not_taps most w z; by_word = λ k s p i h. other 5 F (TapWord i) refl }
 
-module _ (T w : List ℕ) (accepted : table_test T ≡ answer.Accepted) where
+module _ (T w : List ℕ) (accepted : table_test T ≡ Ok tt) where
   abbrev NotTaps : Type 0
   NotTaps = TapsFit most_batches w → ⊥
 
-  chain_5 : (chain_answer T w ≡ Refused TapLength) ↔ NotTaps
+  chain_5 : (chain_answer T w ≡ Err TapLength) ↔ NotTaps
   unfolding chain_answer chain_test
   chain_5 = (
     λ e.
         in_answer 5 NotTaps (chain_test T w) TapLength refl
         (chain_ends (Of 5 NotTaps) (table_causes_lem 5 NotTaps refl refl refl) T w (causes_5 most_batches w))
-        (digest_refused (chain_test T w) _ TapLength e),
+        (value_refused (chain_test T w) _ TapLength e),
     λ n. rw (accepted, no_length most_batches w n),
   )
 
-  build_5 : (size : ℕ) → (build_answer T w size ≡ Refused TapLength) ↔ NotTaps
+  build_5 : (size : ℕ) → (build_answer T w size ≡ Err TapLength) ↔ NotTaps
   unfolding build_answer build_test
   build_5 size = (
     λ e.
         in_answer 5 NotTaps (build_test T w size) TapLength refl
         (build_ends (Of 5 NotTaps) (table_causes_lem 5 NotTaps refl refl refl) T w (causes_5 most_batches w) size
         (other 5 NotTaps DestinationLength refl))
-        (digest_refused (build_test T w size) _ TapLength e),
+        (value_refused (build_test T w size) _ TapLength e),
     λ n. rw (accepted, no_length most_batches w n),
   )
 
 module _ (w claim : List ℕ) (size : ℕ) where
-  pack_5 : (pack_test w claim size ≡ answer.Refused TapLength) ↔ (TapsFit most_file_batches w → ⊥)
+  pack_5 : (pack_test w claim size ≡ Err TapLength) ↔ (TapsFit most_file_batches w → ⊥)
   unfolding pack_test
   pack_5 =
       let F = TapsFit most_file_batches w → ⊥ in (
@@ -150,7 +149,7 @@ module _ (w claim : List ℕ) (size : ℕ) where
         λ n. rw (no_length most_file_batches w n),
       )
 
-  pack_short_5 : (pack_short_test w claim size ≡ answer.Refused TapLength) ↔ (TapsFit most_batches w → ⊥)
+  pack_short_5 : (pack_short_test w claim size ≡ Err TapLength) ↔ (TapsFit most_batches w → ⊥)
   unfolding pack_short_test
   pack_short_5 =
       let F = TapsFit most_batches w → ⊥ in (
@@ -179,42 +178,42 @@ module _ (T t claim : List ℕ) (c : ℕ) where
     by_word = λ k s p i h. not_7 (TraceWord i) refl;
   }
 
-  opening : table_test T ≡ answer.Accepted → NotRows → opening_test T t c ≡ answer.Refused TraceLength
+  opening : table_test T ≡ Ok tt → NotRows → opening_test T t c ≡ Err TraceLength
   unfolding opening_test
   opening e n = rw (e, no_rows t n)
 
-  check_7 : table_test T ≡ answer.Accepted → (check_answer T t claim c ≡ tests.Refused TraceLength) ↔ NotRows
+  check_7 : table_test T ≡ Ok tt → (check_answer T t claim c ≡ Err TraceLength) ↔ NotRows
   unfolding check_answer check_test
   check_7 table = (
     λ e.
         in_answer 7 NotRows (check_test T t claim c) TraceLength refl
         (check_ends (Of 7 NotRows) T t claim c causes
         (λ h i q n f. not_7 (Constraint (record { 0 = i }) q n) refl))
-        (tests_refused (check_test T t claim c) _ TraceLength e),
+        (value_refused (check_test T t claim c) _ TraceLength e),
     λ n. rw (opening table n),
   )
 
-  read_off_7 : (size : ℕ) → table_test T ≡ answer.Accepted
-      → (read_off_answer T t claim c size ≡ tests.Refused TraceLength) ↔ NotRows
+  read_off_7 : (size : ℕ) → table_test T ≡ Ok tt
+      → (read_off_answer T t claim c size ≡ Err TraceLength) ↔ NotRows
   unfolding read_off_answer read_off_test
   read_off_7 size table = (
     λ e.
         in_answer 7 NotRows (read_off_test T t claim c size) TraceLength refl
         (read_off_ends (Of 7 NotRows) T t claim c causes size (not_7 DestinationLength refl)
         (λ r h i q n f. not_7 (Constraint (record { 0 = i }) q n) refl))
-        (tests_refused (read_off_test T t claim c size) _ TraceLength e),
+        (value_refused (read_off_test T t claim c size) _ TraceLength e),
     λ n. rw (opening table n),
   )
 
-  edit_7 : (n : ℕ) (new : List ℕ) → table_test T ≡ answer.Accepted
-      → (edit_answer T t claim c n new ≡ Refused TraceLength) ↔ NotRows
+  edit_7 : (n : ℕ) (new : List ℕ) → table_test T ≡ Ok tt
+      → (edit_answer T t claim c n new ≡ Err TraceLength) ↔ NotRows
   unfolding edit_answer edit_test
   edit_7 n new table = (
     λ e.
         in_answer 7 NotRows (edit_test T t claim c n new) TraceLength refl
         (edit_ends (Of 7 NotRows) T t claim c causes n new (not_7 NoSuchTap refl)
         (λ i h. not_7 (TapWord i) refl) (λ l a h i q m f. not_7 (Constraint (record { 0 = i }) q m) refl))
-        (digest_refused (edit_test T t claim c n new) _ TraceLength e),
+        (value_refused (edit_test T t claim c n new) _ TraceLength e),
     λ m. rw (opening table m),
   )
 
@@ -230,7 +229,7 @@ module _ (F : Type 0) where
 
   -- elements stand after word 0
   later : (j : ℕ) → 1 ≤ j → Of14 (WrongValue j)
-  later j h e = absurd (omega (arith, ap (λ x. (told x).value) e))
+  later j h e = absurd (omega (arith, ap (λ x. value_of (told x).place) e))
 
   elements_14 : (file : List ℕ) (j n : ℕ) → 1 ≤ j → AnswerEnds Of14 (elements_test file j n)
   unfolding elements_test element_test
@@ -253,7 +252,7 @@ module _ (file : List ℕ) where
   abbrev NoFullCount : Type 0
   NoFullCount = WrongCount file most_file_batches count_word
 
-  refused_count : 4 ≤ length file → (r : Refusal) → count_test w ≡ answer.Refused r → Of14 NoFullCount r
+  refused_count : 4 ≤ length file → (r : Refusal) → count_test w ≡ Err r → Of14 NoFullCount r
   refused_count four r e q = go (ℕ_discrete (kind_of w) 0)
     where
       go : Dec (kind_of w ≡ 0) → NoFullCount
@@ -276,11 +275,11 @@ module _ (file : List ℕ) where
       (λ h. not_14 NoFullCount DestinationLength refl) λ h.
       elements_14 NoFullCount file 1 (element_count (batches_in file)) (omega arith)
 
-  unpack_14 : (size : ℕ) → (unpack_answer file size ≡ Refused (WrongValue 0)) ↔ NoFullCount
+  unpack_14 : (size : ℕ) → (unpack_answer file size ≡ Err (WrongValue 0)) ↔ NoFullCount
   unfolding unpack_answer unpack_test
   unpack_14 size = (
     λ e.
-        subst (AnswerEnds (Of14 NoFullCount)) (digest_refused (unpack_test file size) _ (WrongValue 0) e)
+        subst (AnswerEnds (Of14 NoFullCount)) (value_refused (unpack_test file size) _ (WrongValue 0) e)
         (unpack_ends size) refl,
     λ h. rw (le-leb 4 (length file) h.four, board.count_value w h.kind h.no_count),
   )
@@ -307,11 +306,11 @@ module _ (file : List ℕ) where
   in_file size r (faults.element k i on l b f) q = in_element (first_word file 1 i) (first_least file 1 i) r f q
   in_file size r (faults.tail k on b n e) q = not_14 NoShortCount FileLength refl (sym e ∙ q)
 
-  unpack_short_14 : (size : ℕ) → (unpack_short_answer file size ≡ Refused (WrongValue 0)) ↔ NoShortCount
+  unpack_short_14 : (size : ℕ) → (unpack_short_answer file size ≡ Err (WrongValue 0)) ↔ NoShortCount
   unfolding unpack_short_answer
   unpack_short_14 size = (
     λ e.
-        let f = digest_refused (unpack_short_test file size) _ (WrongValue 0) e in
+        let f = value_refused (unpack_short_test file size) _ (WrongValue 0) e in
         in_file size (WrongValue 0) (first_fault file size (WrongValue 0) f) refl,
     λ h.
         short.unpack_refuses file size (WrongValue 0)
@@ -339,10 +338,10 @@ module _ (file : List ℕ) where
       ConverterFault file full_mark (unpack_short_answer file (tap_words (short_batches_in file))) (NoFullForm file)
       (size ≡ length (packed (short_taps_in file) (short_claim_in file))) r
 
-  to_full_14 : (size : ℕ) → (to_full_test file size ≡ answer.Refused (WrongValue 0)) ↔ NoCountThere
+  to_full_14 : (size : ℕ) → (to_full_test file size ≡ Err (WrongValue 0)) ↔ NoCountThere
   to_full_14 size = (λ e. there (exactly.0 e), λ h. exactly.1 (back h (to_full.form file)))
     where
-      exactly : (to_full_test file size ≡ answer.Refused (WrongValue 0)) ↔ Fault size (WrongValue 0)
+      exactly : (to_full_test file size ≡ Err (WrongValue 0)) ↔ Fault size (WrongValue 0)
       exactly = (request_8.to_full_answers file size).refuses (WrongValue 0)
 
       there : Fault size (WrongValue 0) → NoCountThere
@@ -382,8 +381,8 @@ two_thousand = power_permitted 18 11 (omega arith)
 
 packs_24580 : (w claim : List ℕ) (size : ℕ) → length w ≡ 24580 → AllCanonical w → length claim ≡ 4
     → AllCanonical claim
-    → (pack_short_test w claim (short_file_size w claim) ≡ answer.Accepted)
-    × (pack_test w claim size ≡ answer.Refused TapLength)
+    → (pack_short_test w claim (short_file_size w claim) ≡ Ok tt)
+    × (pack_test w claim size ≡ Err TapLength)
 packs_24580 w claim size l a four b = (
   short.pack_complete w claim (short_file_size w claim) 2048 (record {
     permitted = two_thousand;
@@ -397,19 +396,19 @@ packs_24580 w claim size l a four b = (
 
 -- ---- no full form
 larger_refused : (file old : List ℕ) → NoFullForm file
-    → (to_full_test file (length old) ≡ answer.Refused (WrongValue 0)) × (to_full_leaves file old ≡ old)
+    → (to_full_test file (length old) ≡ Err (WrongValue 0)) × (to_full_leaves file old ≡ old)
 unfolding to_full_leaves
 larger_refused file old h =
     let e = to_full.without file (length old) h in
     (e, ap (λ a. leaves a (packed (short_taps_in file) (short_claim_in file)) old) e)
 
-module _ (file room : List ℕ) (d : Digest) (e : unpack_short_answer file (length room) ≡ Accepted d) where
+module _ (file room d : List ℕ) (e : unpack_short_answer file (length room) ≡ Ok d) where
   abbrev NoBytes : Type 0
   NoBytes =
-      (full : List ℕ) → unpack_answer full (length room) ≡ Accepted d
+      (full : List ℕ) → unpack_answer full (length room) ≡ Ok d
       → unpack_leaves full room ≡ unpack_short_leaves file room → ⊥
 
-  accepted : unpack_short_test file (length room) ≡ answer.Accepted
+  accepted : unpack_short_test file (length room) ≡ Ok tt
   accepted = (short.returned file (length room) d e).0
 
   room_is : length room ≡ tap_words (short_batches_in file)
@@ -434,10 +433,10 @@ module _ (file room : List ℕ) (d : Digest) (e : unpack_short_answer file (leng
   no_form_exactly = (none, λ n. formless n (to_full.form file))
 
 -- ---- the calls
-call_stored : (file taps taps' claim claim' : List ℕ) (code : ℕ) (d : Digest)
-    → stored_unpack_answer file (length taps) ≡ Accepted d → length claim ≡ 4
+call_stored : (file taps taps' claim claim' : List ℕ) (code : ℕ) (d : List ℕ)
+    → stored_unpack_answer file (length taps) ≡ Ok d → length claim ≡ 4
     → UnpackShortCall file code taps taps' claim claim'
-    → (code ≡ 0) × (taps' ≡ stored_unpack_leaves file taps) × (claim' ≡ digest_words d)
+    → (code ≡ 0) × (taps' ≡ stored_unpack_leaves file taps) × (claim' ≡ d)
 call_stored file taps taps' claim claim' code d e four called =
     let s = stored.stored_reads file taps d e in
     let h = reader_hands file taps taps' claim claim' code called d four s.0 in

@@ -12,28 +12,27 @@ use borrow.Author.Tests.{eq-eqb, ne_eqb, eqb-true, le-leb, lt-leb}
 use lib.Count.{ones}
 use lib.Dec.{eqb, leb}
 use lib.ListN.{length}
+use Rattle.std.specs.Prelude.{Ok, Err}
 use Rattle.lists.specs.Lists.{tab, each, sum, first}
 use Rattle.field_words.specs.Words.{first_bad}
 use Rattle.numbers.specs.Numbers.{IsPermittedTo, IsPermitted, most_batches, permitted, tap_word_batches, is_tap_length}
 use Rattle.numbers.proofs.Laws.{permitted_to, permitted_sound, permitted_complete, tap_length_sound}
 use Rattle.numbers.proofs.Laws.{tap_length_complete}
-use Rattle.refusals.specs.Refusals.{digest}
-use Rattle.refusals.specs.Answers.{digest_after, leaves}
+use Rattle.refusals.specs.Answers.{Answer, with_value, leaves}
 use Rattle.refusals.specs.declared.Refusal.{Refusal}
 use Rattle.refusals.specs.declared.Refusal.TheVariants.{TapLength, FileLength, WrongKind, WrongValue}
-use Rattle.refusals.specs.declared.Answer.{Answer}
-use Rattle.refusals.specs.declared.Answer.TheVariants as answer
-use Rattle.refusals.specs.declared.Digest.{Digest}
-use Rattle.refusals.specs.declared.DigestAnswer.TheVariants.{Accepted, Refused}
-use Rattle.refusals.proofs.Laws.{not_accepted, passed, both_accepted, digest_accepted, AnswerEnds, unless_ends}
+use Rattle.refusals.proofs.Laws.{not_accepted, passed, both_accepted, value_accepted, AnswerEnds, unless_ends}
 use Rattle.refusals.proofs.Laws.{one_cause}
 use Rattle.board_words.specs.Words.{kind_of, word_at}
 use Rattle.board_words.specs.Elements.{element_at}
 use Rattle.board.specs.Board.{most_file_batches}
 use Rattle.board_short_words.specs.Short.{all_bytes_needed}
-use Rattle.board_short_read.specs.Reading.{short_at, next_word, three_test, short_test, first_word, shorts_at, shorts_test}
-use Rattle.board_short.specs.ShortBoard.{short_count_word, short_file_of, pack_short_test, packed_short, pack_short_leaves}
-use Rattle.board_short.specs.ShortBoard.{short_count_in, mark_in, short_batches_in, short_claim_in, short_taps_in, short_count_test}
+use Rattle.board_short_read.specs.Reading.{short_at, next_word, three_test, short_test, first_word, shorts_at}
+use Rattle.board_short_read.specs.Reading.{shorts_test}
+use Rattle.board_short.specs.ShortBoard.{short_count_word, short_file_of, pack_short_test, packed_short}
+use Rattle.board_short.specs.ShortBoard.{pack_short_leaves}
+use Rattle.board_short.specs.ShortBoard.{short_count_in, mark_in, short_batches_in, short_claim_in, short_taps_in}
+use Rattle.board_short.specs.ShortBoard.{short_count_test}
 use Rattle.board_short.specs.ShortBoard.{unpack_short_test, unpack_short_answer, unpack_short_leaves}
 use Rattle.board_short.proofs.Answers.{count_accepted, count_complete, count_fault_refused, kind, value}
 use Rattle.board_to_full.specs.ToFull.{NoFullForm}
@@ -44,7 +43,7 @@ use Rattle.demands.specs.Stored.{stored_unpack_answer, stored_unpack_leaves, sto
 use Rattle.demands.specs.Stored.{Stored}
 
 -- ---- word 0: accepted exactly where it was the count word of a k permitted up to 1024
-stored_count : (w : ℕ) → stored_count_test w ≡ answer.Accepted
+stored_count : (w : ℕ) → stored_count_test w ≡ Ok tt
     → (w ≡ short_count_word (stored_count_in w)) × IsPermittedTo most_stored (stored_count_in w)
 unfolding stored_count_test
 stored_count w e =
@@ -60,7 +59,7 @@ stored_count w e =
     ) in
     (word, permitted_sound most_stored (stored_count_in w) d.0)
 
-stored_complete : (k : ℕ) → IsPermittedTo most_stored k → stored_count_test (short_count_word k) ≡ answer.Accepted
+stored_complete : (k : ℕ) → IsPermittedTo most_stored k → stored_count_test (short_count_word k) ≡ Ok tt
 unfolding stored_count_test
 stored_complete k p =
     let k-is : stored_count_in (short_count_word k) ≡ k = omega (arith, p.high) in
@@ -71,12 +70,12 @@ stored_complete k p =
     rw (eq-eqb _ _ zero-kind, eq-eqb _ _ mark, eq-eqb _ _ spare, right)
 
 -- and else refused for its kind, or with 14
-by_kind : (w : ℕ) → (kind_of w ≡ 0 → ⊥) → stored_count_test w ≡ answer.Refused (WrongKind 0)
+by_kind : (w : ℕ) → (kind_of w ≡ 0 → ⊥) → stored_count_test w ≡ Err (WrongKind 0)
 unfolding stored_count_test
 by_kind w n = rw (ne_eqb _ _ n)
 
-by_value : (w : ℕ) → kind_of w ≡ 0 → (stored_count_test w ≡ answer.Accepted → ⊥)
-    → stored_count_test w ≡ answer.Refused (WrongValue 0)
+by_value : (w : ℕ) → kind_of w ≡ 0 → (stored_count_test w ≡ Ok tt → ⊥)
+    → stored_count_test w ≡ Err (WrongValue 0)
 unfolding stored_count_test
 by_value w z n = one_cause (WrongValue 0) (stored_count_test w) ends n
   where
@@ -105,17 +104,17 @@ module _ (file : List ℕ) where
       → short_taps_in file ≡ stored_taps_in file → Alike old
   unfolding unpack_short_answer unpack_short_leaves stored_unpack_answer stored_unpack_leaves
   alike old e t = (
-    ap (λ a. digest_after a (digest (short_claim_in file))) e,
+    ap (λ a. with_value a (short_claim_in file)) e,
     ap₂ (λ a taps. leaves a taps old) e t,
   )
 
-  refused_alike : (old : List ℕ) (r : Refusal) → unpack_short_test file (length old) ≡ answer.Refused r
-      → stored_unpack_test file (length old) ≡ answer.Refused r → Alike old
+  refused_alike : (old : List ℕ) (r : Refusal) → unpack_short_test file (length old) ≡ Err r
+      → stored_unpack_test file (length old) ≡ Err r → Alike old
   unfolding unpack_short_answer unpack_short_leaves stored_unpack_answer stored_unpack_leaves
   refused_alike old r e f = (rw (e, f) refl, rw (e, f) refl)
 
   -- word 0 was accepted
-  same_count : (old : List ℕ) → stored_count_test w ≡ answer.Accepted → Alike old
+  same_count : (old : List ℕ) → stored_count_test w ≡ Ok tt → Alike old
   unfolding unpack_short_test stored_unpack_test short_batches_in stored_batches_in short_taps_in stored_taps_in
   same_count old e =
       let s = stored_count w e in
@@ -126,8 +125,8 @@ module _ (file : List ℕ) where
       alike old (rw (count, e, k-is) refl) (rw k-is refl)
 
   -- or refused, as it still is
-  same_refusal : (old : List ℕ) (r : Refusal) → 4 ≤ length file → short_count_test w ≡ answer.Refused r
-      → stored_count_test w ≡ answer.Refused r → Alike old
+  same_refusal : (old : List ℕ) (r : Refusal) → 4 ≤ length file → short_count_test w ≡ Err r
+      → stored_count_test w ≡ Err r → Alike old
   unfolding unpack_short_test stored_unpack_test
   same_refusal old r four e f = refused_alike old r (rw (le-leb _ _ four, e)) (rw (le-leb _ _ four, f))
 
@@ -137,18 +136,18 @@ module _ (file : List ℕ) where
 
   -- a file of more batches than it could have
   abbrev Larger : List ℕ → Type 0
-  Larger old = NoFullForm file × (stored_unpack_answer file (length old) ≡ Refused (WrongValue 0))
+  Larger old = NoFullForm file × (stored_unpack_answer file (length old) ≡ Err (WrongValue 0))
 
   larger : (old : List ℕ) → NoFullForm file → Larger old
   unfolding stored_unpack_answer stored_unpack_test
   larger old h =
-      let none : stored_count_test w ≡ answer.Accepted → ⊥ =
+      let none : stored_count_test w ≡ Ok tt → ⊥ =
       λ e. let s = stored_count w e in omega (arith, s.0, s.1.high, h.word, h.above, h.permitted.high) in
       let value = by_value w (omega (arith, h.word, h.permitted.high)) none in
       (h, rw (le-leb _ _ h.four, value))
 
   -- a k that is permitted now was so, or is above 1024
-  counted : (old : List ℕ) → 4 ≤ length file → short_count_test w ≡ answer.Accepted → Alike old ⊎ Larger old
+  counted : (old : List ℕ) → 4 ≤ length file → short_count_test w ≡ Ok tt → Alike old ⊎ Larger old
   counted old four e = go (dec_lt most_file_batches (short_count_in w))
     where
       go : Dec (most_file_batches < short_count_in w) → Alike old ⊎ Larger old
@@ -169,12 +168,12 @@ module _ (file : List ℕ) where
   pub stored_answers : (old : List ℕ) → Alike old ⊎ Larger old
   stored_answers old = sized (dec_le 4 (length file))
     where
-      kinded : 4 ≤ length file → (r : Refusal) → stored_count_test w ≡ answer.Refused r → (a : Answer)
+      kinded : 4 ≤ length file → (r : Refusal) → stored_count_test w ≡ Err r → (a : Answer)
           → short_count_test w ≡ a → Dec (kind_of w ≡ 0) → Alike old ⊎ Larger old
-      kinded four r e answer.Accepted f z = counted old four f
-      kinded four r e (answer.Refused s) f (no n) =
+      kinded four r e (Ok _) f z = counted old four f
+      kinded four r e (Err s) f (no n) =
           inl (same_refusal old (WrongKind 0) four (count_fault_refused w (WrongKind 0) (kind n refl)) (by_kind w n))
-      kinded four r e (answer.Refused s) f (yes z) =
+      kinded four r e (Err s) f (yes z) =
           let none : (k : ℕ) → IsPermitted k → w ≡ short_count_word k → ⊥ =
           λ k p q. not_accepted s (sym f ∙ ap short_count_test q ∙ (count_complete k p).1) in
           let old_value = by_value w z (λ a. not_accepted r (sym e ∙ a)) in
@@ -182,19 +181,19 @@ module _ (file : List ℕ) where
           inl (same_refusal old (WrongValue 0) four new-value old_value)
 
       was : 4 ≤ length file → (a : Answer) → stored_count_test w ≡ a → Alike old ⊎ Larger old
-      was four answer.Accepted e = inl (same_count old e)
-      was four (answer.Refused r) e = kinded four r e (short_count_test w) refl (ℕ_discrete (kind_of w) 0)
+      was four (Ok _) e = inl (same_count old e)
+      was four (Err r) e = kinded four r e (short_count_test w) refl (ℕ_discrete (kind_of w) 0)
 
       sized : Dec (4 ≤ length file) → Alike old ⊎ Larger old
       sized (yes four) = was four (stored_count_test w) refl
       sized (no n) = inl (too_short old (omega (arith, n)))
 
-  pub stored_reads : (old : List ℕ) (d : Digest) → stored_unpack_answer file (length old) ≡ Accepted d
-      → (unpack_short_answer file (length old) ≡ Accepted d)
+  pub stored_reads : (old d : List ℕ) → stored_unpack_answer file (length old) ≡ Ok d
+      → (unpack_short_answer file (length old) ≡ Ok d)
       × (unpack_short_leaves file old ≡ stored_unpack_leaves file old)
   unfolding stored_unpack_answer stored_unpack_test
   stored_reads old d e =
-      let t = (digest_accepted (stored_unpack_test file (length old)) _ d e).0 in
+      let t = (value_accepted (stored_unpack_test file (length old)) _ d e).0 in
       let a = passed (leb 4 (length file)) FileLength _ t in
       let b = both_accepted (stored_count_test w) _ a.1 in
       let s = same_count old b.0 in
@@ -208,8 +207,8 @@ longer n e =
     let p = permitted_to most_batches k s.1 (omega (arith, s.1.high)) in
     (tap_length_complete most_batches n k s.0 p).0
 
-pub stored_writes : (taps claim old : List ℕ) → stored_pack_test taps claim (length old) ≡ answer.Accepted
-    → (pack_short_test taps claim (length old) ≡ answer.Accepted)
+pub stored_writes : (taps claim old : List ℕ) → stored_pack_test taps claim (length old) ≡ Ok tt
+    → (pack_short_test taps claim (length old) ≡ Ok tt)
     × (pack_short_leaves taps claim old ≡ stored_pack_leaves taps claim old)
 unfolding stored_pack_test pack_short_test pack_short_leaves stored_pack_leaves
 stored_writes taps claim old e =

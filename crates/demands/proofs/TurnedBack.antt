@@ -10,32 +10,29 @@ use native.Mathlib.Omega.{arith}
 use borrow.Author.Tests.{eq-eqb, eqb-true, eqb-false, leb-true, leb-false, ltb-true, ltb-false}
 use lib.Dec.{eqb, leb, ltb, lit<}
 use lib.ListN.{length}
+use Rattle.std.specs.Prelude.{Ok, Err}
 use Rattle.lists.proofs.Bools.{and_both, and_intro}
 use Rattle.field.specs.Field.{P}
 use Rattle.field_words.specs.Words.{first_bad, IsFirstBad, canonical_words}
 use Rattle.field_words.proofs.Laws.{within, first_bad_lem, only_first_bad, good_test}
-use Rattle.numbers.specs.Numbers.{most_batches, IsPermittedTo, permitted, is_tap_length, tap_word_batches, is_trace_length}
+use Rattle.numbers.specs.Numbers.{most_batches, IsPermittedTo, permitted, is_tap_length, tap_word_batches}
+use Rattle.numbers.specs.Numbers.{is_trace_length}
 use Rattle.numbers.specs.Numbers.{trace_word_batches}
 use Rattle.numbers.proofs.Laws.{permitted_sound, permitted_complete, tap_length_sound, tap_length_complete}
 use Rattle.numbers.proofs.Laws.{trace_length_sound, trace_length_complete}
-use Rattle.refusals.specs.Refusals.{pair}
-use Rattle.refusals.specs.Answers.{unless, after, digest_after, state_after, tests_after}
+use Rattle.refusals.specs.Answers.{Answer, unless, after, with_value}
 use Rattle.refusals.specs.Causes.{by, by_index, in_order, DecidedBy}
 use Rattle.refusals.specs.declared.Refusal.{Refusal}
 use Rattle.refusals.specs.declared.Refusal.TheVariants.{TableLength, TableWord, NoInverse, WrongInverse, TapLength}
 use Rattle.refusals.specs.declared.Refusal.TheVariants.{TapWord, TraceLength, DestinationLength, ClaimWord, TraceWord}
 use Rattle.refusals.specs.declared.Refusal.TheVariants.{FileLength, WrongKind, WrongValue, NoSuchTap, NoPair}
 use Rattle.refusals.specs.declared.Refusal.TheVariants.{ClaimBatches}
-use Rattle.refusals.specs.declared.Answer.{Answer}
-use Rattle.refusals.specs.declared.Answer.TheVariants.{Accepted, Refused}
-use Rattle.refusals.specs.declared.Digest.{Digest}
-use Rattle.refusals.specs.declared.State.{State}
-use Rattle.refusals.specs.declared.PairAnswer.TheVariants as pairs
-use Rattle.refusals.proofs.Laws.{not_accepted, refused_same, pair_accepted, pair_refused, AnswerEnds}
+use Rattle.refusals.proofs.Laws.{not_accepted, refused_same, value_accepted, value_refused, AnswerEnds}
 use Rattle.refusals.proofs.Causes.{decided, one, one_index, tests_after_lem, test_before}
 use Rattle.matrix.specs.Matrix.{Inverse, Kernel, entry}
 use Rattle.matrix.proofs.Dichotomy.{Invertible, dichotomy, not_both}
-use Rattle.table.specs.Table.{raw_words, table_words, first_unlike, IsFirstUnlike, raw_matrix, raw_test, table_test, Prepares}
+use Rattle.table.specs.Table.{raw_words, table_words, first_unlike, IsFirstUnlike, raw_matrix, raw_test, table_test}
+use Rattle.table.specs.Table.{Prepares}
 use Rattle.table.specs.Table.{accepts, no_inverse, refuses}
 use Rattle.table.proofs.Theorems.{test_sound, first_cell, only_first_cell}
 use Rattle.hash.specs.Answers.{hash_test}
@@ -55,13 +52,15 @@ use Rattle.hash_undo.proofs.Theorems.{hash_answered, answered_or_16}
 use Rattle.board_words.specs.Words.{kind_of, word_at}
 use Rattle.board_words.specs.Elements.{element_at, element_test, elements_test}
 use Rattle.board_words.proofs.Tests.{first_refused, found_refused}
-use Rattle.board.specs.Board.{most_file_batches, count_word, file_size, element_count, pack_test, count_in, spare_in, batches_in}
+use Rattle.board.specs.Board.{most_file_batches, count_word, file_size, element_count, pack_test, count_in, spare_in}
+use Rattle.board.specs.Board.{batches_in}
 use Rattle.board.specs.Board.{count_test, unpack_test}
 use Rattle.board_short.specs.ShortBoard.{short_file_size, pack_short_test}
-use Rattle.call_results.specs.Code.{answer_code, digest_code, state_code, tests_code}
-use Rattle.call_results.specs.HandsOver.{HandsOver, HandsOverState}
+use Rattle.call_results.specs.Code.{answer_code, words_code, tests_code}
+use Rattle.call_results.specs.HandsOver.{HandsOver}
 use Rattle.call_results.proofs.Bits.{RefusalInBits, told_exactly, accepted_exactly}
-use Rattle.call_answers.specs.Calls.{PrepareCall, hash_call_test, hash_call, chain_call_test, chain_call, build_call_test}
+use Rattle.call_answers.specs.Calls.{PrepareCall, hash_call_test, hash_call, chain_call_test, chain_call}
+use Rattle.call_answers.specs.Calls.{build_call_test}
 use Rattle.call_answers.specs.Calls.{build_call, BuildCall, ReadOffCall, edit_call_test, edit_call, EditCall}
 use Rattle.call_answers.specs.Calls.{unhash_call_test, UnhashCall, PackCall, unpack_call_test, unpack_call, UnpackCall}
 use Rattle.call_answers.specs.Calls.{PackShortCall}
@@ -78,12 +77,12 @@ use Rattle.demands.specs.Request5.{EndsIn}
 -- ---- single tests
 
 -- two numbers are to be equal
-equal : (q : Refusal) (m n : ℕ) → DecidedBy (by q (m ≡ n → ⊥)) (unless (eqb m n) q Accepted)
+equal : (q : Refusal) (m n : ℕ) → DecidedBy (by q (m ≡ n → ⊥)) (unless (eqb m n) q (Ok tt))
 equal q m n = one (eqb m n) q (m ≡ n → ⊥) (eqb-false m n) (λ e other. other (eqb-true m n e))
 
 -- and two more
 both_equal : (q : Refusal) (m n i j : ℕ)
-    → DecidedBy (by q ((m ≡ n) × (i ≡ j) → ⊥)) (unless (eqb m n && eqb i j) q Accepted)
+    → DecidedBy (by q ((m ≡ n) × (i ≡ j) → ⊥)) (unless (eqb m n && eqb i j) q (Ok tt))
 both_equal q m n i j =
     one (eqb m n && eqb i j) q ((m ≡ n) × (i ≡ j) → ⊥)
     (λ e h. true≢false (sym (and_intro (eqb m n) (eqb i j) (eq-eqb m n h.0) (eq-eqb i j h.1)) ∙ e))
@@ -93,25 +92,25 @@ both_equal q m n i j =
 
 -- words, n of them, are to be canonical
 words_to : (q : ℕ → Refusal) (s : List ℕ) (n : ℕ) → length s ≡ n
-    → DecidedBy (by_index q (IsFirstBad s)) (unless (eqb (first_bad s) n) (q (first_bad s)) Accepted)
+    → DecidedBy (by_index q (IsFirstBad s)) (unless (eqb (first_bad s) n) (q (first_bad s)) (Ok tt))
 words_to q s n size =
     one_index (eqb (first_bad s) n) q (first_bad s) (IsFirstBad s)
     (λ e. first_bad_lem s (omega (arith, within s, eqb-false (first_bad s) n e)))
     (λ e j h. omega (arith, only_first_bad s j h, h.within, eqb-true (first_bad s) n e)) (only_first_bad s)
 
 pub words : (q : ℕ → Refusal) (s : List ℕ)
-    → DecidedBy (by_index q (IsFirstBad s)) (unless (canonical_words s) (q (first_bad s)) Accepted)
+    → DecidedBy (by_index q (IsFirstBad s)) (unless (canonical_words s) (q (first_bad s)) (Ok tt))
 words q s = words_to q s (length s) refl
 
 tap_length : (most : ℕ) (w : List ℕ)
-    → DecidedBy (by TapLength (NoTapLength most w)) (unless (is_tap_length most (length w)) TapLength Accepted)
+    → DecidedBy (by TapLength (NoTapLength most w)) (unless (is_tap_length most (length w)) TapLength (Ok tt))
 tap_length most w =
     one (is_tap_length most (length w)) TapLength (NoTapLength most w)
     (λ e k p s. true≢false (sym (tap_length_complete most (length w) k s p).0 ∙ e))
     (λ e none. (let s = tap_length_sound most (length w) e in none (tap_word_batches (length w)) s.1 s.0))
 
 trace_length : (t : List ℕ)
-    → DecidedBy (by TraceLength (NoTraceLength t)) (unless (is_trace_length most_batches (length t)) TraceLength Accepted)
+    → DecidedBy (by TraceLength (NoTraceLength t)) (unless (is_trace_length most_batches (length t)) TraceLength (Ok tt))
 trace_length t =
     one (is_trace_length most_batches (length t)) TraceLength (NoTraceLength t)
     (λ e k p s. true≢false (sym (trace_length_complete most_batches (length t) k s p).0 ∙ e))
@@ -130,7 +129,7 @@ table T =
     (λ g. first_cell T (eqb-false (first_unlike T) 144 g))
     (λ g c h. omega (arith, only_first_cell T c h, h.within, eqb-true (first_unlike T) 144 g)) (only_first_cell T)
 
-tested : (T : List ℕ) (next : Refusal → Type 0) (rest : Answer) → (table_test T ≡ Accepted → DecidedBy next rest)
+tested : (T : List ℕ) (next : Refusal → Type 0) (rest : Answer) → (table_test T ≡ Ok tt → DecidedBy next rest)
     → DecidedBy (in_order (table_causes T) next) (after (table_test T) rest)
 tested T next rest = tests_after_lem (table_causes T) next (table_test T) rest (table T)
 
@@ -149,27 +148,27 @@ prepare raw old new a h = go a new h
     m = entry (raw_matrix raw)
 
     -- b tells whether M has an inverse, x is what comes of that after the answer y of the tests
-    answered : (b : Bool) (y x : Answer) → raw_test raw (length old) ≡ y → after y (unless b NoInverse Accepted) ≡ x
+    answered : (b : Bool) (y x : Answer) → raw_test raw (length old) ≡ y → after y (unless b NoInverse (Ok tt)) ≡ x
         → (b ≡ false → Kernel 12 m) → (b ≡ true → Kernel 12 m → ⊥) → DecidedBy (prepare_causes raw (length old)) x
     answered b y x e q f g =
-        subst (DecidedBy (prepare_causes raw (length old))) (ap (λ z. after z (unless b NoInverse Accepted)) e ∙ q)
+        subst (DecidedBy (prepare_causes raw (length old))) (ap (λ z. after z (unless b NoInverse (Ok tt))) e ∙ q)
         (tests_after_lem (raw_causes raw (length old)) (by NoInverse (Kernel 12 m)) (raw_test raw (length old)) _
         (raw_table raw (length old)) (λ p. one b NoInverse (Kernel 12 m) f g))
 
     with_inverse : (n : ℕ → ℕ → ℕ) → Inverse 12 m n → (y x : Answer) → raw_test raw (length old) ≡ y
-        → after y Accepted ≡ x → DecidedBy (prepare_causes raw (length old)) x
+        → after y (Ok tt) ≡ x → DecidedBy (prepare_causes raw (length old)) x
     with_inverse n i y x e q = answered true y x e q (λ z. absurd (true≢false z)) (λ z. not_both 12 m n i)
 
-    without : Kernel 12 m → (y x : Answer) → raw_test raw (length old) ≡ y → after y (Refused NoInverse) ≡ x
+    without : Kernel 12 m → (y x : Answer) → raw_test raw (length old) ≡ y → after y (Err NoInverse) ≡ x
         → DecidedBy (prepare_causes raw (length old)) x
     without k y x e q = answered false y x e q (λ z. k) (λ z. absurd (true≢false (sym z)))
 
     go : (x : Answer) (s : List ℕ) → Prepares raw old x s → DecidedBy (prepare_causes raw (length old)) x
-    go x s (accepts n e i) = with_inverse (entry n) i.inverse Accepted x e refl
-    go x s (no_inverse e k) = without k Accepted x e refl
+    go x s (accepts n e i) = with_inverse (entry n) i.inverse (Ok tt) x e refl
+    go x s (no_inverse e k) = without k (Ok tt) x e refl
     go x s (refuses r e) =
-        ⊎_elim (λ (i : Invertible 12 m). with_inverse i.matrix i.right (Refused r) x e refl)
-        (λ (k : Kernel 12 m). without k (Refused r) x e refl) (dichotomy 12 m)
+        ⊎_elim (λ (i : Invertible 12 m). with_inverse i.matrix i.right (Err r) x e refl)
+        (λ (k : Kernel 12 m). without k (Err r) x e refl) (dichotomy 12 m)
 
 -- ---- Hash, Chain and Build
 hash : (T s : List ℕ) → DecidedBy (hash_causes T s) (hash_test T s)
@@ -190,12 +189,12 @@ chain T w =
 
 -- room is the test of the destinations
 written : (T w : List ℕ) (Room : Type 0) (room : Bool)
-    → DecidedBy (by DestinationLength (Room → ⊥)) (unless room DestinationLength Accepted)
+    → DecidedBy (by DestinationLength (Room → ⊥)) (unless room DestinationLength (Ok tt))
     → DecidedBy (written_causes T w Room) (after (table_test T)
     (unless (is_tap_length most_batches (length w)) TapLength
     (unless room DestinationLength
     (unless (canonical_words w) (TapWord (first_bad w))
-    Accepted))))
+    (Ok tt)))))
 written T w Room room d =
     tested T _ _ λ e.
     test_before _ _ (is_tap_length most_batches (length w)) TapLength _ (tap_length most_batches w) λ f.
@@ -247,7 +246,7 @@ module _ (T t claim : List ℕ) (c : ℕ) where
           refused_first_failing T t claim k c f.0 f.1 f.2 f.3,
           refused_same (sym e ∙ f.3),
         ),
-    λ f. first_failing_refused T t claim k c f.0 f.1 f.2 f.3 ∙ ap Refused (sym f.4),
+    λ f. first_failing_refused T t claim k c f.0 f.1 f.2 f.3 ∙ ap Err (sym f.4),
   )
 
   -- the words of the claim and of the trace, and then more
@@ -271,7 +270,7 @@ module _ (T t claim : List ℕ) (c : ℕ) where
       (λ e. judged _ _ constraints))
 
   module _ (n : ℕ) (new : List ℕ) where
-    numbered : DecidedBy (by NoSuchTap (3 * k < n)) (unless (leb n (3 * k)) NoSuchTap Accepted)
+    numbered : DecidedBy (by NoSuchTap (3 * k < n)) (unless (leb n (3 * k)) NoSuchTap (Ok tt))
     numbered =
         one (leb n (3 * k)) NoSuchTap (3 * k < n) (leb-false n (3 * k)) (λ e l. omega (arith, leb-true n (3 * k) e, l))
 
@@ -301,25 +300,25 @@ module _ (T t claim : List ℕ) (c : ℕ) where
 -- ---- Unhash
 module _ (T s : List ℕ) (twelve : length s ≡ 12) where
   -- 16, where table and cells have passed
-  no_pair : table_test T ≡ Accepted → canonical_words s ≡ true
-      → DecidedBy (by NoPair (NoTwoTaps T s)) (unless (ends_in_zeros (input_before T s)) NoPair Accepted)
+  no_pair : table_test T ≡ Ok tt → canonical_words s ≡ true
+      → DecidedBy (by NoPair (NoTwoTaps T s)) (unless (ends_in_zeros (input_before T s)) NoPair (Ok tt))
   unfolding unhash_answer unhash_test
   no_pair table good =
       one (ends_in_zeros (input_before T s)) NoPair (NoTwoTaps T s)
       (λ z w eight h.
-      let refused : unhash_test T s ≡ Refused NoPair = rw (table, good, z) in
-      let answered = pair_accepted (unhash_test T s) _ (pair w) (hash_answered T s twelve w eight h) in
+      let refused : unhash_test T s ≡ Err NoPair = rw (table, good, z) in
+      let answered = value_accepted (unhash_test T s) _ w (hash_answered T s twelve w eight h) in
       not_accepted NoPair (sym refused ∙ answered.0))
       (λ z none.
-      let accepted : unhash_test T s ≡ Accepted = rw (table, good, z) in
+      let accepted : unhash_test T s ≡ Ok tt = rw (table, good, z) in
       ⊎_elim (λ (w : (w : List ℕ) × (length w ≡ 8) × EndsIn T w s). none w.0 w.1 w.2)
-      (λ (e : unhash_answer T s ≡ pairs.Refused NoPair).
-      not_accepted NoPair (sym (pair_refused (unhash_test T s) _ NoPair e) ∙ accepted))
+      (λ (e : unhash_answer T s ≡ Err NoPair).
+      not_accepted NoPair (sym (value_refused (unhash_test T s) _ NoPair e) ∙ accepted))
       (answered_or_16 T s twelve (test_sound T table) (good_test s good)))
 
-  cells : table_test T ≡ Accepted
+  cells : table_test T ≡ Ok tt
       → DecidedBy (in_order (by_index TapWord (IsFirstBad s)) (by NoPair (NoTwoTaps T s)))
-      (unless (canonical_words s) (TapWord (first_bad s)) (unless (ends_in_zeros (input_before T s)) NoPair Accepted))
+      (unless (canonical_words s) (TapWord (first_bad s)) (unless (ends_in_zeros (input_before T s)) NoPair (Ok tt)))
   cells e = test_before _ _ (canonical_words s) (TapWord (first_bad s)) _ (words TapWord s) (no_pair e)
 
   unhash : DecidedBy (unhash_causes T s) (unhash_test T s)
@@ -338,7 +337,7 @@ packing : (most n : ℕ) (w claim : List ℕ) (size : ℕ)
     (unless (eqb size n) DestinationLength
     (unless (canonical_words claim) (ClaimWord (first_bad claim))
     (unless (canonical_words w) (TapWord (first_bad w))
-    Accepted))))
+    (Ok tt)))))
 packing most n w claim size =
     test_before _ _ (is_tap_length most (length w)) TapLength _ (tap_length most w) λ e.
     test_before _ _ (eqb size n) DestinationLength _ (equal DestinationLength size n) λ f.
@@ -377,7 +376,7 @@ count w =
         true≢false (sym (and_intro (eqb (spare_in w) 0) permits (eq-eqb _ _ spare) right) ∙ f)
 
     joined_tests : (x y : Bool)
-        → unless (x && y) (WrongValue 0) Accepted ≡ unless x (WrongValue 0) (unless y (WrongValue 0) Accepted)
+        → unless (x && y) (WrongValue 0) (Ok tt) ≡ unless x (WrongValue 0) (unless y (WrongValue 0) (Ok tt))
     joined_tests true y = refl
     joined_tests false y = refl
 
@@ -400,7 +399,7 @@ module _ (file : List ℕ) where
   )
 
   unpacking : (Room : Type 0) (room : Bool)
-      → DecidedBy (by DestinationLength (Room → ⊥)) (unless room DestinationLength Accepted)
+      → DecidedBy (by DestinationLength (Room → ⊥)) (unless room DestinationLength (Ok tt))
       → DecidedBy (unpack_causes file Room) (unless (leb 4 (length file)) FileLength
       (after (count_test (word_at file 0))
       (unless (eqb (length file) (file_size (batches_in file))) FileLength
@@ -431,8 +430,8 @@ module _ (file : List ℕ) where
 -- ---- the words of the calls
 
 -- what decides the tests t decides the word that tells of them
-said : (causes : Refusal → Type 0) (t : Answer) (n code : ℕ) → DecidedBy causes t → code ≡ tests_code (tests_after t n)
-    → AnswerEnds RefusalInBits t → (t ≡ Accepted → n < 2 ^ 28) → SaidFor causes code
+said : (causes : Refusal → Type 0) (t : Answer) (n code : ℕ) → DecidedBy causes t → code ≡ tests_code (with_value t n)
+    → AnswerEnds RefusalInBits t → (t ≡ Ok tt → n < 2 ^ 28) → SaidFor causes code
 said causes t n code d e b l =
     let zero = accepted_exactly t n code e b l in record {
       refuses_exactly = λ r.
@@ -448,10 +447,10 @@ module _ (causes : Refusal → Type 0) (t : Answer) (code : ℕ) (d : DecidedBy 
   answer_said : code ≡ answer_code t → SaidFor causes code
   answer_said e = said causes t 0 code d (e ∙ answer_none t) b (λ a. lit< tt)
 
-  digest_said : (words : Digest) → code ≡ digest_code (digest_after t words) → SaidFor causes code
+  digest_said : (words : List ℕ) → code ≡ words_code (with_value t words) → SaidFor causes code
   digest_said words e = said causes t 0 code d (e ∙ digest_none t words) b (λ a. lit< tt)
 
-  state_said : (cells : State) → code ≡ state_code (state_after t cells) → SaidFor causes code
+  state_said : (cells : List ℕ) → code ≡ words_code (with_value t cells) → SaidFor causes code
   state_said cells e = said causes t 0 code d (e ∙ state_none t cells) b (λ a. lit< tt)
 
 prepare_called : (raw old new : List ℕ) (code : ℕ) → PrepareCall raw old code new
@@ -461,7 +460,7 @@ prepare_called raw old new code h =
     (bits.prepare_bits raw old new h.answer h.prepares) h.coded
 
 hash_word : (T s output output' : List ℕ) (code : ℕ) → length s ≡ 8
-    → HandsOverState (hash_call T s (length output)) code output output'
+    → HandsOver (hash_call T s (length output)) code output output'
     → SaidFor (hash_call_causes T s (length output)) code
 unfolding hash_call
 hash_word T s output output' code eight h =

@@ -2,21 +2,16 @@
 -- and 02, for all tables, tap lists, traces and files that can be lent, and a refusal alters no lent buffer. (The
 -- contracts have no `requires`, and equate every answer with a definition that has a value for whatever is lent.)
 -- Assumes nothing.
-use Rattle.std.specs.Prelude.{◌≡◌, ◌↔◌, ℕ, ◌*◌, ◌≤◌, length}
+use Rattle.std.specs.Prelude.{◌≡◌, ◌↔◌, ℕ, ◌*◌, ◌≤◌, length, Ok, Err}
 use mathlib.Core.List.{List, [], ◌∷◌, Memᴰ}
 use Rattle.numbers.specs.Numbers.{width, tap_words, trace_words, IsPermitted}
 use Rattle.refusals.specs.Refusals.{told, indexed}
 use Rattle.refusals.specs.declared.Refusal.{Refusal}
+use Rattle.refusals.specs.declared.Place.TheVariants.{Nowhere, Index, Test}
 use Rattle.refusals.specs.declared.Refusal.TheVariants.{TableLength, TableWord, NoInverse, WrongInverse, TapLength}
 use Rattle.refusals.specs.declared.Refusal.TheVariants.{TapWord, TraceLength, DestinationLength, ClaimWord, TraceWord}
 use Rattle.refusals.specs.declared.Refusal.TheVariants.{Constraint, FileLength, WrongKind, WrongValue, NoSuchTap}
 use Rattle.refusals.specs.declared.Refusal.TheVariants.{NoPair, ClaimBatches, LongElement, SameEdition}
-use Rattle.refusals.specs.declared.Answer.{Answer}
-use Rattle.refusals.specs.declared.Answer.TheVariants as answer
-use Rattle.refusals.specs.declared.DigestAnswer.TheVariants as digest
-use Rattle.refusals.specs.declared.StateAnswer.TheVariants as state
-use Rattle.refusals.specs.declared.PairAnswer.TheVariants as pair
-use Rattle.refusals.specs.declared.TestsAnswer.TheVariants as tests
 use Rattle.matrix.specs.Matrix.{Kernel, entry}
 use Rattle.table.specs.Table.{table_test, raw_matrix, RawInverse, raw_test, Prepares}
 use Rattle.hash.specs.Hash as rescue
@@ -31,17 +26,21 @@ use Rattle.trace_edit.specs.Answers.{altered_taps, edit_answer, edit_leaves}
 use Rattle.hash_undo.specs.Unhash.{taps_before}
 use Rattle.hash_undo.specs.Answers.{unhash_answer}
 use Rattle.board.specs.Board.{pack_test, packed, pack_leaves, unpack_answer, taps_in, claim_in, unpack_leaves}
-use Rattle.board_short.specs.ShortBoard.{pack_short_test, packed_short, pack_short_leaves, unpack_short_answer, short_taps_in}
+use Rattle.board_short.specs.ShortBoard.{pack_short_test, packed_short, pack_short_leaves, unpack_short_answer}
+use Rattle.board_short.specs.ShortBoard.{short_taps_in}
 use Rattle.board_short.specs.ShortBoard.{short_claim_in, unpack_short_leaves}
 use Rattle.board_to_short.specs.ToShort.{to_short_test, to_short_leaves}
 use Rattle.board_to_full.specs.ToFull.{to_full_test, to_full_leaves}
 use Rattle.call_results.specs.Code.{Says, tests_code}
-use Rattle.call_results.specs.HandsOver.{HandsOver, HandsOverState}
-use Rattle.call_answers.specs.Calls.{PrepareCall, hash_call_test, hash_call, chain_call_test, chain_call, build_call_test, BuildCall}
+use Rattle.call_results.specs.HandsOver.{HandsOver}
+use Rattle.call_answers.specs.Calls.{PrepareCall, hash_call_test, hash_call, chain_call_test, chain_call}
+use Rattle.call_answers.specs.Calls.{build_call_test, BuildCall}
 use Rattle.call_answers.specs.Calls.{ReadOffCall, edit_call_test, EditCall, unhash_call_test, UnhashCall, PackCall}
-use Rattle.call_answers.specs.Calls.{unpack_call_test, UnpackCall, PackShortCall, unpack_short_call_test, UnpackShortCall}
+use Rattle.call_answers.specs.Calls.{unpack_call_test, UnpackCall, PackShortCall, unpack_short_call_test}
+use Rattle.call_answers.specs.Calls.{UnpackShortCall}
 use Rattle.call_answers.specs.Calls.{ToShortCall, ToFullCall}
 use Rattle.check_exact.specs.Exact.{IsListFor}
+use Rattle.refusals.specs.Answers.{Answer}
 
 -- ---- the operations, and the numbers that each can return, in the order of their tests (document 01, "What is
 -- turned back"; document 02 for Edit, Unhash, 17, the short edition and the converters)
@@ -100,61 +99,53 @@ call_numbers to_full = numbers to_full
 abbrev pub OneOf : List ℕ → Refusal → Type 0
 OneOf ns r = Memᴰ (told r).number ns
 
--- document 01's table of what is turned back, with document 02's additions: the number of each cause, how many values
--- come with it, and which: none, an index, or row, constraint and the tests up to the failing one
+-- document 01's table of what is turned back, with document 02's additions: the number of each cause, and the place
+-- that comes with it: none, an index, or row, constraint and the tests up to the failing one
 pub record Told : Type 0 where
-  pub table_length : told TableLength ≡ record { number = 1; values = 0; row = 0; constraint = 0; value = 0 }
-  pub table_word : (i : ℕ)
-      → told (TableWord i) ≡ record { number = 2; values = 1; row = 0; constraint = 0; value = i }
-  pub no_inverse : told NoInverse ≡ record { number = 3; values = 0; row = 0; constraint = 0; value = 0 }
-  pub wrong_inverse : (i : ℕ)
-      → told (WrongInverse i) ≡ record { number = 4; values = 1; row = 0; constraint = 0; value = i }
-  pub tap_length : told TapLength ≡ record { number = 5; values = 0; row = 0; constraint = 0; value = 0 }
-  pub tap_word : (i : ℕ) → told (TapWord i) ≡ record { number = 6; values = 1; row = 0; constraint = 0; value = i }
-  pub trace_length : told TraceLength ≡ record { number = 7; values = 0; row = 0; constraint = 0; value = 0 }
-  pub destination_length : told DestinationLength
-      ≡ record { number = 8; values = 0; row = 0; constraint = 0; value = 0 }
-  pub claim_word : (i : ℕ)
-      → told (ClaimWord i) ≡ record { number = 9; values = 1; row = 0; constraint = 0; value = i }
-  pub trace_word : (i : ℕ)
-      → told (TraceWord i) ≡ record { number = 10; values = 1; row = 0; constraint = 0; value = i }
+  pub table_length : told TableLength ≡ record { number = 1; place = Nowhere }
+  pub table_word : (i : ℕ) → told (TableWord i) ≡ record { number = 2; place = Index i }
+  pub no_inverse : told NoInverse ≡ record { number = 3; place = Nowhere }
+  pub wrong_inverse : (i : ℕ) → told (WrongInverse i) ≡ record { number = 4; place = Index i }
+  pub tap_length : told TapLength ≡ record { number = 5; place = Nowhere }
+  pub tap_word : (i : ℕ) → told (TapWord i) ≡ record { number = 6; place = Index i }
+  pub trace_length : told TraceLength ≡ record { number = 7; place = Nowhere }
+  pub destination_length : told DestinationLength ≡ record { number = 8; place = Nowhere }
+  pub claim_word : (i : ℕ) → told (ClaimWord i) ≡ record { number = 9; place = Index i }
+  pub trace_word : (i : ℕ) → told (TraceWord i) ≡ record { number = 10; place = Index i }
   pub constraint : (i q n : ℕ) → told (Constraint (record { 0 = i }) q n)
-      ≡ record { number = 11; values = 3; row = i; constraint = q; value = n }
-  pub file_length : told FileLength ≡ record { number = 12; values = 0; row = 0; constraint = 0; value = 0 }
-  pub wrong_kind : (i : ℕ)
-      → told (WrongKind i) ≡ record { number = 13; values = 1; row = 0; constraint = 0; value = i }
-  pub wrong_value : (i : ℕ)
-      → told (WrongValue i) ≡ record { number = 14; values = 1; row = 0; constraint = 0; value = i }
-  pub no_such_tap : told NoSuchTap ≡ record { number = 15; values = 0; row = 0; constraint = 0; value = 0 }
-  pub no_pair : told NoPair ≡ record { number = 16; values = 0; row = 0; constraint = 0; value = 0 }
-  pub claim_batches : told ClaimBatches ≡ record { number = 17; values = 0; row = 0; constraint = 0; value = 0 }
-  pub long_element : (i : ℕ)
-      → told (LongElement i) ≡ record { number = 18; values = 1; row = 0; constraint = 0; value = i }
-  pub same_edition : told SameEdition ≡ record { number = 19; values = 0; row = 0; constraint = 0; value = 0 }
+      ≡ record { number = 11; place = Test i q n }
+  pub file_length : told FileLength ≡ record { number = 12; place = Nowhere }
+  pub wrong_kind : (i : ℕ) → told (WrongKind i) ≡ record { number = 13; place = Index i }
+  pub wrong_value : (i : ℕ) → told (WrongValue i) ≡ record { number = 14; place = Index i }
+  pub no_such_tap : told NoSuchTap ≡ record { number = 15; place = Nowhere }
+  pub no_pair : told NoPair ≡ record { number = 16; place = Nowhere }
+  pub claim_batches : told ClaimBatches ≡ record { number = 17; place = Nowhere }
+  pub long_element : (i : ℕ) → told (LongElement i) ≡ record { number = 18; place = Index i }
+  pub same_edition : told SameEdition ≡ record { number = 19; place = Nowhere }
 
 -- the operation, lent something, answers this refusal
 pub data Refuses : Operation → Refusal → Type 0 where
-  prepare_refuses : (raw old new : List ℕ) (r : Refusal) → Prepares raw old (answer.Refused r) new → Refuses prepare r
-  hash_refuses : (T words : List ℕ) (r : Refusal) → hash_answer T words ≡ state.Refused r → Refuses hash r
-  chain_refuses : (T w : List ℕ) (r : Refusal) → chain_answer T w ≡ digest.Refused r → Refuses chain r
-  build_refuses : (T w : List ℕ) (size : ℕ) (r : Refusal) → build_answer T w size ≡ digest.Refused r → Refuses build r
-  check_refuses : (T t claim : List ℕ) (c : ℕ) (r : Refusal) → check_answer T t claim c ≡ tests.Refused r
+  prepare_refuses : (raw old new : List ℕ) (r : Refusal) → Prepares raw old (Err r) new → Refuses prepare r
+  hash_refuses : (T words : List ℕ) (r : Refusal) → hash_answer T words ≡ Err r → Refuses hash r
+  chain_refuses : (T w : List ℕ) (r : Refusal) → chain_answer T w ≡ Err r → Refuses chain r
+  build_refuses : (T w : List ℕ) (size : ℕ) (r : Refusal) → build_answer T w size ≡ Err r → Refuses build r
+  check_refuses : (T t claim : List ℕ) (c : ℕ) (r : Refusal) → check_answer T t claim c ≡ Err r
       → Refuses check r
-  read_off_refuses : (T t claim : List ℕ) (c size : ℕ) (r : Refusal) → read_off_answer T t claim c size ≡ tests.Refused r
+  read_off_refuses : (T t claim : List ℕ) (c size : ℕ) (r : Refusal) → read_off_answer T t claim c size ≡ Err r
       → Refuses read_off r
   edit_refuses : (T t claim : List ℕ) (c n : ℕ) (new : List ℕ) (r : Refusal)
-      → edit_answer T t claim c n new ≡ digest.Refused r → Refuses edit r
-  unhash_refuses : (T s : List ℕ) (r : Refusal) → unhash_answer T s ≡ pair.Refused r → Refuses unhash r
-  pack_refuses : (w claim : List ℕ) (size : ℕ) (r : Refusal) → pack_test w claim size ≡ answer.Refused r → Refuses pack r
-  unpack_refuses : (file : List ℕ) (size : ℕ) (r : Refusal) → unpack_answer file size ≡ digest.Refused r
+      → edit_answer T t claim c n new ≡ Err r → Refuses edit r
+  unhash_refuses : (T s : List ℕ) (r : Refusal) → unhash_answer T s ≡ Err r → Refuses unhash r
+  pack_refuses : (w claim : List ℕ) (size : ℕ) (r : Refusal) → pack_test w claim size ≡ Err r → Refuses pack r
+  unpack_refuses : (file : List ℕ) (size : ℕ) (r : Refusal) → unpack_answer file size ≡ Err r
       → Refuses unpack r
-  pack_short_refuses : (w claim : List ℕ) (size : ℕ) (r : Refusal) → pack_short_test w claim size ≡ answer.Refused r
+  pack_short_refuses : (w claim : List ℕ) (size : ℕ) (r : Refusal) → pack_short_test w claim size ≡ Err r
       → Refuses pack_short r
-  unpack_short_refuses : (file : List ℕ) (size : ℕ) (r : Refusal) → unpack_short_answer file size ≡ digest.Refused r
+  unpack_short_refuses : (file : List ℕ) (size : ℕ) (r : Refusal) → unpack_short_answer file size ≡ Err r
       → Refuses unpack_short r
-  to_short_refuses : (file : List ℕ) (size : ℕ) (r : Refusal) → to_short_test file size ≡ answer.Refused r
+  to_short_refuses : (file : List ℕ) (size : ℕ) (r : Refusal) → to_short_test file size ≡ Err r
       → Refuses to_short r
-  to_full_refuses : (file : List ℕ) (size : ℕ) (r : Refusal) → to_full_test file size ≡ answer.Refused r
+  to_full_refuses : (file : List ℕ) (size : ℕ) (r : Refusal) → to_full_test file size ≡ Err r
       → Refuses to_full r
 
 -- ---- a call from another language: what the word says that it returns
@@ -162,15 +153,15 @@ pub data Refuses : Operation → Refusal → Type 0 where
 -- `Is a`: the tests behind the call answer a. Then its word says acceptance, with the tests walked where the operation
 -- counts them, and there is a full result; or it says that refusal, one of these, and what was lent is as it was
 pub data Answered (code : ℕ) (ns : List ℕ) (Is : Answer → Type 0) (full : ℕ → Type 0) (kept : Type 0) : Type 0 where
-  accepted : (tests : ℕ) → Is answer.Accepted → Says code (indexed 0 tests) → full tests
+  accepted : (tests : ℕ) → Is (Ok tt) → Says code (indexed 0 tests) → full tests
       → Answered code ns Is full kept
-  refused : (r : Refusal) → Is (answer.Refused r) → Says code (told r) → OneOf ns r → kept
+  refused : (r : Refusal) → Is (Err r) → Says code (told r) → OneOf ns r → kept
       → Answered code ns Is full kept
 
 -- the full results: each destination holds all of what it is for. Operations without tests report 0 of them
 pub record PrepareResult (raw old table : List ℕ) (tests : ℕ) : Type 0 where
   pub none : tests ≡ 0
-  pub prepares : Prepares raw old answer.Accepted table
+  pub prepares : Prepares raw old (Ok tt) table
 
 pub record HashResult (T a b output : List ℕ) (tests : ℕ) : Type 0 where
   pub none : tests ≡ 0
@@ -268,38 +259,38 @@ pub record Demand1 : Type 0 where
   -- it refuses with 3 exactly where its tests pass and M has no inverse; that is where M takes some non-zero column to
   -- zeros; and a table that it wrote is accepted
   pub prepare_3_exactly : (raw old new : List ℕ) (a : Answer) → Prepares raw old a new
-      → (a ≡ answer.Refused NoInverse)
-      ↔ ((raw_test raw (length old) ≡ answer.Accepted) × ((n : List ℕ) → RawInverse raw n → ⊥))
+      → (a ≡ Err NoInverse)
+      ↔ ((raw_test raw (length old) ≡ Ok tt) × ((n : List ℕ) → RawInverse raw n → ⊥))
   pub no_inverse_exactly : (raw : List ℕ)
       → ((n : List ℕ) → RawInverse raw n → ⊥) ↔ Kernel width (entry (raw_matrix raw))
-  pub prepared_accepted : (raw old new : List ℕ) → Prepares raw old answer.Accepted new
-      → table_test new ≡ answer.Accepted
+  pub prepared_accepted : (raw old new : List ℕ) → Prepares raw old (Ok tt) new
+      → table_test new ≡ Ok tt
   -- what each operation that writes leaves after a refusal
-  pub prepare_keeps : (raw old new : List ℕ) (r : Refusal) → Prepares raw old (answer.Refused r) new → new ≡ old
-  pub build_keeps : (T w old : List ℕ) (r : Refusal) → build_answer T w (length old) ≡ digest.Refused r
+  pub prepare_keeps : (raw old new : List ℕ) (r : Refusal) → Prepares raw old (Err r) new → new ≡ old
+  pub build_keeps : (T w old : List ℕ) (r : Refusal) → build_answer T w (length old) ≡ Err r
       → build_leaves T w old ≡ old
   pub read_off_keeps : (T t claim old : List ℕ) (c : ℕ) (r : Refusal)
-      → read_off_answer T t claim c (length old) ≡ tests.Refused r → read_off_leaves T t claim c old ≡ old
+      → read_off_answer T t claim c (length old) ≡ Err r → read_off_leaves T t claim c old ≡ old
   pub edit_keeps : (T t claim : List ℕ) (c n : ℕ) (new : List ℕ) (r : Refusal)
-      → edit_answer T t claim c n new ≡ digest.Refused r → edit_leaves T t claim c n new ≡ t
-  pub pack_keeps : (w claim old : List ℕ) (r : Refusal) → pack_test w claim (length old) ≡ answer.Refused r
+      → edit_answer T t claim c n new ≡ Err r → edit_leaves T t claim c n new ≡ t
+  pub pack_keeps : (w claim old : List ℕ) (r : Refusal) → pack_test w claim (length old) ≡ Err r
       → pack_leaves w claim old ≡ old
-  pub unpack_keeps : (file old : List ℕ) (r : Refusal) → unpack_answer file (length old) ≡ digest.Refused r
+  pub unpack_keeps : (file old : List ℕ) (r : Refusal) → unpack_answer file (length old) ≡ Err r
       → unpack_leaves file old ≡ old
-  pub pack_short_keeps : (w claim old : List ℕ) (r : Refusal) → pack_short_test w claim (length old) ≡ answer.Refused r
+  pub pack_short_keeps : (w claim old : List ℕ) (r : Refusal) → pack_short_test w claim (length old) ≡ Err r
       → pack_short_leaves w claim old ≡ old
-  pub unpack_short_keeps : (file old : List ℕ) (r : Refusal) → unpack_short_answer file (length old) ≡ digest.Refused r
+  pub unpack_short_keeps : (file old : List ℕ) (r : Refusal) → unpack_short_answer file (length old) ≡ Err r
       → unpack_short_leaves file old ≡ old
-  pub to_short_keeps : (file old : List ℕ) (r : Refusal) → to_short_test file (length old) ≡ answer.Refused r
+  pub to_short_keeps : (file old : List ℕ) (r : Refusal) → to_short_test file (length old) ≡ Err r
       → to_short_leaves file old ≡ old
-  pub to_full_keeps : (short old : List ℕ) (r : Refusal) → to_full_test short (length old) ≡ answer.Refused r
+  pub to_full_keeps : (short old : List ℕ) (r : Refusal) → to_full_test short (length old) ≡ Err r
       → to_full_leaves short old ≡ old
   -- ---- the calls: whatever words and lengths are lent, with `'` on what a buffer holds afterwards
   pub prepare_called : (raw table table' : List ℕ) (code : ℕ) → PrepareCall raw table code table'
       → Answered code (call_numbers prepare) (λ a. Prepares raw table a table')
       (PrepareResult raw table table') (table' ≡ table)
   pub hash_called : (T output output' : List ℕ) (w0 w1 w2 w3 w4 w5 w6 w7 code : ℕ)
-      → HandsOverState (hash_call T (w0 ∷ w1 ∷ w2 ∷ w3 ∷ w4 ∷ w5 ∷ w6 ∷ w7 ∷ []) (length output)) code output output'
+      → HandsOver (hash_call T (w0 ∷ w1 ∷ w2 ∷ w3 ∷ w4 ∷ w5 ∷ w6 ∷ w7 ∷ []) (length output)) code output output'
       → Answered code (call_numbers hash)
       (λ a. hash_call_test T (w0 ∷ w1 ∷ w2 ∷ w3 ∷ w4 ∷ w5 ∷ w6 ∷ w7 ∷ []) (length output) ≡ a)
       (HashResult T (w0 ∷ w1 ∷ w2 ∷ w3 ∷ []) (w4 ∷ w5 ∷ w6 ∷ w7 ∷ []) output') (output' ≡ output)

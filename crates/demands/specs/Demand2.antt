@@ -3,16 +3,10 @@
 -- building returned, yields the taps that it was built from; a packed board file unpacks to its taps and claim, and an
 -- accepted file packs to the same bytes. The same of the calls.
 -- Assumes nothing.
-use Rattle.std.specs.Prelude.{◌≡◌, List, ◌++◌, ◌↔◌, ℕ, ◌+◌, ◌*◌, ◌-◌, ◌≤◌, length, take}
+use Rattle.std.specs.Prelude.{◌≡◌, List, ◌++◌, ◌↔◌, ℕ, ◌+◌, ◌*◌, ◌-◌, ◌≤◌, length, take, Ok}
 use Rattle.field_words.specs.Words.{AllCanonical}
 use Rattle.numbers.specs.Numbers.{batch_rows, tap_words, trace_words, IsPermitted, IsPermittedTo, tap_word_batches}
-use Rattle.refusals.specs.Refusals.{indexed, digest, digest_words, state_words}
-use Rattle.refusals.specs.declared.Answer.TheVariants as answer
-use Rattle.refusals.specs.declared.Digest.{Digest}
-use Rattle.refusals.specs.declared.DigestAnswer.TheVariants.{Accepted}
-use Rattle.refusals.specs.declared.State.{State}
-use Rattle.refusals.specs.declared.StateAnswer.TheVariants as final
-use Rattle.refusals.specs.declared.TestsAnswer.TheVariants as tests
+use Rattle.refusals.specs.Refusals.{indexed}
 use Rattle.table.specs.Table.{table_test}
 use Rattle.hash.specs.Hash.{final_state, input, hash, chain, first_taps}
 use Rattle.hash.specs.Answers.{hash_answer}
@@ -21,56 +15,57 @@ use Rattle.trace.specs.Trace.{trace, row}
 use Rattle.trace.specs.Answers.{build_answer, build_leaves}
 use Rattle.trace_read_off.specs.Answers.{read_off_answer, read_off_leaves}
 use Rattle.board_words.specs.Words.{AllBytes}
-use Rattle.board.specs.Board.{most_file_batches, file_size, pack_test, packed, pack_leaves, unpack_answer, unpack_leaves}
+use Rattle.board.specs.Board.{most_file_batches, file_size, pack_test, packed, pack_leaves, unpack_answer}
+use Rattle.board.specs.Board.{unpack_leaves}
 use Rattle.call_results.specs.Code.{Says}
 use Rattle.call_answers.specs.Calls.{BuildCall, ReadOffCall, PackCall, UnpackCall}
 
 pub record Demand2 : Type 0 where
   -- for every accepted table and permitted k, hash, chain and trace of canonical words are those of the definitions. Of
   -- Hash, the twelve cells are Algorithm 1's final state, and cells 0 to 3 the documentation's hash
-  pub hashes : (T a b : List ℕ) → table_test T ≡ answer.Accepted → length a ≡ 4 → AllCanonical a → length b ≡ 4
+  pub hashes : (T a b : List ℕ) → table_test T ≡ Ok tt → length a ≡ 4 → AllCanonical a → length b ≡ 4
       → AllCanonical b
-      → (s : State) × (hash_answer T (a ++ b) ≡ final.Accepted s)
-      × (state_words s ≡ final_state T (input a b)) × (take 4 (state_words s) ≡ hash T a b)
-  pub chains : (T w : List ℕ) (k : ℕ) → table_test T ≡ answer.Accepted → IsPermitted k → length w ≡ tap_words k
+      → (s : List ℕ) × (hash_answer T (a ++ b) ≡ Ok s)
+      × (s ≡ final_state T (input a b)) × (take 4 s ≡ hash T a b)
+  pub chains : (T w : List ℕ) (k : ℕ) → table_test T ≡ Ok tt → IsPermitted k → length w ≡ tap_words k
       → AllCanonical w
-      → chain_answer T w ≡ Accepted (digest (chain T w k))
-  pub builds : (T w old : List ℕ) (k : ℕ) → table_test T ≡ answer.Accepted → IsPermitted k → length w ≡ tap_words k
+      → chain_answer T w ≡ Ok (chain T w k)
+  pub builds : (T w old : List ℕ) (k : ℕ) → table_test T ≡ Ok tt → IsPermitted k → length w ≡ tap_words k
       → AllCanonical w → length old ≡ trace_words k
-      → (build_answer T w (length old) ≡ Accepted (digest (chain T w k))) × (build_leaves T w old ≡ trace T w k)
+      → (build_answer T w (length old) ≡ Ok (chain T w k)) × (build_leaves T w old ≡ trace T w k)
   -- a trace that Build wrote into old, read off with c = k under the output d that it returned
-  pub reads_back : (T w old room : List ℕ) (d : Digest) → build_answer T w (length old) ≡ Accepted d
+  pub reads_back : (T w old room d : List ℕ) → build_answer T w (length old) ≡ Ok d
       → length room ≡ length w
       → let k = tap_word_batches (length w) in
-      (read_off_answer T (build_leaves T w old) (digest_words d) k (length room) ≡ tests.Accepted (372 * k))
-      × (read_off_leaves T (build_leaves T w old) (digest_words d) k room ≡ w)
+      (read_off_answer T (build_leaves T w old) d k (length room) ≡ Ok (372 * k))
+      × (read_off_leaves T (build_leaves T w old) d k room ≡ w)
   -- and with every c from 1 to k under the output of the first 3c + 1 taps, which row 31 of batch c − 1 shows
-  pub reads_back_early : (T w old room : List ℕ) (c : ℕ) (d : Digest) → build_answer T w (length old) ≡ Accepted d
+  pub reads_back_early : (T w old room : List ℕ) (c : ℕ) (d : List ℕ) → build_answer T w (length old) ≡ Ok d
       → length room ≡ length w → 1 ≤ c → c ≤ tap_word_batches (length w)
       → let claim = chain T (first_taps c w) c in
-      (read_off_answer T (build_leaves T w old) claim c (length room) ≡ tests.Accepted (372 * tap_word_batches (length w)))
+      (read_off_answer T (build_leaves T w old) claim c (length room) ≡ Ok (372 * tap_word_batches (length w)))
       × (read_off_leaves T (build_leaves T w old) claim c room ≡ w)
       × (take 4 (row (build_leaves T w old) (batch_rows * (c - 1) + 31)) ≡ claim)
   -- Pack accepts exactly taps of k batches, k permitted in a file, and a claim, of words below p, into 144k + 100 bytes
   pub pack_accepts : (w claim : List ℕ) (size : ℕ) → length claim ≡ 4
-      → (pack_test w claim size ≡ answer.Accepted)
+      → (pack_test w claim size ≡ Ok tt)
       ↔ ((k : ℕ) × IsPermittedTo most_file_batches k × (length w ≡ tap_words k) × AllCanonical w × AllCanonical claim
       × (size ≡ file_size k))
   -- a file that Pack wrote into old, unpacked
-  pub unpacks : (w claim old room : List ℕ) → length claim ≡ 4 → pack_test w claim (length old) ≡ answer.Accepted
+  pub unpacks : (w claim old room : List ℕ) → length claim ≡ 4 → pack_test w claim (length old) ≡ Ok tt
       → length room ≡ length w
-      → (unpack_answer (pack_leaves w claim old) (length room) ≡ Accepted (digest claim))
+      → (unpack_answer (pack_leaves w claim old) (length room) ≡ Ok claim)
       × (unpack_leaves (pack_leaves w claim old) room ≡ w)
   -- a file that Unpack accepted with the claim d, packed from the taps that it left in old
-  pub packs : (file old room : List ℕ) (d : Digest) → AllBytes file → unpack_answer file (length old) ≡ Accepted d
+  pub packs : (file old room d : List ℕ) → AllBytes file → unpack_answer file (length old) ≡ Ok d
       → length room ≡ length file
-      → (pack_test (unpack_leaves file old) (digest_words d) (length room) ≡ answer.Accepted)
-      × (pack_leaves (unpack_leaves file old) (digest_words d) room ≡ file)
+      → (pack_test (unpack_leaves file old) d (length room) ≡ Ok tt)
+      × (pack_leaves (unpack_leaves file old) d room ≡ file)
   -- Unpack accepts exactly the files that Pack writes, into a destination as long as the taps
-  pub unpack_accepts : (file : List ℕ) (size : ℕ) (d : Digest) → AllBytes file
-      → (unpack_answer file size ≡ Accepted d)
-      ↔ ((taps : List ℕ) × (pack_test taps (digest_words d) (length file) ≡ answer.Accepted)
-      × (file ≡ packed taps (digest_words d)) × (size ≡ length taps))
+  pub unpack_accepts : (file : List ℕ) (size : ℕ) (d : List ℕ) → length d ≡ 4 → AllBytes file
+      → (unpack_answer file size ≡ Ok d)
+      ↔ ((taps : List ℕ) × (pack_test taps d (length file) ≡ Ok tt)
+      × (file ≡ packed taps d) × (size ≡ length taps))
   -- ---- from another language, with `'` on what a buffer holds afterwards
   -- what Build's call wrote and returned Read-off's gives back as the taps
   pub call_reads_back : (T w rows rows' output output' room room' : List ℕ) (code : ℕ)

@@ -2,16 +2,12 @@
 -- altered list, and the output of its first 3c + 1 taps is returned; earlier rows keep their cells; the trace is that
 -- of a fresh build, and with c = k the output too. The same of the call.
 -- Assumes nothing.
-use Rattle.std.specs.Prelude.{◌≡◌, List, ◌↔◌, ℕ, ◌*◌, ◌≤◌, ◌<◌, length}
+use Rattle.std.specs.Prelude.{◌≡◌, List, ◌↔◌, ℕ, ◌*◌, ◌≤◌, ◌<◌, length, Ok, Err}
 use Rattle.field_words.specs.Words.{AllCanonical, IsFirstBad}
 use Rattle.numbers.specs.Numbers.{tap_words, trace_words, IsPermitted, trace_word_batches}
-use Rattle.refusals.specs.Refusals.{told, digest, digest_words}
+use Rattle.refusals.specs.Refusals.{told}
 use Rattle.refusals.specs.declared.Refusal.{Refusal}
 use Rattle.refusals.specs.declared.Refusal.TheVariants.{TapWord, NoSuchTap}
-use Rattle.refusals.specs.declared.Answer.TheVariants as answer
-use Rattle.refusals.specs.declared.Digest.{Digest}
-use Rattle.refusals.specs.declared.DigestAnswer.TheVariants.{Accepted, Refused}
-use Rattle.refusals.specs.declared.TestsAnswer.TheVariants as tests
 use Rattle.table.specs.Table.{table_test}
 use Rattle.hash.specs.Hash.{chain, first_taps, tap}
 use Rattle.trace.specs.Trace.{trace, row}
@@ -26,7 +22,7 @@ use Rattle.call_answers.specs.Calls.{EditCall}
 
 -- what is promised of an accepted edit of tap n to new: t is the lent trace, of k batches, t' what it is afterwards, d
 -- the output that is returned, w the list that t stands for
-pub record Edited (T t claim : List ℕ) (c n : ℕ) (new t' : List ℕ) (d : Digest) (k : ℕ) (w : List ℕ) : Type 0 where
+pub record Edited (T t claim : List ℕ) (c n : ℕ) (new t' d : List ℕ) (k : ℕ) (w : List ℕ) : Type 0 where
   pub permitted : IsPermitted k
   pub claimed : (1 ≤ c) × (c ≤ k)
   pub size : length t ≡ trace_words k
@@ -35,29 +31,29 @@ pub record Edited (T t claim : List ℕ) (c n : ℕ) (new t' : List ℕ) (d : Di
   pub no_other : (u : List ℕ) → IsListFor T t claim c k u → u ≡ w
   -- the trace is that of the altered list, and the output of its first 3c + 1 taps is returned
   pub trace_is : t' ≡ trace T (altered w n new) k
-  pub output_is : d ≡ digest (chain T (first_taps c (altered w n new)) c)
+  pub output_is : d ≡ (chain T (first_taps c (altered w n new)) c)
   -- a fresh build of the altered list writes the same, and where c = k it returns the same
   pub as_built : (old : List ℕ) → length old ≡ trace_words k
-      → (build_answer T (altered w n new) (length old) ≡ Accepted (digest (chain T (altered w n new) k)))
+      → (build_answer T (altered w n new) (length old) ≡ Ok (chain T (altered w n new) k))
       × (build_leaves T (altered w n new) old ≡ t')
   pub as_returned : (old : List ℕ) → length old ≡ trace_words k → c ≡ k
-      → build_answer T (altered w n new) (length old) ≡ Accepted d
+      → build_answer T (altered w n new) (length old) ≡ Ok d
   -- under that output and the same c the checker accepts it, and reading off yields the altered list
-  pub checks : check_answer T t' (digest_words d) c ≡ tests.Accepted (372 * k)
+  pub checks : check_answer T t' d c ≡ Ok (372 * k)
   pub reads_off : (room : List ℕ) → length room ≡ tap_words k
-      → (read_off_answer T t' (digest_words d) c (length room) ≡ tests.Accepted (372 * k))
-      × (read_off_leaves T t' (digest_words d) c room ≡ altered w n new)
+      → (read_off_answer T t' d c (length room) ≡ Ok (372 * k))
+      × (read_off_leaves T t' d c room ≡ altered w n new)
   -- earlier rows keep their cells, and where the new tap differs from the old the first row touched does change
   pub earlier_rows : (i : ℕ) → i < first_touched n → row t' i ≡ row t i
   pub touches : (new ≡ tap w n → ⊥) → row t' (first_touched n) ≡ row t (first_touched n) → ⊥
   -- a tap that the claim is not about leaves the output equal to the claim
-  pub after_claim : 3 * c < n → digest_words d ≡ claim
+  pub after_claim : 3 * c < n → d ≡ claim
   -- where it does not differ, nothing changes, and the claim is returned
-  pub same_tap : new ≡ tap w n → (t' ≡ t) × (digest_words d ≡ claim)
+  pub same_tap : new ≡ tap w n → (t' ≡ t) × (d ≡ claim)
 
 -- an accepted table, a trace of k batches, k permitted, and c from 1 to k: what 1, 2, 4, 7 and 17 let pass
 pub record InRange (T t : List ℕ) (c k : ℕ) : Type 0 where
-  pub table : table_test T ≡ answer.Accepted
+  pub table : table_test T ≡ Ok tt
   pub permitted : IsPermitted k
   pub size : length t ≡ trace_words k
   pub claimed : (1 ≤ c) × (c ≤ k)
@@ -74,32 +70,32 @@ IsBadTap T t claim c n new i =
 pub record Request1 : Type 0 where
   -- an edit is accepted exactly when the checker accepts the trace and tap number and new tap are in range
   pub accepts_exactly : (T t claim : List ℕ) (c n : ℕ) (new : List ℕ)
-      → ((d : Digest) × (edit_answer T t claim c n new ≡ Accepted d))
-      ↔ (((m : ℕ) × (check_answer T t claim c ≡ tests.Accepted m))
+      → ((d : List ℕ) × (edit_answer T t claim c n new ≡ Ok d))
+      ↔ (((m : ℕ) × (check_answer T t claim c ≡ Ok m))
       × (n ≤ 3 * trace_word_batches (length t)) × AllCanonical new)
   -- for every table, trace, claim of four words, c, tap number and new tap
-  pub edits : (T t claim : List ℕ) (c n : ℕ) (new : List ℕ) (d : Digest) → length claim ≡ 4 → length new ≡ 4
-      → edit_answer T t claim c n new ≡ Accepted d
+  pub edits : (T t claim : List ℕ) (c n : ℕ) (new d : List ℕ) → length claim ≡ 4 → length new ≡ 4
+      → edit_answer T t claim c n new ≡ Ok d
       → (k : ℕ) × (w : List ℕ) × Edited T t claim c n new (edit_leaves T t claim c n new) d k w
   -- 15 exactly where the tap number is above 3k, after 1, 2, 4, 7 and 17
   pub fifteen_exactly : (T t claim : List ℕ) (c n : ℕ) (new : List ℕ)
-      → (edit_answer T t claim c n new ≡ Refused NoSuchTap) ↔ IsAbove T t c n
+      → (edit_answer T t claim c n new ≡ Err NoSuchTap) ↔ IsAbove T t c n
   -- 6 exactly where all before it passes, with the lowest index of a word of the new tap that is not canonical
   pub six_exactly : (T t claim : List ℕ) (c n : ℕ) (new : List ℕ) (i : ℕ)
-      → (edit_answer T t claim c n new ≡ Refused (TapWord i)) ↔ IsBadTap T t claim c n new i
+      → (edit_answer T t claim c n new ≡ Err (TapWord i)) ↔ IsBadTap T t claim c n new i
   -- a refusal alters nothing
-  pub keeps : (T t claim : List ℕ) (c n : ℕ) (new : List ℕ) (r : Refusal) → edit_answer T t claim c n new ≡ Refused r
+  pub keeps : (T t claim : List ℕ) (c n : ℕ) (new : List ℕ) (r : Refusal) → edit_answer T t claim c n new ≡ Err r
       → edit_leaves T t claim c n new ≡ t
   -- ---- from another language, with `'` on what a buffer holds afterwards: a call that returns 0 had room for the
   -- output, and is such an edit, of the one list
   pub call_accepts_exactly : (T t claim : List ℕ) (c n : ℕ) (new t' output output' : List ℕ) (code : ℕ)
       → length claim ≡ 4 → length new ≡ 4 → EditCall T t claim c n new code t' output output'
       → (code ≡ 0)
-      ↔ ((length output ≡ 4) × ((m : ℕ) × (check_answer T t claim c ≡ tests.Accepted m))
+      ↔ ((length output ≡ 4) × ((m : ℕ) × (check_answer T t claim c ≡ Ok m))
       × (n ≤ 3 * trace_word_batches (length t)) × AllCanonical new)
   pub call_edits : (T t claim : List ℕ) (c n : ℕ) (new t' output output' : List ℕ) → length claim ≡ 4 → length new ≡ 4
       → EditCall T t claim c n new 0 t' output output'
-      → (k : ℕ) × (w : List ℕ) × (d : Digest) × Edited T t claim c n new t' d k w × (output' ≡ digest_words d)
+      → (k : ℕ) × (w : List ℕ) × (d : List ℕ) × Edited T t claim c n new t' d k w × (output' ≡ d)
   -- and its word says 15 and 6 where Edit does; 8 comes between them
   pub call_15 : (T t claim : List ℕ) (c n : ℕ) (new t' output output' : List ℕ) (code : ℕ) → length claim ≡ 4
       → length new ≡ 4 → EditCall T t claim c n new code t' output output'

@@ -1,15 +1,12 @@
 -- Request 4 (document 02, U4, and U6 for c): exact test counts on refusal. The count in refusal 11 is the failing
 -- test's place in document 01's order, as U6 leaves it.
 -- Assumes nothing.
-use Rattle.std.specs.Prelude.{◌≡◌, List, ◌↔◌, ℕ, ◌*◌, ◌≤◌, length}
+use Rattle.std.specs.Prelude.{◌≡◌, List, ◌↔◌, ℕ, ◌*◌, ◌≤◌, length, Ok, Err}
 use Rattle.field_words.specs.Words.{AllCanonical}
 use Rattle.numbers.specs.Numbers.{tap_words, trace_words, IsPermitted, trace_word_batches}
 use Rattle.refusals.specs.Refusals.{told}
 use Rattle.refusals.specs.declared.Refusal.{Refusal}
 use Rattle.refusals.specs.declared.Refusal.TheVariants.{Constraint}
-use Rattle.refusals.specs.declared.Answer.TheVariants as answer
-use Rattle.refusals.specs.declared.DigestAnswer.TheVariants as four
-use Rattle.refusals.specs.declared.TestsAnswer.TheVariants.{Refused}
 use Rattle.table.specs.Table.{table_test}
 use Rattle.check_constraints.specs.Constraints.{tests}
 use Rattle.check_constraints.specs.FirstFailing.{IsFirstFailing, place_of}
@@ -26,7 +23,7 @@ eleven i q n = Constraint (record { 0 = i }) q n
 -- an accepted table, a permitted k, which the trace's length tells, c from 1 to k, a trace of k batches and a claim,
 -- both of words below p: nothing is refused before 11. (That the claim has four words need not be asked.)
 pub record Reached (T t claim : List ℕ) (c k : ℕ) : Type 0 where
-  pub table : table_test T ≡ answer.Accepted
+  pub table : table_test T ≡ Ok tt
   pub permitted : IsPermitted k
   pub low : 1 ≤ c
   pub high : c ≤ k
@@ -44,29 +41,29 @@ pub record Counted (T t claim : List ℕ) (c k i q n : ℕ) : Type 0 where
 pub record Request4 : Type 0 where
   -- Check refuses with 11 exactly where the tests are reached, and by this rule
   pub check_counts : (T t claim : List ℕ) (c i q n : ℕ)
-      → (check_answer T t claim c ≡ Refused (eleven i q n))
+      → (check_answer T t claim c ≡ Err (eleven i q n))
       ↔ ((k : ℕ) × Reached T t claim c k × Counted T t claim c k i q n)
   -- Read-off and Edit refuse with 11 exactly where Check does and nothing else that they test is refused, and with the
   -- same row, constraint and count
   pub read_off_alike : (T t claim : List ℕ) (c size i q n : ℕ)
-      → (read_off_answer T t claim c size ≡ Refused (eleven i q n))
-      ↔ ((check_answer T t claim c ≡ Refused (eleven i q n)) × (size ≡ tap_words (trace_word_batches (length t))))
+      → (read_off_answer T t claim c size ≡ Err (eleven i q n))
+      ↔ ((check_answer T t claim c ≡ Err (eleven i q n)) × (size ≡ tap_words (trace_word_batches (length t))))
   pub edit_alike : (T t claim : List ℕ) (c m : ℕ) (new : List ℕ) (i q n : ℕ)
-      → (edit_answer T t claim c m new ≡ four.Refused (eleven i q n))
-      ↔ ((check_answer T t claim c ≡ Refused (eleven i q n))
+      → (edit_answer T t claim c m new ≡ Err (eleven i q n))
+      ↔ ((check_answer T t claim c ≡ Err (eleven i q n))
       × (m ≤ 3 * trace_word_batches (length t)) × AllCanonical new)
   -- from another language: the returned word says 11 with this row, constraint and count exactly where the operation
   -- refuses so, which for Edit asks for room for the four words of the output
   pub check_called : (T t claim : List ℕ) (c code i q n : ℕ) → length claim ≡ 4
       → code ≡ tests_code (check_answer T t claim c)
-      → Says code (told (eleven i q n)) ↔ (check_answer T t claim c ≡ Refused (eleven i q n))
+      → Says code (told (eleven i q n)) ↔ (check_answer T t claim c ≡ Err (eleven i q n))
   pub read_off_called : (T t claim taps taps' : List ℕ) (c code i q n : ℕ) → length claim ≡ 4
       → ReadOffCall T t claim c code taps taps'
-      → Says code (told (eleven i q n)) ↔ (read_off_answer T t claim c (length taps) ≡ Refused (eleven i q n))
+      → Says code (told (eleven i q n)) ↔ (read_off_answer T t claim c (length taps) ≡ Err (eleven i q n))
   pub edit_called : (T t claim : List ℕ) (c m : ℕ) (new t' output output' : List ℕ) (code i q n : ℕ) → length claim ≡ 4
       → length new ≡ 4 → EditCall T t claim c m new code t' output output'
       → Says code (told (eleven i q n))
-      ↔ ((edit_answer T t claim c m new ≡ four.Refused (eleven i q n)) × (length output ≡ 4))
+      ↔ ((edit_answer T t claim c m new ≡ Err (eleven i q n)) × (length output ≡ 4))
   -- the count is a function of table, trace, claim and c: two makers that keep the rule name one test with one count
   pub one_count : (T t claim : List ℕ) (c k i q n l j r m : ℕ) → Reached T t claim c k → Counted T t claim c k i q n
       → Reached T t claim c l → Counted T t claim c l j r m → (i ≡ j) × (q ≡ r) × (n ≡ m)

@@ -3,16 +3,13 @@
 -- reads off to, demand 2; what an edit does and returns, request 1; the count of refusal 11, request 4: each for every
 -- c. Here: the order of the tests, 17, and what moving the claim along a trace does.
 -- Assumes nothing.
-use Rattle.std.specs.Prelude.{◌≡◌, ◌⊎◌, ◌↔◌, true, ℕ, ◌+◌, ◌*◌, ◌-◌, ◌≤◌, ◌<◌, eqb, length, take}
+use Rattle.std.specs.Prelude.{◌≡◌, ◌⊎◌, ◌↔◌, true, ℕ, ◌+◌, ◌*◌, ◌-◌, ◌≤◌, ◌<◌, eqb, length, take, Ok, Err}
 use mathlib.Core.List.{List, [], ◌++◌, Memᴰ}
 use Rattle.lists.specs.Lists.{choose, cell}
 use Rattle.field_words.specs.Words.{AllCanonical}
 use Rattle.numbers.specs.Numbers.{batch_rows, trace_row_count, trace_words, IsPermitted, trace_word_batches, within}
 use Rattle.refusals.specs.Refusals.{told}
 use Rattle.refusals.specs.declared.Refusal.TheVariants.{Constraint, ClaimBatches}
-use Rattle.refusals.specs.declared.Answer.TheVariants as answer
-use Rattle.refusals.specs.declared.DigestAnswer.TheVariants as four
-use Rattle.refusals.specs.declared.TestsAnswer.TheVariants.{Accepted, Refused}
 use Rattle.table.specs.Table.{table_test}
 use Rattle.trace.specs.Trace.{row}
 use Rattle.check_constraints.specs.Constraints.{Test, applies, row_tests, tests}
@@ -33,7 +30,7 @@ claim_place k c = choose (eqb c k) (372 * k - 3) (372 * c + 1)
 
 -- an accepted table, a trace of k batches, k permitted, and a c that is 0 or above k
 pub record OutOfRange (T t : List ℕ) (c : ℕ) : Type 0 where
-  pub table : table_test T ≡ answer.Accepted
+  pub table : table_test T ≡ Ok tt
   pub k : ℕ
   pub permitted : IsPermitted k
   pub size : length t ≡ trace_words k
@@ -55,11 +52,11 @@ pub record Request6 : Type 0 where
   -- the places of 49 to 52
   pub claim_places : (k c j : ℕ) → 1 ≤ c → c ≤ k → j < 4 → place_of k c (row31 (c - 1)) (49 + j) ≡ claim_place k c + j
   -- ---- 17 exactly where c is 0 or above k, after 1, 2, 4 and 7, whatever else is lent: claim, destination, tap
-  pub check_17 : (T t claim : List ℕ) (c : ℕ) → (check_answer T t claim c ≡ Refused ClaimBatches) ↔ OutOfRange T t c
+  pub check_17 : (T t claim : List ℕ) (c : ℕ) → (check_answer T t claim c ≡ Err ClaimBatches) ↔ OutOfRange T t c
   pub read_off_17 : (T t claim : List ℕ) (c size : ℕ)
-      → (read_off_answer T t claim c size ≡ Refused ClaimBatches) ↔ OutOfRange T t c
+      → (read_off_answer T t claim c size ≡ Err ClaimBatches) ↔ OutOfRange T t c
   pub edit_17 : (T t claim : List ℕ) (c n : ℕ) (new : List ℕ)
-      → (edit_answer T t claim c n new ≡ four.Refused ClaimBatches) ↔ OutOfRange T t c
+      → (edit_answer T t claim c n new ≡ Err ClaimBatches) ↔ OutOfRange T t c
   -- and from another language the returned word says so, for Edit whatever room there is for its output
   pub check_call_17 : (T t claim : List ℕ) (c code : ℕ) → length claim ≡ 4 → code ≡ tests_code (check_answer T t claim c)
       → Says code (told ClaimBatches) ↔ OutOfRange T t c
@@ -70,15 +67,15 @@ pub record Request6 : Type 0 where
       → Says code (told ClaimBatches) ↔ OutOfRange T t c
   -- ---- the claim along an accepted trace
   -- it is what row 31 of batch c − 1 begins with, so that no other claim is accepted with that c
-  pub shows_claim : (T t claim : List ℕ) (c n : ℕ) → length claim ≡ 4 → check_answer T t claim c ≡ Accepted n
+  pub shows_claim : (T t claim : List ℕ) (c n : ℕ) → length claim ≡ 4 → check_answer T t claim c ≡ Ok n
       → take 4 (row t (row31 (c - 1))) ≡ claim
   -- and another claim of words below p, unlike it in word j and in none before, is refused with 11: that row,
   -- constraint 49 + j, and its place
-  pub other_claim : (T t claim other : List ℕ) (c j n : ℕ) → check_answer T t claim c ≡ Accepted n → AllCanonical other
+  pub other_claim : (T t claim other : List ℕ) (c j n : ℕ) → check_answer T t claim c ≡ Ok n → AllCanonical other
       → j < 4 → (cell other j ≡ cell claim j → ⊥) → ((m : ℕ) → m < j → cell other m ≡ cell claim m)
       → check_answer T t other c
-      ≡ Refused (Constraint (record { 0 = row31 (c - 1) }) (49 + j) (claim_place (trace_word_batches (length t)) c + j))
+      ≡ Err (Constraint (record { 0 = row31 (c - 1) }) (49 + j) (claim_place (trace_word_batches (length t)) c + j))
   -- and with every other d from 1 to k the trace is accepted under what row 31 of batch d − 1 begins with
-  pub moves : (T t claim : List ℕ) (c d n : ℕ) → length claim ≡ 4 → check_answer T t claim c ≡ Accepted n → 1 ≤ d
+  pub moves : (T t claim : List ℕ) (c d n : ℕ) → length claim ≡ 4 → check_answer T t claim c ≡ Ok n → 1 ≤ d
       → d ≤ trace_word_batches (length t)
-      → check_answer T t (take 4 (row t (row31 (d - 1)))) d ≡ Accepted n
+      → check_answer T t (take 4 (row t (row31 (d - 1)))) d ≡ Ok n

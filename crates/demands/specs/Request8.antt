@@ -3,16 +3,14 @@
 -- that its reader refuses is refused for the same, but one that is already in the wanted edition with 19, and a short
 -- one of more batches than a full file has with 14 (U9), whatever comes after word 0; and 8 comes last.
 -- Assumes nothing.
-use Rattle.std.specs.Prelude.{◌≡◌, List, ◌↔◌, ℕ, length}
+use Rattle.std.specs.Prelude.{◌≡◌, List, ◌↔◌, ℕ, length, Ok}
 use Rattle.numbers.specs.Numbers.{tap_words}
-use Rattle.refusals.specs.Refusals.{digest_words}
 use Rattle.refusals.specs.declared.Refusal.{Refusal}
-use Rattle.refusals.specs.declared.Answer.TheVariants as answer
-use Rattle.refusals.specs.declared.Digest.{Digest}
-use Rattle.refusals.specs.declared.DigestAnswer.TheVariants.{Accepted}
 use Rattle.board_words.specs.Words.{AllBytes}
-use Rattle.board.specs.Board.{pack_test, packed, pack_leaves, batches_in, claim_in, taps_in, unpack_answer, unpack_leaves}
-use Rattle.board_short.specs.ShortBoard.{pack_short_test, packed_short, pack_short_leaves, short_batches_in, short_claim_in}
+use Rattle.board.specs.Board.{pack_test, packed, pack_leaves, batches_in, claim_in, taps_in, unpack_answer}
+use Rattle.board.specs.Board.{unpack_leaves}
+use Rattle.board_short.specs.ShortBoard.{pack_short_test, packed_short, pack_short_leaves, short_batches_in}
+use Rattle.board_short.specs.ShortBoard.{short_claim_in}
 use Rattle.board_short.specs.ShortBoard.{short_taps_in, unpack_short_answer, unpack_short_leaves}
 use Rattle.board_edition.specs.Edition.{full_mark, short_mark, ConverterFault, ConverterAnswers}
 use Rattle.board_to_short.specs.ToShort.{to_short_test, to_short_leaves}
@@ -32,28 +30,28 @@ pub record Request8 : Type 0 where
   -- a file that its reader accepts, with the claim d and the taps that it leaves in room: the converter answers what
   -- the other edition's writer does, and leaves in old what that does; to the full edition, where the file has a form
   -- there
-  pub to_short_writes : (file old room : List ℕ) (d : Digest) → unpack_answer file (length room) ≡ Accepted d
-      → (to_short_test file (length old) ≡ pack_short_test (unpack_leaves file room) (digest_words d) (length old))
-      × (to_short_leaves file old ≡ pack_short_leaves (unpack_leaves file room) (digest_words d) old)
-  pub to_full_writes : (file old room : List ℕ) (d : Digest) → unpack_short_answer file (length room) ≡ Accepted d
+  pub to_short_writes : (file old room d : List ℕ) → unpack_answer file (length room) ≡ Ok d
+      → (to_short_test file (length old) ≡ pack_short_test (unpack_leaves file room) d (length old))
+      × (to_short_leaves file old ≡ pack_short_leaves (unpack_leaves file room) d old)
+  pub to_full_writes : (file old room d : List ℕ) → unpack_short_answer file (length room) ≡ Ok d
       → (NoFullForm file → ⊥)
-      → (to_full_test file (length old) ≡ pack_test (unpack_short_leaves file room) (digest_words d) (length old))
-      × (to_full_leaves file old ≡ pack_leaves (unpack_short_leaves file room) (digest_words d) old)
+      → (to_full_test file (length old) ≡ pack_test (unpack_short_leaves file room) d (length old))
+      × (to_full_leaves file old ≡ pack_leaves (unpack_short_leaves file room) d old)
   -- what was converted is read as the file was, into any room
-  pub to_short_reads : (file old room : List ℕ) → to_short_test file (length old) ≡ answer.Accepted
+  pub to_short_reads : (file old room : List ℕ) → to_short_test file (length old) ≡ Ok tt
       → (unpack_short_answer (to_short_leaves file old) (length room) ≡ unpack_answer file (length room))
       × (unpack_short_leaves (to_short_leaves file old) room ≡ unpack_leaves file room)
-  pub to_full_reads : (file old room : List ℕ) → to_full_test file (length old) ≡ answer.Accepted
+  pub to_full_reads : (file old room : List ℕ) → to_full_test file (length old) ≡ Ok tt
       → (unpack_answer (to_full_leaves file old) (length room) ≡ unpack_short_answer file (length room))
       × (unpack_leaves (to_full_leaves file old) room ≡ unpack_short_leaves file room)
   -- ---- there and back
-  pub there_and_back : (file old back : List ℕ) → AllBytes file → to_short_test file (length old) ≡ answer.Accepted
+  pub there_and_back : (file old back : List ℕ) → AllBytes file → to_short_test file (length old) ≡ Ok tt
       → length back ≡ length file
-      → (to_full_test (to_short_leaves file old) (length back) ≡ answer.Accepted)
+      → (to_full_test (to_short_leaves file old) (length back) ≡ Ok tt)
       × (to_full_leaves (to_short_leaves file old) back ≡ file)
-  pub back_and_there : (file old back : List ℕ) → AllBytes file → to_full_test file (length old) ≡ answer.Accepted
+  pub back_and_there : (file old back : List ℕ) → AllBytes file → to_full_test file (length old) ≡ Ok tt
       → length back ≡ length file
-      → (to_short_test (to_full_leaves file old) (length back) ≡ answer.Accepted)
+      → (to_short_test (to_full_leaves file old) (length back) ≡ Ok tt)
       × (to_short_leaves (to_full_leaves file old) back ≡ file)
   -- ---- every file, beside what its reader answers, lent room for the taps: accepted or refused, for which one fault,
   -- when with 19 and when with 8; every full file has a short form
@@ -75,10 +73,10 @@ pub record Request8 : Type 0 where
   -- edition, and the length fits
   pub call_to_short_accepts : (file old new : List ℕ) (code : ℕ) → ToShortCall file old code new
       → (code ≡ 0)
-      ↔ ((d : Digest) × (unpack_answer file (tap_words (batches_in file)) ≡ Accepted d) × FitsShort file (length old))
+      ↔ ((d : List ℕ) × (unpack_answer file (tap_words (batches_in file)) ≡ Ok d) × FitsShort file (length old))
   pub call_to_full_accepts : (file old new : List ℕ) (code : ℕ) → ToFullCall file old code new
       → (code ≡ 0)
-      ↔ ((d : Digest) × (unpack_short_answer file (tap_words (short_batches_in file)) ≡ Accepted d)
+      ↔ ((d : List ℕ) × (unpack_short_answer file (tap_words (short_batches_in file)) ≡ Ok d)
       × (NoFullForm file → ⊥) × FitsFull file (length old))
   -- there and back
   pub calls_there_and_back : (file old new back back' : List ℕ) (code : ℕ) → AllBytes file → ToShortCall file old 0 new

@@ -4,15 +4,10 @@
 -- batches than a full one can have has no full form. Demands 1 to 3 and requests 1 to 8 hold for all of these k: they
 -- are stated over `IsPermitted`.
 -- Assumes nothing.
-use Rattle.std.specs.Prelude.{◌≡◌, List, ◌↔◌, ◌⊎◌, ℕ, ◌+◌, ◌*◌, ◌^◌, ◌≤◌, ◌<◌, length}
+use Rattle.std.specs.Prelude.{◌≡◌, List, ◌↔◌, ◌⊎◌, ℕ, ◌+◌, ◌*◌, ◌^◌, ◌≤◌, ◌<◌, length, Ok, Err}
 use Rattle.field_words.specs.Words.{AllCanonical}
 use Rattle.numbers.specs.Numbers.{trace_row_count, trace_words, tap_words, IsPermittedTo, IsPermitted, most_batches}
-use Rattle.refusals.specs.Refusals.{digest, digest_words}
 use Rattle.refusals.specs.declared.Refusal.TheVariants.{TapLength, TraceLength, WrongValue}
-use Rattle.refusals.specs.declared.Answer.TheVariants as answer
-use Rattle.refusals.specs.declared.Digest.{Digest}
-use Rattle.refusals.specs.declared.DigestAnswer.TheVariants.{Accepted, Refused}
-use Rattle.refusals.specs.declared.TestsAnswer.TheVariants as tests
 use Rattle.table.specs.Table.{table_test}
 use Rattle.hash.specs.Hash.{chain}
 use Rattle.hash_chain.specs.Answers.{chain_answer}
@@ -50,63 +45,63 @@ pub record Request9 : Type 0 where
   pub permitted_exactly : (k : ℕ) → IsPermitted k ↔ ((j : ℕ) × (j ≤ 18) × (k ≡ 2 ^ j))
   pub full_exactly : (k : ℕ) → IsPermittedTo most_file_batches k ↔ ((j : ℕ) × (j ≤ 10) × (k ≡ 2 ^ j))
   -- ---- 5: exactly where the words are not as many as the taps of so many batches
-  pub chain_5 : (T w : List ℕ) → table_test T ≡ answer.Accepted
-      → (chain_answer T w ≡ Refused TapLength) ↔ (TapsFit most_batches w → ⊥)
-  pub build_5 : (T w : List ℕ) (size : ℕ) → table_test T ≡ answer.Accepted
-      → (build_answer T w size ≡ Refused TapLength) ↔ (TapsFit most_batches w → ⊥)
+  pub chain_5 : (T w : List ℕ) → table_test T ≡ Ok tt
+      → (chain_answer T w ≡ Err TapLength) ↔ (TapsFit most_batches w → ⊥)
+  pub build_5 : (T w : List ℕ) (size : ℕ) → table_test T ≡ Ok tt
+      → (build_answer T w size ≡ Err TapLength) ↔ (TapsFit most_batches w → ⊥)
   pub pack_5 : (w claim : List ℕ) (size : ℕ)
-      → (pack_test w claim size ≡ answer.Refused TapLength) ↔ (TapsFit most_file_batches w → ⊥)
+      → (pack_test w claim size ≡ Err TapLength) ↔ (TapsFit most_file_batches w → ⊥)
   pub pack_short_5 : (w claim : List ℕ) (size : ℕ)
-      → (pack_short_test w claim size ≡ answer.Refused TapLength) ↔ (TapsFit most_batches w → ⊥)
+      → (pack_short_test w claim size ≡ Err TapLength) ↔ (TapsFit most_batches w → ⊥)
   -- ---- 7: exactly where the words are not as many as a trace of so many batches has
-  pub check_7 : (T t claim : List ℕ) (c : ℕ) → table_test T ≡ answer.Accepted
-      → (check_answer T t claim c ≡ tests.Refused TraceLength) ↔ (RowsFit t → ⊥)
-  pub read_off_7 : (T t claim : List ℕ) (c size : ℕ) → table_test T ≡ answer.Accepted
-      → (read_off_answer T t claim c size ≡ tests.Refused TraceLength) ↔ (RowsFit t → ⊥)
-  pub edit_7 : (T t claim : List ℕ) (c n : ℕ) (new : List ℕ) → table_test T ≡ answer.Accepted
-      → (edit_answer T t claim c n new ≡ Refused TraceLength) ↔ (RowsFit t → ⊥)
+  pub check_7 : (T t claim : List ℕ) (c : ℕ) → table_test T ≡ Ok tt
+      → (check_answer T t claim c ≡ Err TraceLength) ↔ (RowsFit t → ⊥)
+  pub read_off_7 : (T t claim : List ℕ) (c size : ℕ) → table_test T ≡ Ok tt
+      → (read_off_answer T t claim c size ≡ Err TraceLength) ↔ (RowsFit t → ⊥)
+  pub edit_7 : (T t claim : List ℕ) (c n : ℕ) (new : List ℕ) → table_test T ≡ Ok tt
+      → (edit_answer T t claim c n new ≡ Err TraceLength) ↔ (RowsFit t → ⊥)
   -- ---- 14 with word 0: exactly where that is no count of so many batches; by the converter to the full edition, in a
   -- short file, no count of so many as a full file has
   pub unpack_14 : (file : List ℕ) (size : ℕ)
-      → (unpack_answer file size ≡ Refused (WrongValue 0)) ↔ WrongCount file most_file_batches count_word
+      → (unpack_answer file size ≡ Err (WrongValue 0)) ↔ WrongCount file most_file_batches count_word
   pub unpack_short_14 : (file : List ℕ) (size : ℕ)
-      → (unpack_short_answer file size ≡ Refused (WrongValue 0)) ↔ WrongCount file most_batches short_count_word
+      → (unpack_short_answer file size ≡ Err (WrongValue 0)) ↔ WrongCount file most_batches short_count_word
   pub to_full_14 : (file : List ℕ) (size : ℕ)
-      → (to_full_test file size ≡ answer.Refused (WrongValue 0))
+      → (to_full_test file size ≡ Err (WrongValue 0))
       ↔ (HasMark file short_mark × WrongCount file most_file_batches short_count_word)
   -- ---- a list of 24580 words, which got 5 everywhere, is of 2048 batches, and still gets 5 from the full edition's
   -- writer
-  pub chains_24580 : (T w : List ℕ) → table_test T ≡ answer.Accepted → length w ≡ 24580 → AllCanonical w
-      → chain_answer T w ≡ Accepted (digest (chain T w 2048))
-  pub builds_24580 : (T w old : List ℕ) → table_test T ≡ answer.Accepted → length w ≡ 24580 → AllCanonical w
+  pub chains_24580 : (T w : List ℕ) → table_test T ≡ Ok tt → length w ≡ 24580 → AllCanonical w
+      → chain_answer T w ≡ Ok (chain T w 2048)
+  pub builds_24580 : (T w old : List ℕ) → table_test T ≡ Ok tt → length w ≡ 24580 → AllCanonical w
       → length old ≡ trace_words 2048
-      → (build_answer T w (length old) ≡ Accepted (digest (chain T w 2048))) × (build_leaves T w old ≡ trace T w 2048)
+      → (build_answer T w (length old) ≡ Ok (chain T w 2048)) × (build_leaves T w old ≡ trace T w 2048)
   pub packs_24580 : (w claim : List ℕ) (size : ℕ) → length w ≡ 24580 → AllCanonical w → length claim ≡ 4
       → AllCanonical claim
-      → (pack_short_test w claim (short_file_size w claim) ≡ answer.Accepted)
-      × (pack_test w claim size ≡ answer.Refused TapLength)
+      → (pack_short_test w claim (short_file_size w claim) ≡ Ok tt)
+      × (pack_test w claim size ≡ Err TapLength)
   -- ---- short files already stored: what the reader before U9 accepted is accepted, with the same claim and taps
-  pub stored_reads : (file old : List ℕ) (d : Digest) → stored_unpack_answer file (length old) ≡ Accepted d
-      → (unpack_short_answer file (length old) ≡ Accepted d)
+  pub stored_reads : (file old d : List ℕ) → stored_unpack_answer file (length old) ≡ Ok d
+      → (unpack_short_answer file (length old) ≡ Ok d)
       × (unpack_short_leaves file old ≡ stored_unpack_leaves file old)
   -- and every other file gets the answer that it got, but where word 0 counts more than 1024 batches, which got 14
   pub stored_answers : (file old : List ℕ)
       → ((unpack_short_answer file (length old) ≡ stored_unpack_answer file (length old))
       × (unpack_short_leaves file old ≡ stored_unpack_leaves file old))
-      ⊎ (NoFullForm file × (stored_unpack_answer file (length old) ≡ Refused (WrongValue 0)))
+      ⊎ (NoFullForm file × (stored_unpack_answer file (length old) ≡ Err (WrongValue 0)))
   -- what the writer wrote it writes
-  pub stored_writes : (taps claim old : List ℕ) → stored_pack_test taps claim (length old) ≡ answer.Accepted
-      → (pack_short_test taps claim (length old) ≡ answer.Accepted)
+  pub stored_writes : (taps claim old : List ℕ) → stored_pack_test taps claim (length old) ≡ Ok tt
+      → (pack_short_test taps claim (length old) ≡ Ok tt)
       × (pack_short_leaves taps claim old ≡ stored_pack_leaves taps claim old)
   -- ---- a larger short file has no full form: the converter refuses it with 14 and writes nothing, whatever comes
   -- after word 0 and however long the destination is
   pub larger_refused : (file old : List ℕ) → NoFullForm file
-      → (to_full_test file (length old) ≡ answer.Refused (WrongValue 0)) × (to_full_leaves file old ≡ old)
+      → (to_full_test file (length old) ≡ Err (WrongValue 0)) × (to_full_leaves file old ≡ old)
   -- of a file that the short edition's reader accepts, with the claim d and the taps that it leaves in room: it is such
   -- a one exactly where Unpack reads that claim and those taps from no bytes
-  pub no_form_exactly : (file room : List ℕ) (d : Digest) → unpack_short_answer file (length room) ≡ Accepted d
+  pub no_form_exactly : (file room d : List ℕ) → unpack_short_answer file (length room) ≡ Ok d
       → NoFullForm file
-      ↔ ((full : List ℕ) → unpack_answer full (length room) ≡ Accepted d
+      ↔ ((full : List ℕ) → unpack_answer full (length room) ≡ Ok d
       → unpack_leaves full room ≡ unpack_short_leaves file room → ⊥)
   -- ---- each part of a returned word has room at every permitted k, so that no answer loses anything by its bits
   -- (demand 1): the row of refusal 11, its place among the tests and the number of all tests, the index in a trace, in
@@ -116,10 +111,10 @@ pub record Request9 : Type 0 where
       × (1 + 3 * element_count k < 2 ^ 28)
   -- ---- from another language, with `'` on what a buffer holds afterwards
   -- a stored file is read as it was
-  pub call_stored : (file taps taps' claim claim' : List ℕ) (code : ℕ) (d : Digest)
-      → stored_unpack_answer file (length taps) ≡ Accepted d → length claim ≡ 4
+  pub call_stored : (file taps taps' claim claim' : List ℕ) (code : ℕ) (d : List ℕ)
+      → stored_unpack_answer file (length taps) ≡ Ok d → length claim ≡ 4
       → UnpackShortCall file code taps taps' claim claim'
-      → (code ≡ 0) × (taps' ≡ stored_unpack_leaves file taps) × (claim' ≡ digest_words d)
+      → (code ≡ 0) × (taps' ≡ stored_unpack_leaves file taps) × (claim' ≡ d)
   -- the full edition takes no more than it took: 5 from its writer, 14 from the converter to it, and nothing is written
   pub call_pack_5 : (w claim old new : List ℕ) (code : ℕ) → PackCall w claim old code new
       → (TapsFit most_file_batches w → ⊥) → (code ≡ refusal_code TapLength) × (new ≡ old)

@@ -2,21 +2,18 @@
 -- 1024 batches. By this, short files that are already stored were written and read. The elements, the mark and the file
 -- of k batches are those of the definitions of now, which U9 left as they were. And one such file, byte by byte.
 -- Assumes nothing.
-use Rattle.std.specs.Prelude.{List, [], ◌∷◌, ◌++◌, ℕ, ◌/◌, ◌%◌, ◌^◌, eqb, leb, length, replicate}
+use Rattle.std.specs.Prelude.{List, [], ◌∷◌, ◌++◌, ℕ, ◌/◌, ◌%◌, ◌^◌, eqb, leb, length, replicate, Result, Ok}
 use Rattle.field_words.specs.Words.{first_bad, canonical_words}
 use Rattle.numbers.specs.Numbers.{tap_words, permitted, is_tap_length}
-use Rattle.refusals.specs.Refusals.{digest}
-use Rattle.refusals.specs.Answers.{unless, after, digest_after, leaves}
+use Rattle.refusals.specs.Answers.{Answer, unless, after, with_value, leaves}
 use Rattle.refusals.specs.declared.Refusal.TheVariants.{TapLength, TapWord, DestinationLength, ClaimWord}
 use Rattle.refusals.specs.declared.Refusal.TheVariants.{FileLength, WrongKind, WrongValue}
-use Rattle.refusals.specs.declared.Answer.{Answer}
-use Rattle.refusals.specs.declared.Answer.TheVariants.{Accepted}
-use Rattle.refusals.specs.declared.DigestAnswer.{DigestAnswer}
 use Rattle.board_words.specs.Words.{kind_of, payload_of, word_at}
 use Rattle.board.specs.Board.{element_count}
 use Rattle.board_short_read.specs.Reading.{first_word, shorts_at, shorts_test}
 use Rattle.board_short.specs.ShortBoard.{short_file_size, packed_short, mark_in, short_claim_in}
 use Rattle.known_days.specs.Files.{FileOf, ShortFile, repeated}
+use Rattle.refusals.specs.declared.Refusal.{Refusal}
 
 -- the most batches of a short file
 abbrev pub most_stored : ℕ
@@ -29,7 +26,7 @@ stored_pack_test taps claim size =
     (unless (eqb size (short_file_size taps claim)) DestinationLength
     (unless (canonical_words claim) (ClaimWord (first_bad claim))
     (unless (canonical_words taps) (TapWord (first_bad taps))
-    Accepted)))
+    (Ok tt))))
 
 unfoldable pub stored_pack_leaves : List ℕ → List ℕ → List ℕ → List ℕ
 stored_pack_leaves taps claim old = leaves (stored_pack_test taps claim (length old)) (packed_short taps claim) old
@@ -56,7 +53,7 @@ stored_count_test w =
     (unless (eqb (mark_in w) 1) (WrongValue 0)
     (unless (eqb (stored_spare_in w) 0) (WrongValue 0)
     (unless (permitted most_stored (stored_count_in w)) (WrongValue 0)
-    Accepted)))
+    (Ok tt))))
 
 unfoldable pub stored_unpack_test : List ℕ → ℕ → Answer
 stored_unpack_test file size =
@@ -65,8 +62,8 @@ stored_unpack_test file size =
     (unless (eqb size (tap_words (stored_batches_in file))) DestinationLength
     (shorts_test file 1 (element_count (stored_batches_in file)))))
 
-unfoldable pub stored_unpack_answer : List ℕ → ℕ → DigestAnswer
-stored_unpack_answer file size = digest_after (stored_unpack_test file size) (digest (short_claim_in file))
+unfoldable pub stored_unpack_answer : List ℕ → ℕ → Result (List ℕ) Refusal
+stored_unpack_answer file size = with_value (stored_unpack_test file size) (short_claim_in file)
 
 unfoldable pub stored_unpack_leaves : List ℕ → List ℕ → List ℕ
 stored_unpack_leaves file old = leaves (stored_unpack_test file (length old)) (stored_taps_in file) old

@@ -14,7 +14,6 @@ use Rattle.refusals.specs.declared.Refusal.TheVariants.{TableLength, TableWord, 
 use Rattle.refusals.specs.declared.Refusal.TheVariants.{TapWord, TraceLength, DestinationLength, ClaimWord, TraceWord}
 use Rattle.refusals.specs.declared.Refusal.TheVariants.{Constraint, FileLength, WrongKind, WrongValue, NoSuchTap}
 use Rattle.refusals.specs.declared.Refusal.TheVariants.{NoPair, ClaimBatches}
-use Rattle.refusals.specs.declared.Answer.{Answer}
 use Rattle.matrix.specs.Matrix.{Kernel, entry}
 use Rattle.table.specs.Table.{raw_words, table_words, IsFirstUnlike, raw_matrix, table_test, Prepares}
 use Rattle.hash.specs.Answers.{hash_test}
@@ -28,13 +27,16 @@ use Rattle.trace_edit.specs.Answers.{edit_test}
 use Rattle.hash_undo.specs.Answers.{unhash_test}
 use Rattle.board_words.specs.Words.{kind_of, word_at}
 use Rattle.board_words.specs.Elements.{element_at, IsElement}
-use Rattle.board.specs.Board.{most_file_batches, count_word, file_size, element_count, pack_test, batches_in, unpack_test}
+use Rattle.board.specs.Board.{most_file_batches, count_word, file_size, element_count, pack_test, batches_in}
+use Rattle.board.specs.Board.{unpack_test}
 use Rattle.board_short.specs.ShortBoard.{short_file_size, pack_short_test}
 use Rattle.call_results.specs.Code.{tests_code, number_in, Says}
-use Rattle.call_results.specs.HandsOver.{HandsOver, HandsOverState}
-use Rattle.call_answers.specs.Calls.{PrepareCall, hash_call, chain_call, BuildCall, ReadOffCall, EditCall, UnhashCall, PackCall}
+use Rattle.call_results.specs.HandsOver.{HandsOver}
+use Rattle.call_answers.specs.Calls.{PrepareCall, hash_call, chain_call, BuildCall, ReadOffCall, EditCall, UnhashCall}
+use Rattle.call_answers.specs.Calls.{PackCall}
 use Rattle.call_answers.specs.Calls.{UnpackCall, PackShortCall}
 use Rattle.demands.specs.Request5.{EndsIn}
+use Rattle.refusals.specs.Answers.{Answer}
 
 -- ---- the table: 1, 2, 4
 abbrev pub table_causes : List ℕ → Refusal → Type 0
@@ -220,7 +222,7 @@ pub record TurnedBack : Type 0 where
       → SaidFor (prepare_causes raw (length old)) code
   pub hash : (T words : List ℕ) → DecidedBy (hash_causes T words) (hash_test T words)
   pub hash_called : (T words output output' : List ℕ) (code : ℕ) → length words ≡ 8
-      → HandsOverState (hash_call T words (length output)) code output output'
+      → HandsOver (hash_call T words (length output)) code output output'
       → SaidFor (hash_call_causes T words (length output)) code
   pub chain : (T w : List ℕ) → DecidedBy (chain_causes T w) (chain_test T w)
   pub chain_called : (T w output output' : List ℕ) (code : ℕ)

@@ -9,14 +9,17 @@ ghost use Rattle.field.specs.Gathering.{appended};
 
 // An element, by its canonical word.
 #[derive(Clone, Copy)]
-pub struct Fp(pub u64);
+pub struct Fp {
+    pub word: u64,
+    pub ghost canonical: { Canonical word },
+}
 
 impl Fp {
     pub const P: u64 = field::P;
 
-    pub const ZERO: Fp = Fp(0);
+    pub const ZERO: Fp = Fp { word: 0 };
 
-    pub const ONE: Fp = Fp(1);
+    pub const ONE: Fp = Fp { word: 1 };
 
     // (2p - 1) / 3, the exponent of the cube root
     pub const THIRD: u64 = 1537228730075359915;
@@ -29,77 +32,72 @@ impl Fp {
 
     pub fn of(word: u64) -> Fp
         requires { Canonical word }
-        ensures { (result.0 ≡ word) × Canonical result.0 }
+        ensures { result.word ≡ word }
     {
-        Fp(word)
+        Fp { word }
     }
 
     pub fn add(self, other: Fp) -> Fp
-        requires { Canonical self.0 × Canonical other.0 }
-        ensures { (result.0 ≡ add self.0 other.0) × Canonical result.0 }
+        ensures { result.word ≡ add self.word other.word }
     {
-        let sum = self.0 + other.0;
-        if sum < Fp::P {
-            Fp(sum)
-        } else {
-            Fp(sum - Fp::P)
-        }
+        let sum = self.word + other.word;
+        let word = if sum < Fp::P { sum } else { sum - Fp::P };
+        Fp { word }
     }
 
     pub fn sub(self, other: Fp) -> Fp
-        requires { Canonical self.0 × Canonical other.0 }
-        ensures { (result.0 ≡ sub self.0 other.0) × Canonical result.0 }
+        ensures { result.word ≡ sub self.word other.word }
     {
-        let a = self.0;
-        let b = other.0;
-        if b <= a { Fp(a - b) } else { Fp(a + Fp::P - b) }
+        let a = self.word;
+        let b = other.word;
+        let word = if b <= a { a - b } else { a + Fp::P - b };
+        Fp { word }
     }
 
     pub fn neg(self) -> Fp
-        requires { Canonical self.0 }
-        ensures { (result.0 ≡ neg self.0) × Canonical result.0 }
+        ensures { result.word ≡ neg self.word }
     {
-        let a = self.0;
-        if a == 0 { Fp::ZERO } else { Fp(Fp::P - a) }
+        let a = self.word;
+        let word = if a == 0 { 0 } else { Fp::P - a };
+        Fp { word }
     }
 
+    // By the digits of the other from the top: after each there is one word below p, self times the digits so far.
     pub fn mul(self, other: Fp) -> Fp
-        requires { Canonical self.0 × Canonical other.0 }
-        ensures { (result.0 ≡ mul self.0 other.0) × Canonical result.0 }
+        ensures { result.word ≡ mul self.word other.word }
     {
-        Fp(product(self.0, other.0))
+        let b = other.word;
+        let first = append(Fp::ZERO, self, b / TWO_DIGITS);
+        let second = append(first, self, b / DIGIT % DIGIT);
+        append(second, self, b % DIGIT)
     }
 
     pub fn square(self) -> Fp
-        requires { Canonical self.0 }
-        ensures { (result.0 ≡ square self.0) × Canonical result.0 }
+        ensures { result.word ≡ square self.word }
     {
         self.mul(self)
     }
 
     pub fn pow(self, exponent: u64) -> Fp
-        requires { Canonical self.0 }
-        ensures { (result.0 ≡ power self.0 exponent) × Canonical result.0 }
+        ensures { result.word ≡ power self.word exponent }
     {
-        let q = field_montgomery::quotient(self.0);
-        let v = field_montgomery::enter(self.0, q);
-        Fp(field_montgomery::leave(
-            field_montgomery::power_times(field_montgomery::ONE, v, exponent, q),
-            q,
-        ))
+        let q = field_montgomery::quotient(self.word);
+        let v = field_montgomery::enter(self.word, q);
+        let w = field_montgomery::power_times(field_montgomery::ONE, v, exponent, q);
+        Fp {
+            word: field_montgomery::leave(w, q),
+        }
     }
 
     pub fn root(self) -> Fp
-        requires { Canonical self.0 }
-        ensures { (result.0 ≡ root self.0) × Canonical result.0 }
+        ensures { result.word ≡ root self.word }
     {
         self.pow(Fp::THIRD)
     }
 
     // The inverse of an element that is not 0, as x^(p - 2).
     pub fn inverse(self) -> Fp
-        requires { Canonical self.0 }
-        ensures { (result.0 ≡ inverse self.0) × Canonical result.0 }
+        ensures { result.word ≡ inverse self.word }
     {
         self.pow(Fp::P - 2)
     }
@@ -120,23 +118,17 @@ const TOP: u64 = 1099511627776;
 const FOLD: u64 = 85899345921;
 
 // A step of the product: the word moved up by a digit, plus a times the next digit.
-fn append(word: u64, a: u64, digit: u64) -> u64
-    requires { Canonical word × Canonical a × (digit < 2 ^ 21) }
-    ensures { (result ≡ appended word a digit) × Canonical result }
+fn append(word: Fp, a: Fp, digit: u64) -> Fp
+    requires { digit < 2 ^ 21 }
+    ensures { result.word ≡ appended word.word a.word digit }
 {
-    let low = a % field_montgomery::HALF * digit;
-    let upper = a / field_montgomery::HALF * digit * UPPER + low / DIGIT + word;
-    let kept = upper % TOP * DIGIT + low % DIGIT;
-    let folded = upper / TOP * FOLD;
-    Fp(kept).sub(Fp(folded)).0
-}
-
-// a * b, by the digits of b from the top. After each step there is one word below p: a times the digits so far.
-fn product(a: u64, b: u64) -> u64
-    requires { Canonical a × Canonical b }
-    ensures { (result ≡ mul a b) × Canonical result }
-{
-    let first = append(0, a, b / TWO_DIGITS);
-    let second = append(first, a, b / DIGIT % DIGIT);
-    append(second, a, b % DIGIT)
+    let low = a.word % field_montgomery::HALF * digit;
+    let upper = a.word / field_montgomery::HALF * digit * UPPER + low / DIGIT + word.word;
+    let kept = Fp {
+        word: upper % TOP * DIGIT + low % DIGIT,
+    };
+    let folded = Fp {
+        word: upper / TOP * FOLD,
+    };
+    kept.sub(folded)
 }

@@ -1,32 +1,29 @@
-// Twelve products at a time, in Montgomery's form. Each loop is one that the compiler makes vector code of: it takes
-// the second factor by value or from the same array (tests/vectors.sh).
+// Twelve products at a time, in Montgomery's form. The compiler makes vector code of both loops (tests/vectors.sh).
 #![tactic(auto)]
 
-ghost use Rattle.std.specs.Prelude.{◌≡◌, length};
+ghost use Rattle.std.specs.Prelude.{◌≡◌};
 ghost use Rattle.field.specs.MontgomeryHelpers.{quotient};
-ghost use Rattle.field_words.specs.Words.{CanonicalTo};
-ghost use Rattle.numbers.specs.Numbers.{width};
 ghost use Rattle.field_products.specs.CellHelpers.{word_products};
 
-use numbers::WIDTH;
+use field_words::Cells;
 
 // Each cell of a times that of b.
-pub fn multiply(a: &mut [u64; WIDTH], b: [u64; WIDTH], q: u32)
-    requires { (length a.old ≡ width) × CanonicalTo width a.old × CanonicalTo width b × (q ≡ quotient) }
-    ensures { a.new ≡ word_products a.old b }
+pub fn multiply(a: &mut Cells, b: Cells, q: u32)
+    requires { q ≡ quotient }
+    ensures { a.new.words ≡ word_products a.old.words b.words }
 {
-    for j in 0..WIDTH {
-        a[j] = field_montgomery::times(a[j], b[j], q);
+    // `iter_mut().zip(b.words)` was no vector code.
+    for (j, x) in a.words.iter_mut().enumerate() {
+        *x = field_montgomery::times(*x, b.words[j], q);
     }
 }
 
 // Each cell of a times itself.
-pub fn square(a: &mut [u64; WIDTH], q: u32)
-    requires { (length a.old ≡ width) × CanonicalTo width a.old × (q ≡ quotient) }
-    ensures { a.new ≡ word_products a.old a.old }
+pub fn square(a: &mut Cells, q: u32)
+    requires { q ≡ quotient }
+    ensures { a.new.words ≡ word_products a.old.words a.old.words }
 {
-    for j in 0..WIDTH {
-        let x = a[j];
-        a[j] = field_montgomery::times(x, x, q);
+    for x in a.words.iter_mut() {
+        *x = field_montgomery::times(*x, *x, q);
     }
 }

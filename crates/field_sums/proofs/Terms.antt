@@ -1,6 +1,7 @@
 -- A term of a sum of products: the bounds of its four products, and what they make up.
 -- Assumes nothing.
-use Rattle.std.proofs.Common.{◌≡◌, ℕ, ◌+◌, ◌-◌, ◌*◌, ◌/◌, ◌%◌, ◌^◌, ◌<◌, ◌≤◌, sym, ap, ◌∙◌, ap₂, add-zero, mul-le-mul, arith}
+use Rattle.std.proofs.Common.{◌≡◌, ℕ, ◌+◌, ◌-◌, ◌*◌, ◌/◌, ◌%◌, ◌^◌, ◌<◌, ◌≤◌, sym, ap, ◌∙◌, ap₂, add-zero, mul-le-mul}
+use Rattle.std.proofs.Common.{arith}
 use native.Mathlib.Nat.{mod-add-mod, mod-add-div}
 use Rattle.field.specs.Field.{P, Canonical}
 use Rattle.field.specs.Gathering.{lowered, gathered}
@@ -92,9 +93,6 @@ module _ (word low high x : ℕ) (t : Term word low high x) where
       below a b z n h e l = omega arith
 
 -- ---- the word between the two terms of a step
-pub canonical_loose : (v : ℕ) → Canonical v → Loose v
-canonical_loose v h = omega arith
-
 pub loose_low : (y l : ℕ) → y ≤ 1729382343346488011 → Loose (y + P - l * 536870932)
 loose_low y l h = omega arith
 

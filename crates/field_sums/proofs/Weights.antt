@@ -2,14 +2,12 @@
 -- Assumes nothing.
 use Rattle.std.proofs.Common.{◌≡◌, ℕ, ◌*◌, ◌%◌, ◌^◌, ◌<◌, List, [], ◌∷◌, replicate, sym, refl, ap, ◌∙◌, mul_comm}
 use lib.ListN.{get_or-replicate}
-use Rattle.lists.specs.Lists.{cell, tab, first}
+use Rattle.lists.specs.Lists.{cell, tab}
 use Rattle.lists.proofs.Tab.{cell_tab, tab_ext}
 use Rattle.field.specs.Field.{P, mul}
 use Rattle.field.specs.MontgomeryHelpers.{divided, times_word}
 use Rattle.field.proofs.Forms.{times_scaled, times_comm}
 use Rattle.field.proofs.Modular.{mul_mod_r}
-use Rattle.field_words.specs.Words.{CanonicalTo, first_bad}
-use Rattle.field_words.proofs.Laws.{good_all}
 use Rattle.field_products.specs.CellHelpers.{word_products}
 use Rattle.field_sums.specs.Sums.{weight}
 
@@ -30,7 +28,7 @@ raised_law s =
     ∙ scaled_by 54958401520256 (2 ^ 31) (cell s j) refl)
 
 -- the constants of `field_sums::weighted`
-abbrev pub weights : List ℕ
+abbrev weights : List ℕ
 weights =
     1753051999233102296
     ∷ 1521519387365323426
@@ -56,10 +54,6 @@ are_weights j h =
     sym (cell_tab 12 (λ i. divided (cell weights i)) j h)
     ∙ ap (λ s. cell s j) all_weights
     ∙ cell_tab 12 (λ i. weight i % P) j h
-
-pub weights_canonical : CanonicalTo 12 weights
-unfolding first_bad first
-weights_canonical = good_all weights refl
 
 pub weighted_law : (s : List ℕ) → word_products weights s ≡ tab 12 (λ j. weight j * cell s j % P)
 unfolding word_products

@@ -1,7 +1,8 @@
 -- The words of a sum of products: each is made of the one before and the next two terms, and is the part gathered so
 -- far.
 -- Assumes nothing.
-use Rattle.std.proofs.Common.{◌≡◌, ℕ, zero, suc, ◌+◌, ◌-◌, ◌*◌, ◌%◌, ◌^◌, ◌<◌, ◌≤◌, sym, ap, ◌∙◌, ap₂, mod-lt, one-mul, add-one, arith, pow-add}
+use Rattle.std.proofs.Common.{◌≡◌, ℕ, zero, suc, ◌+◌, ◌-◌, ◌*◌, ◌%◌, ◌^◌, ◌<◌, ◌≤◌, sym, ap, ◌∙◌, ap₂, mod-lt, one-mul}
+use Rattle.std.proofs.Common.{add-one, arith, pow-add}
 use native.Mathlib.Nat.{add-mod-mod, mod-add-mod}
 use Rattle.lists.specs.Lists.{sum}
 use Rattle.lists.proofs.Sum.{sum_suc}

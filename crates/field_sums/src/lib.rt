@@ -7,12 +7,12 @@ ghost use Rattle.lists.specs.Lists.{cell, tab};
 ghost use Rattle.field.specs.Field.{P, Canonical};
 ghost use Rattle.field.specs.Gathering.{gathered};
 ghost use Rattle.field.specs.MontgomeryHelpers.{quotient};
-ghost use Rattle.field_words.specs.Words.{CanonicalTo};
 ghost use Rattle.numbers.specs.Numbers.{width};
 ghost use Rattle.field_sums.specs.Sums.{weight};
 ghost use Rattle.field_sums.specs.TermHelpers.{Term, Loose, loose_word};
 
 use field_elements::Fp;
+use field_words::Cells;
 use numbers::WIDTH;
 
 // 2^31, at which a factor below p is split into digits.
@@ -38,21 +38,23 @@ const WEIGHTS: [u64; WIDTH] = [
 ];
 
 // Each cell times the weight of its term.
-pub fn weighted(s: [u64; WIDTH], q: u32) -> [u64; WIDTH]
-    requires { CanonicalTo width s × (q ≡ quotient) }
-    ensures { (result ≡ tab width (λ j. weight j * cell s j % P)) × CanonicalTo width result }
+pub fn weighted(s: Cells, q: u32) -> Cells
+    requires { q ≡ quotient }
+    ensures { result.words ≡ tab width (λ j. weight j * cell s.words j % P) }
 {
-    let mut out = WEIGHTS;
+    let mut out = Cells { words: WEIGHTS };
     field_products::multiply(&mut out, s, q);
     out
 }
 
 // Each cell times 2^31.
-pub fn raised(s: [u64; WIDTH], q: u32) -> [u64; WIDTH]
-    requires { CanonicalTo width s × (q ≡ quotient) }
-    ensures { (result ≡ tab width (λ j. 2 ^ 31 * cell s j % P)) × CanonicalTo width result }
+pub fn raised(s: Cells, q: u32) -> Cells
+    requires { q ≡ quotient }
+    ensures { result.words ≡ tab width (λ j. 2 ^ 31 * cell s.words j % P) }
 {
-    let mut out = [SHIFT; WIDTH];
+    let mut out = Cells {
+        words: [SHIFT; WIDTH],
+    };
     field_products::multiply(&mut out, s, q);
     out
 }

@@ -17,7 +17,7 @@ use Rattle.field_roots.proofs.Scaled.{root_scaled}
 use Rattle.matrix.specs.Matrix.{times_column}
 use Rattle.matrix_ready.specs.MixingHelpers.{ready_entry}
 use Rattle.table.specs.ReadyHelpers.{ready_matrix}
-use Rattle.table.proofs.Ready.{ready_times}
+use Rattle.table.proofs.ReadyLaws.{ready_times}
 use Rattle.hash.specs.Hash.{roots, cubes, mix}
 use Rattle.hash.specs.HashHelpers.{montgomery_cube}
 

@@ -1,19 +1,17 @@
 -- What the tests of Chain say where they accept, that they accept what passes each of them, and the output that a state
 -- begins with.
 -- Assumes nothing.
-use mathlib.Core.Path.{◌≡◌, sym}
-use mathlib.Core.List.{List}
-use Prim.Native.Nat.{ℕ, ◌+◌, ◌*◌, ◌<◌}
+use mathlib.Core.Path.{◌≡◌, refl}
+use mathlib.Core.List.{List, [], ◌∷◌}
+use Prim.Native.Nat.{ℕ, ◌+◌, ◌*◌, ◌≤◌}
 use native.Mathlib.Omega.{arith}
 use lib.ListN.{length, take}
-use lib.Seq.{get_or-take}
+use Rattle.std.specs.Prelude.{Ok}
 use Rattle.lists.specs.Lists.{cell}
 use Rattle.field_words.specs.Words.{AllCanonical}
 use Rattle.field_words.proofs.Laws.{good_test, test_good}
 use Rattle.numbers.specs.Numbers.{IsPermitted, most_batches, tap_word_batches}
 use Rattle.numbers.proofs.Laws.{tap_length_sound, tap_length_complete}
-use Rattle.refusals.specs.declared.Answer.TheVariants.{Accepted}
-use Rattle.refusals.specs.Refusals.{digest}
 use Rattle.refusals.proofs.Laws.{passed, both_accepted}
 use Rattle.table.specs.Table.{IsTable, table_test}
 use Rattle.table.proofs.Theorems.{test_sound, test_complete}
@@ -25,7 +23,7 @@ pub record ChainInputs (T w : List ℕ) (k : ℕ) : Type 0 where
   pub size : length w ≡ 12 * k + 4
   pub canonical : AllCanonical w
 
-pub chain_inputs : (T w : List ℕ) → chain_test T w ≡ Accepted → ChainInputs T w (tap_word_batches (length w))
+pub chain_inputs : (T w : List ℕ) → chain_test T w ≡ Ok tt → ChainInputs T w (tap_word_batches (length w))
 unfolding chain_test
 chain_inputs T w e =
     let a = both_accepted (table_test T) _ e in
@@ -38,7 +36,7 @@ chain_inputs T w e =
       canonical = good_test w (passed _ _ _ b.1).0;
     }
 
-pub chain_passes : (T w : List ℕ) (k : ℕ) → ChainInputs T w k → chain_test T w ≡ Accepted
+pub chain_passes : (T w : List ℕ) (k : ℕ) → ChainInputs T w k → chain_test T w ≡ Ok tt
 unfolding chain_test
 chain_passes T w k h = rw (
   test_complete T h.table,
@@ -47,14 +45,9 @@ chain_passes T w k h = rw (
 )
 
 -- ---- the output that a state begins with
-pub digest_take : (s : List ℕ) → digest s ≡ digest (take 4 s)
-digest_take s =
-    sym (λ i. record {
-      0 = at 0 (omega arith) i;
-      1 = at 1 (omega arith) i;
-      2 = at 2 (omega arith) i;
-      3 = at 3 (omega arith) i;
-    })
-  where
-    at : (j : ℕ) → j < 4 → cell (take 4 s) j ≡ cell s j
-    at j h = get_or-take 4 s j 0 h
+pub four_cells : (s : List ℕ) → 4 ≤ length s → cell s 0 ∷ cell s 1 ∷ cell s 2 ∷ cell s 3 ∷ [] ≡ take 4 s
+four_cells [] h = absurd (omega arith)
+four_cells (a ∷ []) h = absurd (omega arith)
+four_cells (a ∷ b ∷ []) h = absurd (omega arith)
+four_cells (a ∷ b ∷ c ∷ []) h = absurd (omega arith)
+four_cells (a ∷ b ∷ c ∷ d ∷ s) h = refl

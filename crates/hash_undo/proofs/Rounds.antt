@@ -11,8 +11,8 @@ use Rattle.hash.specs.Hash.{roots, cubes, mix, first_step, second_step, state_at
 use Rattle.hash.proofs.States.{IsState, roots_state, cubes_state, times_state, first_step_state, state_at_state}
 use Rattle.hash.proofs.States.{initial_state, second_constant_state}
 use Rattle.check_constraints.specs.Constraints.{minus, back_step}
-use Rattle.check_constraints.proofs.OneRound.{minus_state, minus_plus, plus_minus, cubes_roots, roots_cubes, step_undone}
-use Rattle.check_constraints.proofs.OneRound.{undone_step, back_step_state, back_first, first_back}
+use Rattle.check_constraints.proofs.OneRound.{minus_state, minus_plus, plus_minus, cubes_roots, roots_cubes}
+use Rattle.check_constraints.proofs.OneRound.{step_undone, undone_step, back_step_state, back_first, first_back}
 use Rattle.hash_undo.specs.Unhash.{second_step_undone, round_undone, rounds_undone, input_before}
 
 -- ---- states
@@ -61,7 +61,8 @@ module _ (T : List ℕ) (accepted : IsTable T) where
   unfolding rounds_undone state_at
   rounds_undone_lem s zero h = refl
   rounds_undone_lem s (suc r) h =
-      ap (rounds_undone T r) (round_undone_lem r (omega arith) (state_at_state T s r)) ∙ rounds_undone_lem s r (omega arith)
+      ap (rounds_undone T r) (round_undone_lem r (omega arith) (state_at_state T s r))
+      ∙ rounds_undone_lem s r (omega arith)
 
   undone_rounds : (s : List ℕ) (n : ℕ) → n ≤ 10 → {x : List ℕ} → IsState x → state_at T s 0 ≡ rounds_undone T n x
       → state_at T s n ≡ x

@@ -4,38 +4,40 @@
 ghost use Rattle.std.specs.Prelude.{◌≡◌, ◌<◌};
 ghost use Rattle.field_words.specs.Words.{CanonicalTo};
 ghost use Rattle.numbers.specs.Numbers.{width};
-ghost use Rattle.table.specs.Table.{IsTable};
-ghost use Rattle.check_steps.specs.StepHelpers.{back_ready};
 ghost use Rattle.hash_undo.specs.Unhash.{second_step_undone, rounds_undone, ends_in_zeros};
 ghost use Rattle.hash_undo.specs.Answers.{unhash_answer};
 
+use check_steps::BackReady;
+use field_words::Cells;
 use matrix_ready::READY_WORDS;
-use numbers::WIDTH;
-use refusals::{Answer, Pair, PairAnswer, Refusal};
+use numbers::{PAIR_WORDS, WIDTH};
+use refusals::Refusal;
 
 // 2^(64 THIRD (1 - 2 THIRD)) mod p: times this factor a root makes up for the scale of the inverse made ready, which is
 // the cube root of 2^128, and for cells that are taken for words of Montgomery's form.
 const ROOT_FACTOR: u64 = 1320274735724748368;
 
 // The second step of the round undone, to its middle state: s less its constant, times the inverse of M, then rooted.
-fn undo_second_step(inverse: &[u64], table: &[u64], round: usize, s: [u64; WIDTH]) -> [u64; WIDTH]
-    requires { IsTable table.now × (round < 10) × CanonicalTo width s × (inverse.now ≡ back_ready table.now) }
-    ensures { result ≡ second_step_undone table.now round s }
+fn undo_second_step(back: BackReady, round: usize, s: [u64; WIDTH]) -> [u64; WIDTH]
+    requires { (round < 10) × CanonicalTo width s }
+    ensures { result ≡ second_step_undone back.entry.table.now round s }
 {
-    let less = check_steps::less_second_step(table, round, s);
-    field_roots::scaled_roots(matrix_ready::mix(inverse, less), ROOT_FACTOR)
+    let less = Cells {
+        words: check_steps::minus(s, table::second_step_constant(back.table, round)),
+    };
+    field_roots::scaled_roots(matrix_ready::mix(back.inverse, less), ROOT_FACTOR).words
 }
 
 // The state before round 0, from the one after round 9: the last round is undone first.
-fn undo_rounds(inverse: &[u64], table: &[u64], s: [u64; WIDTH]) -> [u64; WIDTH]
-    requires { IsTable table.now × CanonicalTo width s × (inverse.now ≡ back_ready table.now) }
-    ensures { result ≡ rounds_undone table.now 10 s }
+fn undo_rounds(back: BackReady, s: [u64; WIDTH]) -> [u64; WIDTH]
+    requires { CanonicalTo width s }
+    ensures { result ≡ rounds_undone back.entry.table.now 10 s }
 {
     let mut state = s;
     for undone in 0..10 {
         let round = 9 - undone;
-        let middle = undo_second_step(inverse, table, round, state);
-        let before = check_steps::back_step(inverse, table, round, middle);
+        let middle = undo_second_step(back, round, state);
+        let before = check_steps::back_step(back, round, middle);
         state = before;
     }
     state
@@ -45,36 +47,27 @@ fn undo_rounds(inverse: &[u64], table: &[u64], s: [u64; WIDTH]) -> [u64; WIDTH]
 fn ends_in_zeros(input: [u64; WIDTH]) -> bool
     ensures { result ≡ ends_in_zeros input }
 {
-    if input[8] != 0 {
-        return false;
-    }
-    if input[9] != 0 {
-        return false;
-    }
-    if input[10] != 0 {
-        return false;
-    }
-    if input[11] != 0 {
-        return false;
-    }
-    true
+    input[PAIR_WORDS..].iter().all(|cell| *cell == 0)
 }
 
 // Unhash: 1, 2, 4, 6, 16. The cells are tested as Hash tests the words of its taps.
-pub fn unhash(table: &[u64], cells: [u64; WIDTH]) -> PairAnswer
+pub fn unhash(table: &[u64], cells: [u64; WIDTH]) -> Result<[u64; PAIR_WORDS], Refusal>
     ensures { result ≡ unhash_answer table.now cells }
 {
     let mut room = [0u64; READY_WORDS];
-    let answer = hash::test_hash(table, &cells, &mut room);
-    let Answer::Accepted = answer else {
-        return PairAnswer::Refused(answer.refusal());
-    };
+    hash::test_hash(table, &cells, &mut room)?;
     // M made ready has served the table test; its room takes the inverse.
     check_steps::make_inverse_ready(table, &mut room);
-    let state = undo_rounds(&room, table, cells);
-    let input = check_steps::less_initial(table, state);
+    let back = BackReady {
+        table,
+        inverse: &room,
+    };
+    let state = undo_rounds(back, cells);
+    let input = check_steps::minus(state, table::initial_constant(table));
     if !ends_in_zeros(input) {
-        return PairAnswer::Refused(Refusal::NoPair);
+        return Err(Refusal::NoPair);
     }
-    PairAnswer::Accepted(Pair::of(input))
+    Ok([
+        input[0], input[1], input[2], input[3], input[4], input[5], input[6], input[7],
+    ])
 }

@@ -5,15 +5,13 @@ use mathlib.Core.List.{List}
 use Prim.Native.Nat.{ℕ}
 use lib.Count.{ones}
 use lib.ListN.{length}
+use Rattle.std.specs.Prelude.{Ok}
 use Rattle.lists.specs.Lists.{each, sum, first}
 use Rattle.field_words.specs.Words.{first_bad}
-use Rattle.refusals.specs.Refusals.{digest}
-use Rattle.refusals.specs.Answers.{leaves}
-use Rattle.refusals.specs.declared.Answer.{Answer}
-use Rattle.refusals.specs.declared.Answer.TheVariants.{Accepted}
-use Rattle.refusals.specs.declared.DigestAnswer.TheVariants as output
-use Rattle.refusals.proofs.Laws.{digest_accepted}
-use Rattle.board.specs.Board.{file_of, pack_test, packed, pack_leaves, taps_in, unpack_test, unpack_answer, unpack_leaves}
+use Rattle.refusals.specs.Answers.{Answer, leaves}
+use Rattle.refusals.proofs.Laws.{value_accepted}
+use Rattle.board.specs.Board.{file_of, pack_test, packed, pack_leaves, taps_in, unpack_test, unpack_answer}
+use Rattle.board.specs.Board.{unpack_leaves}
 use Rattle.board.proofs.Theorems as board
 use Rattle.board_short_words.specs.Short.{all_bytes_needed}
 use Rattle.board_short.specs.ShortBoard.{short_file_of, pack_short_test, packed_short, pack_short_leaves, short_taps_in}
@@ -23,18 +21,18 @@ use Rattle.known_days.specs.Files.{FullFile, ShortFile, zero_file, zero_short, d
 use Rattle.known_days.specs.Files.{KnownFiles}
 
 -- what is left in a destination of the length that the test accepts
-pub left : (test : ℕ → Answer) (n : ℕ) (new x : List ℕ) → test n ≡ Accepted → new ≡ x → (old : List ℕ) → length old ≡ n
+pub left : (test : ℕ → Answer) (n : ℕ) (new x : List ℕ) → test n ≡ Ok tt → new ≡ x → (old : List ℕ) → length old ≡ n
     → leaves (test (length old)) new old ≡ x
 left test n new x e q old l = ap (λ m. leaves (test m) new old) l ∙ rw e q
 
 -- ---- bytes that the writer accepts to write, and that are what it writes
 module _ (taps claim file : List ℕ) (four : length claim ≡ 4) where
-  full_file : pack_test taps claim (length file) ≡ Accepted → packed taps claim ≡ file → FullFile taps claim file
+  full_file : pack_test taps claim (length file) ≡ Ok tt → packed taps claim ≡ file → FullFile taps claim file
   unfolding pack_leaves unpack_answer unpack_leaves
   full_file e bytes =
-      let u : (unpack_answer file (length taps) ≡ output.Accepted (digest claim)) × (taps_in file ≡ taps) =
+      let u : (unpack_answer file (length taps) ≡ Ok claim) × (taps_in file ≡ taps) =
       rw bytes at (board.unpack_packed taps claim (length file) four e) in
-      let passes = (digest_accepted (unpack_test file (length taps)) _ _ u.0).0 in
+      let passes = (value_accepted (unpack_test file (length taps)) _ _ u.0).0 in
       record {
         accepted = e;
         written = left (pack_test taps claim) (length file) (packed taps claim) file e bytes;
@@ -42,13 +40,13 @@ module _ (taps claim file : List ℕ) (four : length claim ≡ 4) where
         read = left (unpack_test file) (length taps) (taps_in file) taps passes u.1;
       }
 
-  pub short_file : pack_short_test taps claim (length file) ≡ Accepted → packed_short taps claim ≡ file
+  pub short_file : pack_short_test taps claim (length file) ≡ Ok tt → packed_short taps claim ≡ file
       → ShortFile taps claim file
   unfolding pack_short_leaves unpack_short_answer unpack_short_leaves
   short_file e bytes =
-      let u : (unpack_short_answer file (length taps) ≡ output.Accepted (digest claim)) × (short_taps_in file ≡ taps) =
+      let u : (unpack_short_answer file (length taps) ≡ Ok claim) × (short_taps_in file ≡ taps) =
       rw bytes at (short.unpack_packed taps claim (length file) four e) in
-      let passes = (digest_accepted (unpack_short_test file (length taps)) _ _ u.0).0 in
+      let passes = (value_accepted (unpack_short_test file (length taps)) _ _ u.0).0 in
       record {
         accepted = e;
         written = left (pack_short_test taps claim) (length file) (packed_short taps claim) file e bytes;

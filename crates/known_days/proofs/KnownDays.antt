@@ -14,19 +14,12 @@ use Rattle.field_words.proofs.Laws.{append_canonical}
 use Rattle.field.specs.Field.{halving, power, root}
 use Rattle.numbers.specs.Numbers.{most_batches, is_tap_length, tap_word_batches, is_trace_length, trace_word_batches}
 use Rattle.matrix.specs.Matrix.{times_column, times}
-use Rattle.refusals.specs.Refusals.{digest, state}
-use Rattle.refusals.specs.Answers.{unless, after, digest_after, state_after, tests_after, leaves}
+use Rattle.refusals.specs.Answers.{Answer, unless, after, with_value, leaves}
 use Rattle.refusals.specs.declared.Refusal.TheVariants.{TapLength, TapWord, TraceLength, ClaimWord, TraceWord}
 use Rattle.refusals.specs.declared.Refusal.TheVariants.{ClaimBatches}
-use Rattle.refusals.specs.declared.Answer.{Answer}
-use Rattle.refusals.specs.declared.Answer.TheVariants as answer
-use Rattle.refusals.specs.declared.DigestAnswer.{DigestAnswer}
-use Rattle.refusals.specs.declared.StateAnswer.{StateAnswer}
-use Rattle.refusals.specs.declared.StateAnswer.TheVariants as final
-use Rattle.refusals.specs.declared.TestsAnswer.{TestsAnswer}
-use Rattle.refusals.specs.declared.TestsAnswer.TheVariants as counted
-use Rattle.refusals.proofs.Laws.{tests_accepted}
-use Rattle.table.specs.Table.{matrix_of, inverse_of, constant, initial_constant, first_step_constant, second_step_constant}
+use Rattle.refusals.proofs.Laws.{value_accepted}
+use Rattle.table.specs.Table.{matrix_of, inverse_of, constant, initial_constant, first_step_constant}
+use Rattle.table.specs.Table.{second_step_constant}
 use Rattle.table.specs.Table.{table_test}
 use Rattle.table.proofs.Theorems.{test_sound}
 use Rattle.hash.specs.Hash.{roots, cubes, plus, mix, first_step, second_step, state_at, final_state, input, hash, tap}
@@ -36,7 +29,8 @@ use Rattle.hash.proofs.Answers.{hash_passes}
 use Rattle.hash.proofs.Inputs.{IsTap}
 use Rattle.hash_chain.specs.Answers.{chain_test, chain_answer}
 use Rattle.trace.specs.Trace.{row}
-use Rattle.check_constraints.specs.Constraints.{plus_first, forward, minus, back_step, back, families, of_family, applies, holds}
+use Rattle.check_constraints.specs.Constraints.{plus_first, forward, minus, back_step, back, families, of_family}
+use Rattle.check_constraints.specs.Constraints.{applies, holds}
 use Rattle.check_constraints.specs.Constraints.{between, row_tests, tests_from, tests, walk, constraint_test}
 use Rattle.check_constraints.specs.FirstFailing.{place_of}
 use Rattle.check_constraints.specs.ReadOff.{read_input, read_word, read_taps}
@@ -46,32 +40,35 @@ use Rattle.trace_read_off.proofs.Theorems.{same_for}
 use Rattle.known_days.specs.Days.{shifted, Z, A, S, zero_trace, with_one, tapped, four_zeros, KnownDays}
 use Rattle.known_days.proofs.Shift.{final_turned}
 use Rattle.known_days.proofs.Tables.{accepted_Z, accepted_A, accepted_S}
+use Rattle.std.specs.Prelude.{Result, Ok}
+use Rattle.refusals.specs.declared.Refusal.{Refusal}
 
 -- ---- what is answered once the table is accepted
-module _ (T : List ℕ) (table : table_test T ≡ answer.Accepted) where
+module _ (T : List ℕ) (table : table_test T ≡ Ok tt) where
   accepted : (rest : Answer) → after (table_test T) rest ≡ rest
   accepted rest = ap (λ a. after a rest) table
 
-  hashed : (words : List ℕ) {a : StateAnswer} → let s = state (final_state T (input (take 4 words) (drop 4 words))) in
-      state_after (unless (canonical_words words) (TapWord (first_bad words)) answer.Accepted) s ≡ a
+  hashed : (words : List ℕ) {a : Result (List ℕ) Refusal}
+      → with_value (unless (canonical_words words) (TapWord (first_bad words)) (Ok tt))
+      (final_state T (input (take 4 words) (drop 4 words))) ≡ a
       → hash_answer T words ≡ a
   unfolding hash_test hash_answer
   hashed words e =
-      ap (λ t. state_after t (state (final_state T (input (take 4 words) (drop 4 words))))) (accepted _) ∙ e
+      ap (λ t. with_value t (final_state T (input (take 4 words) (drop 4 words)))) (accepted _) ∙ e
 
-  chained : (w : List ℕ) {a : DigestAnswer} → let d = digest (chain T w (tap_word_batches (length w))) in
-      digest_after
+  chained : (w : List ℕ) {a : Result (List ℕ) Refusal}
+      → with_value
       (unless (is_tap_length most_batches (length w)) TapLength
-      (unless (canonical_words w) (TapWord (first_bad w)) answer.Accepted)) d ≡ a
+      (unless (canonical_words w) (TapWord (first_bad w)) (Ok tt))) (chain T w (tap_word_batches (length w))) ≡ a
       → chain_answer T w ≡ a
   unfolding chain_test chain_answer
-  chained w e = ap (λ t. digest_after t (digest (chain T w (tap_word_batches (length w))))) (accepted _) ∙ e
+  chained w e = ap (λ t. with_value t (chain T w (tap_word_batches (length w)))) (accepted _) ∙ e
 
-  judges : (t claim : List ℕ) (c : ℕ) {a : TestsAnswer} → let k = trace_word_batches (length t) in
-      tests_after
+  judges : (t claim : List ℕ) (c : ℕ) {a : Result ℕ Refusal} → let k = trace_word_batches (length t) in
+      with_value
       (after
       (unless (is_trace_length most_batches (length t)) TraceLength
-      (unless (between 1 k c) ClaimBatches answer.Accepted))
+      (unless (between 1 k c) ClaimBatches (Ok tt)))
       (unless (canonical_words claim) (ClaimWord (first_bad claim))
       (unless (canonical_words t) (TraceWord (first_bad t))
       (constraint_test T t claim c k))))
@@ -79,7 +76,7 @@ module _ (T : List ℕ) (table : table_test T ≡ answer.Accepted) where
   unfolding opening_test trace_test check_test check_answer
   judges t claim c e =
       let k : ℕ = trace_word_batches (length t) in
-      ap (λ x. tests_after (after x (trace_test T t claim c k)) (length (tests k c))) (accepted _) ∙ e
+      ap (λ x. with_value (after x (trace_test T t claim c k)) (length (tests k c))) (accepted _) ∙ e
 
 -- ---- S: the second tap comes back, then four zeros and the first, whatever it is
 abbrev second : List ℕ
@@ -93,13 +90,13 @@ small (suc (suc (suc zero))) h = omega arith
 small (suc (suc (suc (suc i)))) h = absurd (omega arith)
 
 hash_S : (a : List ℕ) → length a ≡ 4 → AllCanonical a
-    → hash_answer S (a ++ second) ≡ final.Accepted (state (second ++ four_zeros ++ a))
+    → hash_answer S (a ++ second) ≡ Ok (second ++ four_zeros ++ a)
 unfolding hash_answer four_zeros
 hash_S a size h =
-    ap (λ t. state_after t (state (final_state S (input (take 4 w) (drop 4 w)))))
+    ap (λ t. with_value t (final_state S (input (take 4 w) (drop 4 w))))
     (hash_passes S w (record { table = test_sound S accepted_S; canonical = append_canonical a second h small }))
-    ∙ ap₂ (λ x y. final.Accepted (state (final_state S (input x y)))) (take_at a second 4 size) (drop_at a second 4 size)
-    ∙ ap (λ s. final.Accepted (state s)) (final_turned a second first_tap second_tap)
+    ∙ ap₂ (λ x y. Ok (final_state S (input x y))) (take_at a second 4 size) (drop_at a second 4 size)
+    ∙ ap Ok (final_turned a second first_tap second_tap)
   where
     w : List ℕ
     w = a ++ second
@@ -111,13 +108,13 @@ hash_S a size h =
     second_tap = record { size = refl; canonical = small }
 
 -- ---- the tapped trace
-tapped_accepted : check_answer Z tapped four_zeros 1 ≡ counted.Accepted 372
+tapped_accepted : check_answer Z tapped four_zeros 1 ≡ Ok 372
 unfolding ones tab sum first first_bad times_column times matrix_of inverse_of constant initial_constant first_step_constant
     second_step_constant cubes plus mix second_step row plus_first forward minus back_step back families of_family applies
     holds row_tests tests_from tests walk constraint_test shifted Z tapped four_zeros
 tapped_accepted = judges Z accepted_Z tapped four_zeros 1 refl
 
-tapped_read_off : read_off_answer Z tapped four_zeros 1 16 ≡ counted.Accepted 372
+tapped_read_off : read_off_answer Z tapped four_zeros 1 16 ≡ Ok 372
 unfolding tab tapped
 tapped_read_off = same_for Z tapped four_zeros 1 1 refl ∙ tapped_accepted
 
@@ -130,10 +127,10 @@ tapped_read : (old : List ℕ) → length old ≡ 16 → tap (read_off_leaves Z 
 unfolding tab tapped read_off_answer read_off_leaves
 tapped_read old e =
     ap (λ x. tap (leaves x (read_taps Z tapped 1) old) 2)
-    (tests_accepted (read_off_test Z tapped four_zeros 1 (length old)) _ 372 answered).0
+    (value_accepted (read_off_test Z tapped four_zeros 1 (length old)) _ 372 answered).0
     ∙ tapped_tap
   where
-    answered : read_off_answer Z tapped four_zeros 1 (length old) ≡ counted.Accepted 372
+    answered : read_off_answer Z tapped four_zeros 1 (length old) ≡ Ok 372
     answered = ap (read_off_answer Z tapped four_zeros 1) e ∙ tapped_read_off
 
 pub known_days_hold : KnownDays

@@ -19,7 +19,8 @@ use Rattle.matrix.specs.Matrix.{entry, times_column}
 use Rattle.matrix.proofs.States.{cell_times}
 use Rattle.matrix.specs.Matrix.{matrix_words}
 use Rattle.table.specs.Table.{matrix_of, constant, initial_constant, first_step_constant, second_step_constant}
-use Rattle.hash.specs.Hash.{roots, cubes, plus, mix, first_step, second_step, state_at, middle_state, final_state, input}
+use Rattle.hash.specs.Hash.{roots, cubes, plus, mix, first_step, second_step, state_at, middle_state, final_state}
+use Rattle.hash.specs.Hash.{input}
 use Rattle.hash.proofs.States.{IsState, state_cell, same_cells, cell_roots, cell_cubes, cell_plus, roots_state}
 use Rattle.hash.proofs.States.{cubes_state, state_at_state, final_state_state, state_at_zero, state_at_suc}
 use Rattle.hash.proofs.Inputs.{IsTap, by_fours, cell_input_left, cell_input_right, cell_input_zeros, input_state}

@@ -5,32 +5,32 @@ use mathlib.Core.List.{List}
 use Prim.Native.Nat.{ℕ, ◌+◌, ◌*◌, ◌%◌, ◌<◌}
 use native.Mathlib.Omega.{arith}
 use lib.ListN.{length, replicate, get_or-replicate}
+use Rattle.std.specs.Prelude.{Ok}
 use Rattle.lists.specs.Lists.{tab, sum, first}
 use Rattle.lists.proofs.Sum.{all_0}
 use Rattle.field.specs.Field.{P}
 use Rattle.field_words.specs.Words.{first_bad}
 use Rattle.matrix.specs.Matrix.{entry, times_column, product, Inverse, Kernel}
-use Rattle.refusals.specs.declared.Answer.TheVariants.{Accepted}
 use Rattle.table.specs.Table.{table_words, matrix_of, inverse_of, unlike, first_unlike, table_test, IsTable, raw_matrix}
 use Rattle.table.specs.Table.{RawInverse, prepared, raw_test, Prepares, accepts, no_inverse}
 use Rattle.table.proofs.Theorems.{test_sound, inverse_length, inverse_canonical}
 use Rattle.known_days.specs.Days.{shifted, raw_z, raw_a, raw_s, raw_zeros, Z, A, S, KnownTables}
 
 -- ---- the table test
-pub accepted_Z : table_test Z ≡ Accepted
+pub accepted_Z : table_test Z ≡ Ok tt
 unfolding tab sum first first_bad product matrix_of inverse_of unlike first_unlike table_test shifted Z
 accepted_Z = refl
 
-pub accepted_A : table_test A ≡ Accepted
+pub accepted_A : table_test A ≡ Ok tt
 unfolding tab sum first first_bad product matrix_of inverse_of unlike first_unlike table_test shifted Z A
 accepted_A = refl
 
-pub accepted_S : table_test S ≡ Accepted
+pub accepted_S : table_test S ≡ Ok tt
 unfolding tab sum first first_bad product matrix_of inverse_of unlike first_unlike table_test shifted S
 accepted_S = refl
 
 -- ---- a table that passes it is what Prepare writes for the raw one with its M and K
-module _ (raw T : List ℕ) (tested : raw_test raw table_words ≡ Accepted) (table : table_test T ≡ Accepted)
+module _ (raw T : List ℕ) (tested : raw_test raw table_words ≡ Ok tt) (table : table_test T ≡ Ok tt)
     (matrix : matrix_of T ≡ raw_matrix raw) (whole : prepared raw (inverse_of T) ≡ T) where
   is_table : IsTable T
   is_table = test_sound T table
@@ -42,9 +42,9 @@ module _ (raw T : List ℕ) (tested : raw_test raw table_words ≡ Accepted) (ta
     inverse = subst (λ m. Inverse 12 (entry m) (entry (inverse_of T))) matrix is_table.inverse;
   }
 
-  prepare : (old : List ℕ) → length old ≡ table_words → Prepares raw old Accepted T
+  prepare : (old : List ℕ) → length old ≡ table_words → Prepares raw old (Ok tt) T
   prepare old size =
-      subst (Prepares raw old Accepted) whole
+      subst (Prepares raw old (Ok tt)) whole
       (accepts (inverse_of T) (ap (raw_test raw) size ∙ tested) inverse)
 
 -- ---- the zero M takes a column of ones to zeros

@@ -1,16 +1,12 @@
 -- The starred days of document 01, "Known days", as one list, and its tables through Prepare.
 -- Assumes nothing.
-use Rattle.std.specs.Prelude.{◌≡◌, List, [], ◌∷◌, ◌++◌, ℕ, ◌+◌, ◌*◌, ◌/◌, ◌%◌, ◌-◌, eqb, length, replicate, set}
+use Rattle.std.specs.Prelude.{◌≡◌, List, [], ◌∷◌, ◌++◌, ℕ, ◌+◌, ◌*◌, ◌/◌, ◌%◌, ◌-◌, eqb, length, replicate, set, Ok}
+use Rattle.std.specs.Prelude.{Err}
 use Rattle.lists.specs.Lists.{choose, tab}
 use Rattle.field_words.specs.Words.{AllCanonical}
 use Rattle.field.specs.Field.{P, mul, root}
 use Rattle.numbers.specs.Numbers.{width}
-use Rattle.refusals.specs.Refusals.{digest, state}
 use Rattle.refusals.specs.declared.Refusal.TheVariants.{NoInverse, Constraint}
-use Rattle.refusals.specs.declared.Answer.TheVariants as answer
-use Rattle.refusals.specs.declared.DigestAnswer.TheVariants as output
-use Rattle.refusals.specs.declared.StateAnswer.TheVariants as final
-use Rattle.refusals.specs.declared.TestsAnswer.TheVariants as tests
 use Rattle.table.specs.Table.{raw_words, table_words, table_test, Prepares}
 use Rattle.hash.specs.Hash.{tap}
 use Rattle.hash.specs.Answers.{hash_answer}
@@ -56,13 +52,13 @@ S = shifted 11 ++ shifted 1 ++ replicate 252 0
 -- what Prepare answers for each raw table and leaves in any destination of 540 words, and no other (`prepares_unique`);
 -- with what it wrote the later operations go on
 pub record KnownTables : Type 0 where
-  pub prepare_Z : (old : List ℕ) → length old ≡ table_words → Prepares raw_z old answer.Accepted Z
-  pub prepare_A : (old : List ℕ) → length old ≡ table_words → Prepares raw_a old answer.Accepted A
-  pub prepare_S : (old : List ℕ) → length old ≡ table_words → Prepares raw_s old answer.Accepted S
-  pub prepare_zeros : (old : List ℕ) → length old ≡ table_words → Prepares raw_zeros old (answer.Refused NoInverse) old
-  pub accepted_Z : table_test Z ≡ answer.Accepted
-  pub accepted_A : table_test A ≡ answer.Accepted
-  pub accepted_S : table_test S ≡ answer.Accepted
+  pub prepare_Z : (old : List ℕ) → length old ≡ table_words → Prepares raw_z old (Ok tt) Z
+  pub prepare_A : (old : List ℕ) → length old ≡ table_words → Prepares raw_a old (Ok tt) A
+  pub prepare_S : (old : List ℕ) → length old ≡ table_words → Prepares raw_s old (Ok tt) S
+  pub prepare_zeros : (old : List ℕ) → length old ≡ table_words → Prepares raw_zeros old (Err NoInverse) old
+  pub accepted_Z : table_test Z ≡ Ok tt
+  pub accepted_A : table_test A ≡ Ok tt
+  pub accepted_S : table_test S ≡ Ok tt
 
 -- ---- traces of one batch
 
@@ -90,22 +86,22 @@ pub record KnownDays : Type 0 where
   pub root_of_negative : root (P - 1) ≡ P - 1
   -- Hash, all twelve cells (document 02, U3)
   pub hash_Z : hash_answer Z ((8 ∷ 27 ∷ 1 ∷ 0 ∷ []) ++ four_zeros)
-      ≡ final.Accepted (state ((8 ∷ 27 ∷ 1 ∷ 0 ∷ []) ++ four_zeros ++ four_zeros))
+      ≡ Ok ((8 ∷ 27 ∷ 1 ∷ 0 ∷ []) ++ four_zeros ++ four_zeros)
   pub hash_A : hash_answer A (four_zeros ++ four_zeros)
-      ≡ final.Accepted (state ((1 ∷ 0 ∷ 0 ∷ 0 ∷ []) ++ four_zeros ++ four_zeros))
+      ≡ Ok ((1 ∷ 0 ∷ 0 ∷ 0 ∷ []) ++ four_zeros ++ four_zeros)
   pub hash_S : (a : List ℕ) → length a ≡ 4 → AllCanonical a
-      → hash_answer S (a ++ (5 ∷ 6 ∷ 7 ∷ 9 ∷ [])) ≡ final.Accepted (state ((5 ∷ 6 ∷ 7 ∷ 9 ∷ []) ++ four_zeros ++ a))
-  pub chain_A : chain_answer A (replicate 16 0) ≡ output.Accepted (digest (3 ∷ 0 ∷ 0 ∷ 0 ∷ []))
-  pub zero_accepted : check_answer Z zero_trace four_zeros 1 ≡ tests.Accepted 372
+      → hash_answer S (a ++ (5 ∷ 6 ∷ 7 ∷ 9 ∷ [])) ≡ Ok ((5 ∷ 6 ∷ 7 ∷ 9 ∷ []) ++ four_zeros ++ a)
+  pub chain_A : chain_answer A (replicate 16 0) ≡ Ok (3 ∷ 0 ∷ 0 ∷ 0 ∷ [])
+  pub zero_accepted : check_answer Z zero_trace four_zeros 1 ≡ Ok 372
   pub zero_claim : check_answer Z zero_trace (1 ∷ 0 ∷ 0 ∷ 0 ∷ []) 1
-      ≡ tests.Refused (Constraint (record { 0 = 31 }) 49 369)
-  pub one_at_0_8 : check_answer Z (with_one 0 8) four_zeros 1 ≡ tests.Refused (Constraint (record { 0 = 0 }) 1 1)
-  pub one_at_31_5 : check_answer Z (with_one 31 5) four_zeros 1 ≡ tests.Refused (Constraint (record { 0 = 30 }) 38 362)
-  pub one_at_11_5 : check_answer Z (with_one 11 5) four_zeros 1 ≡ tests.Refused (Constraint (record { 0 = 11 }) 26 138)
+      ≡ Err (Constraint (record { 0 = 31 }) 49 369)
+  pub one_at_0_8 : check_answer Z (with_one 0 8) four_zeros 1 ≡ Err (Constraint (record { 0 = 0 }) 1 1)
+  pub one_at_31_5 : check_answer Z (with_one 31 5) four_zeros 1 ≡ Err (Constraint (record { 0 = 30 }) 38 362)
+  pub one_at_11_5 : check_answer Z (with_one 11 5) four_zeros 1 ≡ Err (Constraint (record { 0 = 11 }) 26 138)
   -- the places of the four tests that fail there, counted by themselves
   pub places : (place_of 1 1 31 49 ≡ 369) × (place_of 1 1 0 1 ≡ 1) × (place_of 1 1 30 38 ≡ 362)
       × (place_of 1 1 11 26 ≡ 138)
-  pub tapped_accepted : check_answer Z tapped four_zeros 1 ≡ tests.Accepted 372
-  pub tapped_read_off : read_off_answer Z tapped four_zeros 1 16 ≡ tests.Accepted 372
+  pub tapped_accepted : check_answer Z tapped four_zeros 1 ≡ Ok 372
+  pub tapped_read_off : read_off_answer Z tapped four_zeros 1 16 ≡ Ok 372
   pub tapped_read : (old : List ℕ) → length old ≡ 16
       → tap (read_off_leaves Z tapped four_zeros 1 old) 2 ≡ 0 ∷ 1 ∷ 0 ∷ 0 ∷ []

@@ -2,23 +2,21 @@
 -- full edition and in the short one (document 02, U7). That a written file is read back holds as well of a writer and a
 -- reader that are turned round together; these bytes do not.
 -- Assumes nothing.
-use Rattle.std.specs.Prelude.{◌≡◌, List, [], ◌∷◌, ◌++◌, ℕ, zero, suc, length, replicate}
-use Rattle.refusals.specs.Refusals.{digest}
-use Rattle.refusals.specs.declared.Answer.{Answer}
-use Rattle.refusals.specs.declared.Answer.TheVariants as answer
-use Rattle.refusals.specs.declared.DigestAnswer.{DigestAnswer}
-use Rattle.refusals.specs.declared.DigestAnswer.TheVariants as output
+use Rattle.std.specs.Prelude.{◌≡◌, List, [], ◌∷◌, ◌++◌, ℕ, zero, suc, length, replicate, Result, Ok}
 use Rattle.board.specs.Board.{pack_test, pack_leaves, unpack_answer, unpack_leaves}
 use Rattle.board_short.specs.ShortBoard.{pack_short_test, pack_short_leaves, unpack_short_answer, unpack_short_leaves}
+use Rattle.refusals.specs.Answers.{Answer}
+use Rattle.refusals.specs.declared.Refusal.{Refusal}
 
 -- ---- what it means that these bytes are the file of these taps and this claim, by an edition's writer, its test and
 -- what it leaves, and by its reader, its answer and what it leaves: the writer writes the file into whatever is lent with
 -- its length, the reader returns the claim from it, and writes the taps into whatever is lent with theirs
 pub record FileOf (test : List ℕ → List ℕ → ℕ → Answer) (writes : List ℕ → List ℕ → List ℕ → List ℕ)
-    (answers : List ℕ → ℕ → DigestAnswer) (reads : List ℕ → List ℕ → List ℕ) (taps claim file : List ℕ) : Type 0 where
-  pub accepted : test taps claim (length file) ≡ answer.Accepted
+    (answers : List ℕ → ℕ → Result (List ℕ) Refusal) (reads : List ℕ → List ℕ → List ℕ)
+    (taps claim file : List ℕ) : Type 0 where
+  pub accepted : test taps claim (length file) ≡ Ok tt
   pub written : (old : List ℕ) → length old ≡ length file → writes taps claim old ≡ file
-  pub returned : answers file (length taps) ≡ output.Accepted (digest claim)
+  pub returned : answers file (length taps) ≡ Ok claim
   pub read : (old : List ℕ) → length old ≡ length taps → reads file old ≡ taps
 
 abbrev pub FullFile : List ℕ → List ℕ → List ℕ → Type 0

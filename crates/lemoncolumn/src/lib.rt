@@ -6,13 +6,12 @@
 ghost use Rattle.std.specs.Prelude.{◌≡◌, [], ◌∷◌, length};
 ghost use Rattle.check_trace.specs.Answers.{check_answer};
 ghost use Rattle.call_results.specs.Code.{tests_code};
-ghost use Rattle.call_results.specs.HandsOver.{HandsOver, HandsOverState};
+ghost use Rattle.call_results.specs.HandsOver.{HandsOver};
 ghost use Rattle.call_answers.specs.Calls.{interface, PrepareCall, hash_call, chain_call, BuildCall, ReadOffCall, EditCall};
 ghost use Rattle.call_answers.specs.Calls.{UnhashCall, PackCall, UnpackCall, PackShortCall, UnpackShortCall, ToShortCall};
 ghost use Rattle.call_answers.specs.Calls.{ToFullCall};
 
 use numbers::{PAIR_WORDS, TapNumber, WIDTH};
-use refusals::PairAnswer;
 
 // Raised with LEMONCOLUMN_INTERFACE of include/lemoncolumn.h.
 const INTERFACE: u64 = 3;
@@ -52,14 +51,14 @@ pub extern "C" fn lemoncolumn_hash(
     w7: u64,
     output: &mut [u64],
 ) -> u64
-    ensures { HandsOverState
+    ensures { HandsOver
         (hash_call table.now (w0 ∷ w1 ∷ w2 ∷ w3 ∷ w4 ∷ w5 ∷ w6 ∷ w7 ∷ []) (length output.old)) result
         output.old output.new }
 {
     if output.len() != STATE_ROOM {
         return call_results::answer_code(call_answers::hash_no_room(table));
     }
-    call_results::hand_over_state(hash::hash(table, [w0, w1, w2, w3, w4, w5, w6, w7]), output)
+    call_results::hand_over(hash::hash(table, [w0, w1, w2, w3, w4, w5, w6, w7]), output)
 }
 
 // Chain: 1, 2, 4, 5, 8, 6.
@@ -181,13 +180,10 @@ pub extern "C" fn lemoncolumn_unhash(
     if pair.len() != PAIR_ROOM {
         return call_results::answer_code(call_answers::hash_no_room(table));
     }
-    match hash_undo::unhash(table, [s0, s1, s2, s3, s4, s5, s6, s7, s8, s9, s10, s11]) {
-        PairAnswer::Accepted(found) => {
-            call_results::put_pair(pair, found);
-            0
-        }
-        PairAnswer::Refused(r) => call_results::refusal_code(r),
-    }
+    call_results::hand_over(
+        hash_undo::unhash(table, [s0, s1, s2, s3, s4, s5, s6, s7, s8, s9, s10, s11]),
+        pair,
+    )
 }
 
 // Pack: 5, 8, 9, 6.
@@ -212,7 +208,7 @@ pub extern "C" fn lemoncolumn_unpack(file: &[u8], taps: &mut [u64], claim: &mut 
         claim.old claim.new }
 {
     if claim.len() != 4 {
-        return call_results::digest_code(board::unpack(file, &mut taps[..0]));
+        return call_results::words_code(board::unpack(file, &mut taps[..0]));
     }
     call_results::hand_over(board::unpack(file, taps), claim)
 }
@@ -241,7 +237,7 @@ pub extern "C" fn lemoncolumn_unpack_short(file: &[u8], taps: &mut [u64], claim:
         claim.old claim.new }
 {
     if claim.len() != 4 {
-        return call_results::digest_code(board_short::unpack_short(file, &mut taps[..0]));
+        return call_results::words_code(board_short::unpack_short(file, &mut taps[..0]));
     }
     call_results::hand_over(board_short::unpack_short(file, taps), claim)
 }

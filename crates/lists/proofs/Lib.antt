@@ -4,3 +4,4 @@ pub mod First
 pub mod Sum
 pub mod Each
 pub mod Stores
+pub mod Made

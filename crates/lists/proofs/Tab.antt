@@ -8,7 +8,8 @@ use native.Mathlib.Numerals.{add-one}
 use native.Mathlib.Omega.{arith}
 use lib.ListN.{length, get_or, take, drop, set, length-append}
 use lib.ListN.{length-drop, length-set, drop_of_length-le, get_or-append}
-use lib.Seq.{drop-cons, append_snoc, set-append_seam, get_or-append-add, ext_get_or, get_or-drop, get_or-take, length-take-le}
+use lib.Seq.{drop-cons, append_snoc, set-append_seam, get_or-append-add, ext_get_or, get_or-drop, get_or-take}
+use lib.Seq.{length-take-le}
 use Rattle.lists.specs.Lists.{tab, cell}
 
 pub length_tab : (n : ℕ) (f : ℕ → ℕ) → length (tab n f) ≡ n

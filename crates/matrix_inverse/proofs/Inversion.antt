@@ -1,37 +1,26 @@
 -- The whole inversion: the rows at the start, and what the answer of the elimination says of the matrix.
 -- Assumes nothing.
-use Prim.Native.Nat.{ℕ, ◌+◌, ◌*◌, ◌-◌, ◌/◌, ◌%◌, ◌<◌, ◌≤◌}
+use Prim.Native.Nat.{ℕ, ◌+◌, ◌*◌, ◌-◌, ◌/◌, ◌%◌, ◌<◌}
 use mathlib.Core.Path.{◌≡◌, refl, sym, ap, ap₂, ◌∙◌, subst}
-use mathlib.Core.Bool.{Bool, true, false}
 use mathlib.Core.List.{List}
 use native.Mathlib.Decide.{dec_lt}
 use native.Mathlib.Omega.{arith}
 use lib.ListN.{length}
 use lib.Seq.{ext_get_or}
+use Rattle.std.specs.Prelude.{Option, Some, None}
 use Rattle.lists.specs.Lists.{cell, tab}
 use Rattle.lists.proofs.Tab.{length_tab, cell_tab}
 use Rattle.field.specs.Field.{P, Canonical}
 use Rattle.field.proofs.Power.{big}
 use Rattle.field_words.specs.Words.{AllCanonical}
-use Rattle.matrix.specs.Matrix.{times_column, identity, Inverse, Kernel, entry, IsInverse}
-use Rattle.matrix.proofs.Linear.{identity_same, identity_other, identity_lt, times_ext, product_ext}
+use Rattle.matrix.specs.Matrix.{times_column, Inverse, Kernel, entry, IsInverse}
+use Rattle.matrix.proofs.Linear.{identity_lt, times_ext, product_ext}
 use Rattle.matrix.proofs.Dichotomy.{Invertible, inverse_unique, not_both}
 use Rattle.matrix_inverse.specs.Inversion.{Inverts}
 use Rattle.matrix_inverse.specs.EliminationHelpers.{at, beside, started, right_half, Working, Zeros, Reduces, Stuck}
-use Rattle.matrix_inverse.specs.EliminationHelpers.{Eliminated}
 use Rattle.matrix_inverse.proofs.Elimination.{beside_left, beside_right, finished, stuck}
 
 -- ---- the rows at the start
-module _ (m : List ℕ) (i l : ℕ) where
-  pub word_left : l < 12 → entry m i l ≡ beside 12 (entry m) i l
-  word_left h = sym (beside_left 12 (entry m) i l h)
-
-  pub word_one : 12 ≤ l → i ≡ l - 12 → 1 ≡ beside 12 (entry m) i l
-  word_one h e = sym (beside_right 12 (entry m) i l h ∙ ap (identity i) (sym e) ∙ identity_same i)
-
-  pub word_zero : 12 ≤ l → (i ≡ l - 12 → ⊥) → 0 ≡ beside 12 (entry m) i l
-  word_zero h ne = sym (beside_right 12 (entry m) i l h ∙ identity_other i (l - 12) ne)
-
 pub at_start : (m : List ℕ) (i l : ℕ) → i < 12 → l < 24 → at (started m) i l ≡ beside 12 (entry m) i l
 unfolding started
 at_start m i l hi hl =
@@ -102,16 +91,6 @@ inverted m v h = record { size = length_tab 144 word; canonical = low; inverse =
         (λ j l. right j k l hk)
         ∙ finished 12 (entry m) (at v) (under m v h.keeps) h.reduced.ident i k hi hk
 
--- the two ways out, by what the elimination answered
-pub without : (m w v : List ℕ) (b : Bool) → w ≡ started m → Eliminated w v b → b ≡ false → Kernel 12 (entry m)
-without m w v b e h f = no_pivot m (subst (λ u. Stuck u) e (subst (λ a. Eliminated w v a) f h))
-
-pub found : (m w v out : List ℕ) (b : Bool) → w ≡ started m → Eliminated w v b → b ≡ true → out ≡ right_half v
-    → IsInverse m out
-found m w v out b e h f o =
-    subst (λ u. IsInverse m u) (sym o)
-    (inverted m v (subst (λ u. Reduces u v 12) e (subst (λ a. Eliminated w v a) f h)))
-
 -- the list of a matrix's cells, row by row
 pub listed : (ℕ → ℕ → ℕ) → List ℕ
 listed a = tab 144 (λ t. a (t / 12) (t % 12))
@@ -147,7 +126,7 @@ listed_inverse m h =
         q : (12 * i + k) % 12 ≡ k
         q = omega arith
 
--- the answer and the buffer are determined
+-- the answer is determined
 pub inverse_only : (m a b : List ℕ) → IsInverse m a → IsInverse m b → a ≡ b
 inverse_only m a b ha hb = ext_get_or 0 a b (ha.size ∙ sym hb.size) same
   where
@@ -164,8 +143,8 @@ inverse_only m a b ha hb = ext_get_or 0 a b (ha.size ∙ sym hb.size) same
         e : 12 * (t / 12) + t % 12 ≡ t
         e = omega arith
 
-pub inverts_unique : (m old a b : List ℕ) (r s : Bool) → Inverts m old a r → Inverts m old b s → (r ≡ s) × (a ≡ b)
-inverts_unique m old a b true true h g = (refl, inverse_only m a b h g)
-inverts_unique m old a b true false h g = absurd (not_both 12 (entry m) (entry a) h.inverse g.1)
-inverts_unique m old a b false true h g = absurd (not_both 12 (entry m) (entry b) g.inverse h.1)
-inverts_unique m old a b false false h g = (refl, h.0 ∙ sym g.0)
+pub inverts_unique : (m : List ℕ) (a b : Option (List ℕ)) → Inverts m a → Inverts m b → a ≡ b
+inverts_unique m (Some a) (Some b) h g = ap Some (inverse_only m a b h g)
+inverts_unique m (Some a) None h g = absurd (not_both 12 (entry m) (entry a) h.inverse g)
+inverts_unique m None (Some b) h g = absurd (not_both 12 (entry m) (entry b) g.inverse h)
+inverts_unique m None None h g = refl

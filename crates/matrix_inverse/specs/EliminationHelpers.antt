@@ -1,6 +1,6 @@
 -- Elimination on 12 rows of 24 words, which are at first the matrix with the identity beside it.
 -- Assumes nothing.
-use Rattle.std.specs.Prelude.{◌≡◌, Bool, true, false, List, ℕ, ◌+◌, ◌*◌, ◌-◌, ◌/◌, ◌%◌, ◌<◌, ◌≤◌, ltb, length}
+use Rattle.std.specs.Prelude.{◌≡◌, List, ℕ, ◌+◌, ◌*◌, ◌-◌, ◌/◌, ◌%◌, ◌<◌, ◌≤◌, ltb, length}
 use Rattle.lists.specs.Lists.{choose, cell, tab}
 use Rattle.field.specs.Field.{Canonical, add, mul}
 use Rattle.numbers.specs.Numbers.{width}
@@ -66,21 +66,16 @@ pub record Reduces (w v : List ℕ) (j : ℕ) : Type 0 where
   pub reduced : Reduced v j
   pub keeps : (z : ℕ → ℕ) → Zeros v z → Zeros w z
 
--- the first row from j on that has no 0 in column j, or 12
+-- the first row from j on that has no 0 in column j
 pub record Pivot (w : List ℕ) (j r : ℕ) : Type 0 where
   pub from : j ≤ r
-  pub to : r ≤ width
+  pub within : r < width
   pub before : (i : ℕ) → j ≤ i → i < r → at w i j ≡ 0
-  pub found : r < width → at w r j ≡ 0 → ⊥
+  pub found : at w r j ≡ 0 → ⊥
 
 -- no row from j on has a pivot for column j
 abbrev pub NoPivot : List ℕ → ℕ → Type 0
 NoPivot w j = (i : ℕ) → j ≤ i → i < width → at w i j ≡ 0
-
--- what a step for column j answers and leaves
-abbrev pub Stepped : (w v : List ℕ) → ℕ → Bool → Type 0
-Stepped w v j true = Reduces w v (j + 1)
-Stepped w v j false = NoPivot w j
 
 -- rows that w was reduced to, and the column at which no pivot was left
 pub record Stuck (w : List ℕ) : Type 0 where
@@ -89,8 +84,3 @@ pub record Stuck (w : List ℕ) : Type 0 where
   pub within : column < width
   pub reduces : Reduces w rows column
   pub none : NoPivot rows column
-
--- what the elimination answers and leaves
-abbrev pub Eliminated : (w v : List ℕ) → Bool → Type 0
-Eliminated w v true = Reduces w v width
-Eliminated w v false = Stuck w

@@ -1,16 +1,14 @@
 -- The words of all rows of a matrix times a column: before the first step, after one more, and after the last.
 -- Assumes nothing.
-use mathlib.Core.Path.{◌≡◌, refl, sym, ap, ap₂, ◌∙◌, subst}
+use mathlib.Core.Path.{◌≡◌, refl, ap, ap₂, ◌∙◌}
 use mathlib.Core.List.{List}
 use Prim.Native.Nat.{ℕ, suc, ◌+◌, ◌*◌, ◌<◌}
-use lib.ListN.{length, replicate}
+use lib.ListN.{replicate}
 use Rattle.lists.specs.Lists.{cell, tab}
-use Rattle.lists.proofs.Tab.{length_tab, cell_tab, tab_ext}
-use Rattle.field.specs.Field.{Canonical}
+use Rattle.lists.proofs.Tab.{cell_tab, tab_ext}
 use Rattle.field.specs.Gathering.{gathered}
-use Rattle.field_words.specs.Words.{CanonicalTo}
 use Rattle.field_sums.specs.Sums.{weighted_factor, sum_word}
-use Rattle.field_sums.proofs.Words.{word_canonical, whole_sum}
+use Rattle.field_sums.proofs.Words.{whole_sum}
 use Rattle.matrix.specs.Matrix.{times_column}
 
 -- after j steps, for a matrix and a column by their cells
@@ -25,12 +23,6 @@ module _ (a : ℕ → ℕ → ℕ) (y : ℕ → ℕ) where
   module _ (j : ℕ) (words : List ℕ) (e : words ≡ row_words a y j) where
     cell_words : (i : ℕ) → i < 12 → cell words i ≡ sum_word (a i) y j
     cell_words i h = ap (λ s. cell s i) e ∙ cell_tab 12 (λ l. sum_word (a l) y j) i h
-
-    pub words_size : length words ≡ 12
-    words_size = ap length e ∙ length_tab 12 (λ i. sum_word (a i) y j)
-
-    pub words_canonical : CanonicalTo 12 words
-    words_canonical i h = subst Canonical (sym (cell_words i h)) (word_canonical (a i) y j)
 
     -- a step, in which row i takes in two terms, whose factors with their weights are u i and v i
     pub next_gathered : (u v : ℕ → ℕ) → ((i : ℕ) → i < 12 → u i ≡ weighted_factor (a i) (2 * j))

@@ -11,11 +11,10 @@ use borrow.Author.Tests.{le-leb, leb-true, eq-eqb, eqb-true}
 use lib.Count.{ones, ones_step, ones_cat}
 use lib.Dec.{leb, eqb}
 use lib.Pow.{pow_pos, pow_mono}
+use Rattle.std.specs.Prelude.{Option, Some, None}
 use Rattle.lists.proofs.Bools.{and_both, and_intro}
 use Rattle.numbers.specs.Numbers.{IsPermittedTo, permitted, tap_word_batches, is_tap_length}
 use Rattle.numbers.specs.Numbers.{trace_word_batches, is_trace_length, batches_if}
-use Rattle.numbers.specs.declared.BatchCount.{BatchCount}
-use Rattle.numbers.specs.declared.BatchCount.TheVariants.{Permitted, Refused}
 
 -- ---- one set bit
 ones_zero : ones 0 ≡ 0
@@ -122,28 +121,28 @@ module _ (most : ℕ) where
       )
 
 -- ---- what a count says of the test that it was made by
-pub count_permitted : (ok : Bool) (n k : ℕ) → batches_if ok n ≡ Permitted k → (ok ≡ true) × (n ≡ k)
+pub count_permitted : (ok : Bool) (n k : ℕ) → batches_if ok n ≡ Some k → (ok ≡ true) × (n ≡ k)
 count_permitted true n k e = (refl, cc)
 count_permitted false n k e = absurd (let z : ◌≡◌ {A = ℕ} 0 1 = cc in omega arith)
 
-pub count_refused : (ok : Bool) (n : ℕ) → batches_if ok n ≡ Refused → ok ≡ false
+pub count_refused : (ok : Bool) (n : ℕ) → batches_if ok n ≡ None → ok ≡ false
 count_refused true n e = absurd (let z : ◌≡◌ {A = ℕ} 0 1 = cc in omega arith)
 count_refused false n e = refl
 
 -- a count b of so many words
-module _ (most words : ℕ) {b : BatchCount} where
-  pub tap_refused : b ≡ batches_if (is_tap_length most words) (tap_word_batches words) → b ≡ Refused
+module _ (most words : ℕ) {b : Option ℕ} where
+  pub tap_refused : b ≡ batches_if (is_tap_length most words) (tap_word_batches words) → b ≡ None
       → is_tap_length most words ≡ false
   tap_refused e q = count_refused (is_tap_length most words) (tap_word_batches words) (sym e ∙ q)
 
-  pub tap_permitted : {k : ℕ} → b ≡ batches_if (is_tap_length most words) (tap_word_batches words) → b ≡ Permitted k
+  pub tap_permitted : {k : ℕ} → b ≡ batches_if (is_tap_length most words) (tap_word_batches words) → b ≡ Some k
       → (is_tap_length most words ≡ true) × (tap_word_batches words ≡ k)
   tap_permitted {k} e q = count_permitted (is_tap_length most words) (tap_word_batches words) k (sym e ∙ q)
 
-  pub trace_refused : b ≡ batches_if (is_trace_length most words) (trace_word_batches words) → b ≡ Refused
+  pub trace_refused : b ≡ batches_if (is_trace_length most words) (trace_word_batches words) → b ≡ None
       → is_trace_length most words ≡ false
   trace_refused e q = count_refused (is_trace_length most words) (trace_word_batches words) (sym e ∙ q)
 
-  pub trace_permitted : {k : ℕ} → b ≡ batches_if (is_trace_length most words) (trace_word_batches words) → b ≡ Permitted k
+  pub trace_permitted : {k : ℕ} → b ≡ batches_if (is_trace_length most words) (trace_word_batches words) → b ≡ Some k
       → (is_trace_length most words ≡ true) × (trace_word_batches words ≡ k)
   trace_permitted {k} e q = count_permitted (is_trace_length most words) (trace_word_batches words) k (sym e ∙ q)

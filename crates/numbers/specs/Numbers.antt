@@ -1,11 +1,9 @@
 -- Sizes, where rows stand in batches, the permitted batch counts, and the batches of a tap list and of a trace
 -- (document 01, "Hash and chain", "The trace").
 -- Assumes nothing.
-use Rattle.std.specs.Prelude.{Bool, ◌&&◌, ◌≡◌, ℕ, ◌+◌, ◌*◌, ◌/◌, ◌%◌, ◌≤◌, leb, eqb}
+use Rattle.std.specs.Prelude.{Bool, ◌&&◌, ◌≡◌, ℕ, ◌+◌, ◌*◌, ◌/◌, ◌%◌, ◌≤◌, leb, eqb, Option, Some, None}
 use Rattle.std.specs.Int.Count.{ones}
 use Rattle.lists.specs.Lists.{choose}
-use Rattle.numbers.specs.declared.BatchCount.{BatchCount}
-use Rattle.numbers.specs.declared.BatchCount.TheVariants.{Permitted, Refused}
 
 -- ---- sizes: the cells of a state and of a row, which is the side of M too; the rows of a batch, and their words
 abbrev pub width : ℕ
@@ -68,5 +66,5 @@ abbrev pub is_trace_length : ℕ → ℕ → Bool
 is_trace_length most words = eqb (words % batch_words) 0 && permitted most (trace_word_batches words)
 
 -- k where the test says yes
-abbrev pub batches_if : Bool → ℕ → BatchCount
-batches_if ok k = choose ok (Permitted k) Refused
+abbrev pub batches_if : Bool → ℕ → Option ℕ
+batches_if ok k = choose ok (Some k) None

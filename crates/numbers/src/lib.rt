@@ -45,13 +45,6 @@ pub struct HashNumber(pub usize);
 #[derive(Clone, Copy)]
 pub struct TapNumber(pub usize);
 
-// How many batches a length stands for.
-#[derive(Clone, Copy)]
-pub enum BatchCount {
-    Permitted(usize),
-    Refused,
-}
-
 impl BatchNumber {
     // The row of the trace that is row `within` of the batch.
     pub fn row(self, within: BatchRow) -> RowNumber
@@ -150,41 +143,31 @@ pub const MOST_BATCHES: usize = 1 << 18;
 pub fn is_permitted(most: usize, k: usize) -> bool
     ensures { result ≡ permitted most k }
 {
-    if k < 1 {
-        return false;
-    }
-    if most < k {
-        return false;
-    }
-    usize::count_ones(k) == 1
+    1 <= k && k <= most && k.count_ones() == 1
 }
 
-// The batches of a tap list of so many words.
-pub fn tap_batches(most: usize, words: usize) -> BatchCount
+// The batches of a tap list of so many words, where they are permitted.
+pub fn tap_batches(most: usize, words: usize) -> Option<usize>
     ensures { result ≡ batches_if (is_tap_length most words) (tap_word_batches words) }
 {
     if words % BATCH_TAP_WORDS != TAP_WORDS {
-        return BatchCount::Refused;
+        return None;
     }
     batch_count(most, words / BATCH_TAP_WORDS)
 }
 
-// The batches of a trace of so many words.
-pub fn trace_batches(most: usize, words: usize) -> BatchCount
+// The batches of a trace of so many words, where they are permitted.
+pub fn trace_batches(most: usize, words: usize) -> Option<usize>
     ensures { result ≡ batches_if (is_trace_length most words) (trace_word_batches words) }
 {
     if words % BATCH_WORDS != 0 {
-        return BatchCount::Refused;
+        return None;
     }
     batch_count(most, words / BATCH_WORDS)
 }
 
-fn batch_count(most: usize, k: usize) -> BatchCount
+fn batch_count(most: usize, k: usize) -> Option<usize>
     ensures { result ≡ batches_if (permitted most k) k }
 {
-    if is_permitted(most, k) {
-        BatchCount::Permitted(k)
-    } else {
-        BatchCount::Refused
-    }
+    is_permitted(most, k).then_some(k)
 }

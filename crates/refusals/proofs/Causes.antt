@@ -7,69 +7,68 @@ use mathlib.Core.Logic.{inl, inr, ⊎_elim, ◌↔◌}
 use Prim.Native.Nat.{ℕ}
 use borrow.Author.Tests.{eqb-false}
 use lib.Dec.{eqb}
+use Rattle.std.specs.Prelude.{Ok, Err}
 use Rattle.refusals.specs.Refusals.{told}
 use Rattle.refusals.specs.declared.Refusal.{Refusal}
-use Rattle.refusals.specs.declared.Answer.{Answer}
-use Rattle.refusals.specs.declared.Answer.TheVariants.{Accepted, Refused}
-use Rattle.refusals.specs.Answers.{unless, after}
+use Rattle.refusals.specs.Answers.{Answer, unless, after}
 use Rattle.refusals.specs.Causes.{by, by_index, in_order, DecidedBy}
 use Rattle.refusals.proofs.Laws.{not_accepted, refused_same, after_unless}
 
 -- refusals tell acceptance too
-pub decided : (causes : Refusal → Type 0) (a : Answer) → ((r : Refusal) → (a ≡ Refused r) ↔ causes r)
+pub decided : (causes : Refusal → Type 0) (a : Answer) → ((r : Refusal) → (a ≡ Err r) ↔ causes r)
     → DecidedBy causes a
 decided causes a h = record {
   refuses_exactly = h;
   accepts_exactly = (λ e r c. not_accepted r (sym ((h r).1 c) ∙ e), λ none. go a (λ r e. none r ((h r).0 e)));
 }
   where
-    go : (b : Answer) → ((r : Refusal) → b ≡ Refused r → ⊥) → b ≡ Accepted
-    go Accepted n = refl
-    go (Refused r) n = absurd (n r refl)
+    go : (b : Answer) → ((r : Refusal) → b ≡ Err r → ⊥) → b ≡ Ok tt
+    go (Ok _) n = refl
+    go (Err r) n = absurd (n r refl)
 
 -- ---- one test
 pub one : (b : Bool) (q : Refusal) (cause : Type 0) → (b ≡ false → cause) → (b ≡ true → cause → ⊥)
-    → DecidedBy (by q cause) (unless b q Accepted)
+    → DecidedBy (by q cause) (unless b q (Ok tt))
 one true q cause f g =
-    decided (by q cause) Accepted λ r. (λ e. absurd (not_accepted r (sym e)), λ c. absurd (g refl c.0))
+    decided (by q cause) (Ok tt) λ r. (λ e. absurd (not_accepted r (sym e)), λ c. absurd (g refl c.0))
 one false q cause f g =
-    decided (by q cause) (Refused q) λ r. (λ e. (f refl, sym (refused_same e)), λ c. ap Refused (sym c.1))
+    decided (by q cause) (Err q) λ r. (λ e. (f refl, sym (refused_same e)), λ c. ap Err (sym c.1))
 
 -- i is the one index at which the cause can hold
 pub one_index : (b : Bool) (q : ℕ → Refusal) (i : ℕ) (cause : ℕ → Type 0) → (b ≡ false → cause i)
     → (b ≡ true → (j : ℕ) → cause j → ⊥) → ((j : ℕ) → cause j → j ≡ i)
-    → DecidedBy (by_index q cause) (unless b (q i) Accepted)
+    → DecidedBy (by_index q cause) (unless b (q i) (Ok tt))
 one_index true q i cause f g only =
-    decided (by_index q cause) Accepted λ r. (λ e. absurd (not_accepted r (sym e)), λ c. absurd (g refl c.0 c.1))
+    decided (by_index q cause) (Ok tt) λ r. (λ e. absurd (not_accepted r (sym e)), λ c. absurd (g refl c.0 c.1))
 one_index false q i cause f g only =
-    decided (by_index q cause) (Refused (q i)) λ r. (
+    decided (by_index q cause) (Err (q i)) λ r. (
       λ e. (i, f refl, sym (refused_same e)),
-      λ c. ap Refused (ap q (sym (only c.0 c.1)) ∙ sym c.2),
+      λ c. ap Err (ap q (sym (only c.0 c.1)) ∙ sym c.2),
     )
 
 -- ---- and then more
 pub tests_after_lem : (first next : Refusal → Type 0) (a rest : Answer) → DecidedBy first a
-    → (a ≡ Accepted → DecidedBy next rest) → DecidedBy (in_order first next) (after a rest)
-tests_after_lem first next Accepted rest h n =
+    → (a ≡ Ok tt → DecidedBy next rest) → DecidedBy (in_order first next) (after a rest)
+tests_after_lem first next (Ok _) rest h n =
     let none = h.accepts_exactly.0 refl in
     decided (in_order first next) rest λ r. (
       λ e. inr (none, ((n refl).refuses_exactly r).0 e),
       ⊎_elim (λ c. absurd (none r c)) (λ c. ((n refl).refuses_exactly r).1 c.1),
     )
-tests_after_lem first next (Refused q) rest h n =
-    decided (in_order first next) (Refused q) λ r. (
+tests_after_lem first next (Err q) rest h n =
+    decided (in_order first next) (Err q) λ r. (
       λ e. inl ((h.refuses_exactly r).0 e),
       ⊎_elim (λ c. (h.refuses_exactly r).1 c) (λ c. absurd (c.0 q ((h.refuses_exactly q).0 refl))),
     )
 
 pub test_before : (first next : Refusal → Type 0) (b : Bool) (q : Refusal) (rest : Answer)
-    → DecidedBy first (unless b q Accepted) → (b ≡ true → DecidedBy next rest)
+    → DecidedBy first (unless b q (Ok tt)) → (b ≡ true → DecidedBy next rest)
     → DecidedBy (in_order first next) (unless b q rest)
 test_before first next b q rest h n =
-    subst (DecidedBy (in_order first next)) (after_unless b q Accepted rest)
-    (tests_after_lem first next (unless b q Accepted) rest h (λ e. n (passes b e)))
+    subst (DecidedBy (in_order first next)) (after_unless b q (Ok tt) rest)
+    (tests_after_lem first next (unless b q (Ok tt)) rest h (λ e. n (passes b e)))
   where
-    passes : (x : Bool) → unless x q Accepted ≡ Accepted → x ≡ true
+    passes : (x : Bool) → unless x q (Ok tt) ≡ Ok tt → x ≡ true
     passes true e = refl
     passes false e = absurd (not_accepted q e)
 

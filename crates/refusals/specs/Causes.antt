@@ -1,10 +1,9 @@
 -- Why tests refuse: causes in an order, of which the first that holds gives the refusal (document 01, "What is turned
 -- back").
 -- Assumes nothing.
-use Rattle.std.specs.Prelude.{◌≡◌, ◌⊎◌, ◌↔◌, ℕ}
+use Rattle.std.specs.Prelude.{◌≡◌, ◌⊎◌, ◌↔◌, ℕ, Ok, Err}
 use Rattle.refusals.specs.declared.Refusal.{Refusal}
-use Rattle.refusals.specs.declared.Answer.{Answer}
-use Rattle.refusals.specs.declared.Answer.TheVariants.{Accepted, Refused}
+use Rattle.refusals.specs.Answers.{Answer}
 
 -- causes, as which refusals they give: this one, where the cause holds
 abbrev pub by : Refusal → Type 0 → Refusal → Type 0
@@ -20,5 +19,5 @@ in_order first next r = first r ⊎ (((q : Refusal) → first q → ⊥) × next
 
 -- the answer is what these causes give, and acceptance where they give nothing
 pub record DecidedBy (causes : Refusal → Type 0) (a : Answer) : Type 0 where
-  pub refuses_exactly : (r : Refusal) → (a ≡ Refused r) ↔ causes r
-  pub accepts_exactly : (a ≡ Accepted) ↔ ((r : Refusal) → causes r → ⊥)
+  pub refuses_exactly : (r : Refusal) → (a ≡ Err r) ↔ causes r
+  pub accepts_exactly : (a ≡ Ok tt) ↔ ((r : Refusal) → causes r → ⊥)

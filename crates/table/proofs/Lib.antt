@@ -1,4 +1,4 @@
 pub mod Parts
-pub mod Ready
+pub mod ReadyLaws
 pub mod Tested
 pub mod Theorems

@@ -1,7 +1,7 @@
 -- The table test: the product of M and the stored inverse, the first cell that is unlike the identity, and the answer
 -- by cases.
 -- Assumes nothing.
-use Prim.Native.Nat.{ℕ, ◌+◌, ◌*◌, ◌-◌, ◌/◌, ◌%◌, ◌≤◌, ◌<◌}
+use Prim.Native.Nat.{ℕ, ◌+◌, ◌*◌, ◌-◌, ◌/◌, ◌%◌, ◌<◌}
 use mathlib.Core.Path.{◌≡◌, refl, sym, ap, ap₂, ◌∙◌, subst}
 use mathlib.Core.Bool.{Bool, true, false, not}
 use mathlib.Core.List.{List}
@@ -11,6 +11,7 @@ use native.Mathlib.Omega.{arith}
 use borrow.Author.Tests.{eq-eqb, ne_eqb}
 use lib.Dec.{eqb}
 use lib.ListN.{length}
+use Rattle.std.specs.Prelude.{Ok, Err}
 use Rattle.lists.specs.Lists.{choose, cell, tab}
 use Rattle.lists.proofs.Tab.{cell_tab}
 use Rattle.lists.proofs.First.{IsFirst, is_first, first_none, found_at}
@@ -20,11 +21,10 @@ use Rattle.field_words.specs.Words.{CanonicalTo, AllCanonical, first_bad}
 use Rattle.matrix.specs.Matrix.{product, identity, entry, times_column}
 use Rattle.matrix.proofs.Linear.{times_ext, product_column}
 use Rattle.matrix_ready.specs.MixingHelpers.{ready_entry}
-use Rattle.refusals.specs.declared.Answer.TheVariants.{Accepted, Refused}
 use Rattle.refusals.specs.declared.Refusal.TheVariants.{TableLength, TableWord, WrongInverse}
 use Rattle.table.specs.Table.{table_words, matrix_of, inverse_of, unlike, first_unlike, table_test}
 use Rattle.table.specs.ReadyHelpers.{ready_matrix, unlike_in_row, ready_left}
-use Rattle.table.proofs.Ready.{product_scaled, unit_cancel, unit_diagonal}
+use Rattle.table.proofs.ReadyLaws.{product_scaled, unit_cancel, unit_diagonal}
 
 -- ---- the product, column by column
 pub column_canonical : (n x : List ℕ) (k : ℕ) → length n ≡ 144 → AllCanonical n → k < 12
@@ -109,10 +109,6 @@ passes t b = sym (first_none 144 (unlike t) b)
 abbrev pub in_row : List ℕ → ℕ → ℕ → Bool
 in_row s i k = not (eqb (cell s (12 * k + i)) (choose (eqb i k) unit_square 0))
 
-pub unlike_within : (s : List ℕ) (i : ℕ) → unlike_in_row s i ≤ 12
-unfolding unlike_in_row
-unlike_within s i = (is_first 12 (in_row s i)).within
-
 module _ (t r s : List ℕ) (er : r ≡ ready_matrix t) (es : s ≡ tab 144 (by_columns r (inverse_of t))) (i : ℕ)
     (hi : i < 12) where
   row_cell : (k : ℕ) → k < 12 → in_row s i k ≡ unlike t (12 * i + k)
@@ -160,10 +156,8 @@ module _ (t r s : List ℕ) (er : r ≡ ready_matrix t) (es : s ≡ tab 144 (by_
             place : d ≡ 12 * i + (d - 12 * i)
             place = omega arith
 
-    pub row_stops : (k ≡ 12 → ⊥) → 12 * i + k ≡ first_unlike t
-    row_stops n =
-        let h : k < 12 = omega (arith, first_in.within, n) in
-        stops t (12 * i + k) (omega arith) passed (sym (row_cell k h) ∙ first_in.found h)
+    pub row_stops : k < 12 → 12 * i + k ≡ first_unlike t
+    row_stops h = stops t (12 * i + k) (omega arith) passed (sym (row_cell k h) ∙ first_in.found h)
 
     pub row_passes : k ≡ 12 → (d : ℕ) → d < 12 * (i + 1) → unlike t d ≡ false
     row_passes z d h = passed d (omega arith)
@@ -185,17 +179,17 @@ module _ (t old : List ℕ) where
 
 -- ---- the answer
 module _ (t : List ℕ) where
-  pub wrong_length : (length t ≡ table_words → ⊥) → Refused TableLength ≡ table_test t
+  pub wrong_length : (length t ≡ table_words → ⊥) → Err TableLength ≡ table_test t
   unfolding table_test
   wrong_length h = sym (rw (ne_eqb (length t) table_words h))
 
   module _ (size : length t ≡ table_words) where
-    pub wrong_word : (b : ℕ) → b ≡ first_bad t → (b ≡ table_words → ⊥) → Refused (TableWord b) ≡ table_test t
+    pub wrong_word : (b : ℕ) → b ≡ first_bad t → (b ≡ table_words → ⊥) → Err (TableWord b) ≡ table_test t
     unfolding table_test
     wrong_word b e h = rw (e, eq-eqb (length t) table_words size, ne_eqb (first_bad t) table_words (λ q. h (e ∙ q)))
 
     module _ (good : first_bad t ≡ table_words) where
-      pub wrong_cell : (c : ℕ) → c ≡ first_unlike t → (c ≡ 144 → ⊥) → Refused (WrongInverse c) ≡ table_test t
+      pub wrong_cell : (c : ℕ) → c ≡ first_unlike t → (c ≡ 144 → ⊥) → Err (WrongInverse c) ≡ table_test t
       unfolding table_test
       wrong_cell c e h =
           rw (
@@ -205,7 +199,7 @@ module _ (t : List ℕ) where
             ne_eqb (first_unlike t) 144 (λ q. h (e ∙ q)),
           )
 
-      pub accepted : first_unlike t ≡ 144 → Accepted ≡ table_test t
+      pub accepted : first_unlike t ≡ 144 → (Ok tt) ≡ table_test t
       unfolding table_test
       accepted h =
           rw (eq-eqb (length t) table_words size, eq-eqb (first_bad t) table_words good, eq-eqb (first_unlike t) 144 h)

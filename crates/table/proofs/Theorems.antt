@@ -8,6 +8,7 @@ use native.Mathlib.Decide.{ℕ_discrete}
 use native.Mathlib.Omega.{arith}
 use borrow.Author.Tests.{eq-eqb, ne_eqb, eqb-true, eqb-false, not-true, not-false}
 use lib.ListN.{length}
+use Rattle.std.specs.Prelude.{Ok, Err}
 use Rattle.lists.specs.Lists.{cell, first}
 use Rattle.lists.proofs.First.{IsFirst, is_first, none_first, found_at}
 use Rattle.field.specs.Field.{Canonical}
@@ -16,20 +17,16 @@ use Rattle.field_words.proofs.Laws.{within, first_bad_lem, all_good, good_all}
 use Rattle.matrix.specs.Matrix.{product, identity, Inverse, entry, times}
 use Rattle.matrix.proofs.States.{times_undo, times_redo}
 use Rattle.matrix_ready.specs.MixingHelpers.{ready_words}
-use Rattle.refusals.specs.declared.Refusal.{Refusal}
 use Rattle.refusals.specs.declared.Refusal.TheVariants.{TableLength, TableWord, WrongInverse}
-use Rattle.refusals.specs.declared.Answer.{Answer}
-use Rattle.refusals.specs.declared.Answer.TheVariants.{Accepted, Refused}
 use Rattle.table.specs.Table.{table_words, matrix_of, inverse_of, initial_constant}
 use Rattle.table.specs.Table.{first_step_constant, second_step_constant, unlike, first_unlike, table_test, IsTable}
 use Rattle.table.specs.Table.{IsFirstUnlike}
 use Rattle.table.specs.ReadyHelpers.{ready_matrix, ready_left}
 use Rattle.table.proofs.Parts as parts
-use Rattle.table.proofs.Ready.{ready_is}
+use Rattle.table.proofs.ReadyLaws.{ready_is}
 use Rattle.table.proofs.Tested as tested
-
-pub not_refused : (r : Refusal) → Refused r ≡ Accepted → ⊥
-not_refused r e = let z : ◌≡◌ {A = ℕ} 0 1 = cc in omega arith
+use Rattle.refusals.specs.Answers.{Answer}
+use Rattle.refusals.proofs.Laws.{not_accepted}
 
 -- ---- the table test accepts exactly the tables: all words canonical, and M times the stored inverse the identity
 like_identity : (t : List ℕ) → first_unlike t ≡ 144 → Inverse 12 (entry (matrix_of t)) (entry (inverse_of t))
@@ -53,7 +50,7 @@ identity_like : (t : List ℕ) → Inverse 12 (entry (matrix_of t)) (entry (inve
 unfolding unlike Inverse
 identity_like t h c l = rw (eq-eqb _ _ (h (c / 12) (c % 12) (omega arith) (omega arith)))
 
-pub test_complete : (t : List ℕ) → IsTable t → table_test t ≡ Accepted
+pub test_complete : (t : List ℕ) → IsTable t → table_test t ≡ Ok tt
 test_complete t h =
     sym
     (tested.accepted t h.size (all_good t h.canonical ∙ h.size) (tested.passes t (identity_like t h.inverse)))
@@ -69,11 +66,11 @@ left_size t old {r} h e = (ready_is t r (ready_left_lem t old h e)).size
 
 -- the answer of the test, by cases
 pub data Answers (t : List ℕ) : Answer → Type 0 where
-  accepted : IsTable t → Answers t Accepted
-  length_refused : (length t ≡ table_words → ⊥) → Answers t (Refused TableLength)
-  word_refused : (i : ℕ) → length t ≡ table_words → IsFirstBad t i → Answers t (Refused (TableWord i))
+  accepted : IsTable t → Answers t (Ok tt)
+  length_refused : (length t ≡ table_words → ⊥) → Answers t (Err TableLength)
+  word_refused : (i : ℕ) → length t ≡ table_words → IsFirstBad t i → Answers t (Err (TableWord i))
   cell_refused : (c : ℕ) → length t ≡ table_words → AllCanonical t → IsFirstUnlike t c
-      → Answers t (Refused (WrongInverse c))
+      → Answers t (Err (WrongInverse c))
 
 pub first_cell : (t : List ℕ) → (first_unlike t ≡ 144 → ⊥) → IsFirstUnlike t (first_unlike t)
 unfolding first_unlike unlike
@@ -118,14 +115,14 @@ test_answers t = with_size (ℕ_discrete (length t) table_words)
     with_size (yes s) = with_words s (ℕ_discrete (first_bad t) table_words)
     with_size (no s) = subst (Answers t) (tested.wrong_length t s) (length_refused s)
 
-pub test_sound : (t : List ℕ) → table_test t ≡ Accepted → IsTable t
+pub test_sound : (t : List ℕ) → table_test t ≡ Ok tt → IsTable t
 test_sound t = go (table_test t) (test_answers t)
   where
-    go : (a : Answer) → Answers t a → a ≡ Accepted → IsTable t
+    go : (a : Answer) → Answers t a → a ≡ Ok tt → IsTable t
     go a (accepted h) e = h
-    go a (length_refused h) e = absurd (not_refused _ e)
-    go a (word_refused i s h) e = absurd (not_refused _ e)
-    go a (cell_refused c s w h) e = absurd (not_refused _ e)
+    go a (length_refused h) e = absurd (not_accepted _ e)
+    go a (word_refused i s h) e = absurd (not_accepted _ e)
+    go a (cell_refused c s w h) e = absurd (not_accepted _ e)
 
 -- ---- what an accepted table holds
 module _ (t : List ℕ) (h : IsTable t) where

@@ -1,6 +1,6 @@
 -- The table, its test, and what Prepare writes (document 01, "The table").
 -- Assumes nothing.
-use Rattle.std.specs.Prelude.{◌≡◌, Bool, not, List, ◌++◌, ℕ, ◌+◌, ◌*◌, ◌/◌, ◌%◌, ◌<◌, eqb, length, take, drop}
+use Rattle.std.specs.Prelude.{◌≡◌, Bool, not, List, ◌++◌, ℕ, ◌+◌, ◌*◌, ◌/◌, ◌%◌, ◌<◌, eqb, length, take, drop, Ok, Err}
 use Rattle.lists.specs.Lists.{first}
 use Rattle.field_words.specs.Words.{AllCanonical, first_bad}
 use Rattle.numbers.specs.Numbers.{width}
@@ -8,9 +8,7 @@ use Rattle.matrix.specs.Matrix.{matrix_words, entry, product, identity, Inverse,
 use Rattle.refusals.specs.declared.Refusal.{Refusal}
 use Rattle.refusals.specs.declared.Refusal.TheVariants.{TableLength, TableWord, NoInverse, WrongInverse}
 use Rattle.refusals.specs.declared.Refusal.TheVariants.{DestinationLength}
-use Rattle.refusals.specs.declared.Answer.{Answer}
-use Rattle.refusals.specs.declared.Answer.TheVariants.{Accepted, Refused}
-use Rattle.refusals.specs.Answers.{unless}
+use Rattle.refusals.specs.Answers.{Answer, unless}
 
 -- ---- how many words: the raw table, the prepared one
 abbrev pub raw_words : ℕ
@@ -58,7 +56,7 @@ table_test T =
     unless (eqb (length T) table_words) TableLength
     (unless (eqb (first_bad T) table_words) (TableWord (first_bad T))
     (unless (eqb (first_unlike T) matrix_words) (WrongInverse (first_unlike T))
-    Accepted))
+    (Ok tt)))
 
 -- cell n of M times the stored inverse is like the identity
 abbrev pub IsLike : List ℕ → ℕ → Type 0
@@ -95,13 +93,13 @@ raw_test raw size =
     unless (eqb (length raw) raw_words) TableLength
     (unless (eqb size table_words) DestinationLength
     (unless (eqb (first_bad raw) raw_words) (TableWord (first_bad raw))
-    Accepted))
+    (Ok tt)))
 
 -- what Prepare answers and leaves in the destination: the prepared table, 3 where M takes some non-zero column to all
 -- zeros, or the refusal of its tests
 pub data Prepares (raw old : List ℕ) : Answer → List ℕ → Type 0 where
-  accepts : (n : List ℕ) → raw_test raw (length old) ≡ Accepted → RawInverse raw n
-      → Prepares raw old Accepted (prepared raw n)
-  no_inverse : raw_test raw (length old) ≡ Accepted → Kernel width (entry (raw_matrix raw))
-      → Prepares raw old (Refused NoInverse) old
-  refuses : (r : Refusal) → raw_test raw (length old) ≡ Refused r → Prepares raw old (Refused r) old
+  accepts : (n : List ℕ) → raw_test raw (length old) ≡ Ok tt → RawInverse raw n
+      → Prepares raw old (Ok tt) (prepared raw n)
+  no_inverse : raw_test raw (length old) ≡ Ok tt → Kernel width (entry (raw_matrix raw))
+      → Prepares raw old (Err NoInverse) old
+  refuses : (r : Refusal) → raw_test raw (length old) ≡ Err r → Prepares raw old (Err r) old

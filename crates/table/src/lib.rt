@@ -1,7 +1,7 @@
 // The table and its test (document 01, "The table").
 #![tactic(auto)]
 
-ghost use Rattle.std.specs.Prelude.{◌≡◌, ◌/◌, ◌%◌, ◌<◌, eqb, length};
+ghost use Rattle.std.specs.Prelude.{◌≡◌, ◌/◌, ◌%◌, ◌<◌, MatchOption, eqb, length};
 ghost use Rattle.lists.specs.Lists.{choose, cell, tab};
 ghost use Rattle.field.specs.Field.{Canonical};
 ghost use Rattle.field.specs.MontgomeryHelpers.{unit_square};
@@ -14,10 +14,15 @@ ghost use Rattle.table.specs.Table.{constant, initial_constant, first_step_const
 ghost use Rattle.table.specs.Table.{first_unlike, table_test, IsTable};
 ghost use Rattle.table.specs.ReadyHelpers.{ready_matrix, unlike_in_row, ready_left};
 
+use field_words::Cells;
 use matrix::MATRIX_WORDS;
 use matrix_ready::READY_WORDS;
 use numbers::WIDTH;
-use refusals::{Answer, Refusal};
+use refusals::Refusal;
+
+pub mod ready;
+
+pub use ready::Ready;
 
 // A raw table: M, then K_0 to K_20, twelve words each.
 pub const RAW_WORDS: usize = MATRIX_WORDS + 21 * WIDTH;
@@ -44,36 +49,38 @@ pub fn inverse(table: &[u64]) -> &[u64]
     &table[MATRIX_WORDS..CONSTANTS]
 }
 
-// One cell of K_n.
-fn constant(table: &[u64], n: usize, column: usize) -> u64
-    requires { IsTable table.now × (n < 21) × (column < width) }
-    ensures { (result ≡ cell (constant table.now n) column) × Canonical result }
+// K_n.
+fn constant(table: &[u64], n: usize) -> &[u64]
+    requires { IsTable table.now × (n < 21) }
+    ensures { result.now ≡ constant table.now n }
 {
-    table[CONSTANTS + WIDTH * n + column]
+    let start = CONSTANTS + WIDTH * n;
+    let end = start + WIDTH;
+    &table[start..end]
 }
 
-// One cell of K_0, which is added before round 0.
-pub fn initial_constant(table: &[u64], column: usize) -> u64
-    requires { IsTable table.now × (column < width) }
-    ensures { (result ≡ cell (initial_constant table.now) column) × Canonical result }
+// K_0, which is added before round 0.
+pub fn initial_constant(table: &[u64]) -> &[u64]
+    requires { IsTable table.now }
+    ensures { result.now ≡ initial_constant table.now }
 {
-    constant(table, 0, column)
+    constant(table, 0)
 }
 
-// One cell of the constant that the first step of the round adds.
-pub fn first_step_constant(table: &[u64], round: usize, column: usize) -> u64
-    requires { IsTable table.now × (round < 10) × (column < width) }
-    ensures { (result ≡ cell (first_step_constant table.now round) column) × Canonical result }
+// The constant that the first step of the round adds.
+pub fn first_step_constant(table: &[u64], round: usize) -> &[u64]
+    requires { IsTable table.now × (round < 10) }
+    ensures { result.now ≡ first_step_constant table.now round }
 {
-    constant(table, 2 * round + 1, column)
+    constant(table, 2 * round + 1)
 }
 
-// One cell of the constant that its second step adds.
-pub fn second_step_constant(table: &[u64], round: usize, column: usize) -> u64
-    requires { IsTable table.now × (round < 10) × (column < width) }
-    ensures { (result ≡ cell (second_step_constant table.now round) column) × Canonical result }
+// The constant that its second step adds.
+pub fn second_step_constant(table: &[u64], round: usize) -> &[u64]
+    requires { IsTable table.now × (round < 10) }
+    ensures { result.now ≡ second_step_constant table.now round }
 {
-    constant(table, 2 * round + 2, column)
+    constant(table, 2 * round + 2)
 }
 
 // Column k of a 12 × 12 matrix.
@@ -107,7 +114,10 @@ fn product_columns(ready: &[u64], n: &[u64]) -> [u64; MATRIX_WORDS]
 {
     let mut out = [0u64; MATRIX_WORDS];
     for k in 0..WIDTH {
-        let x = matrix_ready::mix(ready, column(n, k));
+        let column = Cells {
+            words: column(n, k),
+        };
+        let x = matrix_ready::mix(ready, column).words;
         for i in 0..WIDTH {
             out[WIDTH * k + i] = x[i];
         }
@@ -122,58 +132,52 @@ fn identity(i: usize, k: usize) -> u64
     if i == k { field_montgomery::SQUARE } else { 0 }
 }
 
-// The first column in which a row of the product is unlike the identity's, or 12: both times 2^128.
-fn unlike_in_row(product: &[u64; MATRIX_WORDS], row: usize) -> usize
+// The first column in which a row of the product is unlike the identity's: both times 2^128.
+fn unlike_in_row(product: &[u64; MATRIX_WORDS], row: usize) -> Option<usize>
     requires { (length product.now ≡ matrix_words) × (row < width) }
-    ensures { result ≡ unlike_in_row product.now row }
+    ensures { MatchOption result (unlike_in_row product.now row ≡ width)
+        (λ k. (k ≡ unlike_in_row product.now row) × (k < width)) }
 {
-    for k in 0..WIDTH {
-        if product[WIDTH * k + row] != identity(row, k) {
-            return k;
-        }
-    }
-    WIDTH
+    (0..WIDTH).find(|&k| product[WIDTH * k + row] != identity(row, k))
 }
 
-// The first cell, row by row, in which M times the stored inverse is unlike the identity, or 144.
-fn first_unlike(ready: &[u64], table: &[u64]) -> usize
+// The first cell, row by row, in which M times the stored inverse is unlike the identity.
+fn first_unlike(ready: &[u64], table: &[u64]) -> Option<usize>
     requires { (length table.now ≡ table_words) × AllCanonical table.now × (ready.now ≡ ready_matrix table.now) }
-    ensures { result ≡ first_unlike table.now }
+    ensures { MatchOption result (first_unlike table.now ≡ matrix_words)
+        (λ n. (n ≡ first_unlike table.now) × (n < matrix_words)) }
 {
     let product = product_columns(ready, inverse(table));
     for row in 0..WIDTH {
-        let k = unlike_in_row(&product, row);
-        if k != WIDTH {
-            return WIDTH * row + k;
+        if let Some(k) = unlike_in_row(&product, row) {
+            return Some(WIDTH * row + k);
         }
     }
-    MATRIX_WORDS
+    None
 }
 
 // The table test, with which every operation but Prepare begins: 1, 2, 4. It multiplies M made ready by the stored
 // inverse, and leaves it so, for whoever goes on with an accepted table.
-pub fn test_and_ready(table: &[u64], ready: &mut [u64; READY_WORDS]) -> Answer
+pub fn test_and_ready(table: &[u64], ready: &mut [u64; READY_WORDS]) -> Result<(), Refusal>
     requires { length ready.old ≡ ready_words }
     ensures { (result ≡ table_test table.now)
         × (ready.new ≡ ready_left table.now ready.old) }
 {
     if table.len() != WORDS {
-        return Answer::Refused(Refusal::TableLength);
+        return Err(Refusal::TableLength);
     }
-    let bad = field_words::first_bad(table);
-    if bad != WORDS {
-        return Answer::Refused(Refusal::TableWord(bad));
+    if let Some(bad) = field_words::first_bad(table) {
+        return Err(Refusal::TableWord(bad));
     }
     make_ready(table, ready);
-    let cell = first_unlike(ready, table);
-    if cell != MATRIX_WORDS {
-        return Answer::Refused(Refusal::WrongInverse(cell));
+    if let Some(cell) = first_unlike(ready, table) {
+        return Err(Refusal::WrongInverse(cell));
     }
-    Answer::Accepted
+    Ok(())
 }
 
 // The table test alone.
-pub fn test(table: &[u64]) -> Answer
+pub fn test(table: &[u64]) -> Result<(), Refusal>
     ensures { result ≡ table_test table.now }
 {
     let mut room = [0u64; READY_WORDS];

@@ -2,21 +2,19 @@
 -- Assumes nothing.
 use Prim.Native.Nat.{ℕ, ◌+◌, ◌-◌, ◌≤◌, ◌<◌}
 use mathlib.Core.Path.{◌≡◌, sym, ap, ◌∙◌, subst}
-use mathlib.Core.Bool.{Bool, true, false}
 use mathlib.Core.List.{List, ◌++◌}
 use native.Mathlib.Decide.{dec_lt}
 use native.Mathlib.Omega.{arith}
 use borrow.Author.Tests.{eq-eqb, ne_eqb}
 use lib.ListN.{length, take, drop, length-append, length-drop, get_or-append}
 use lib.Seq.{length-take-le, get_or-take, get_or-drop, get_or-append-add, take_at, drop_at}
+use Rattle.std.specs.Prelude.{Ok, Err}
 use Rattle.lists.specs.Lists.{cell}
 use Rattle.field.specs.Field.{P, Canonical}
 use Rattle.field_words.specs.Words.{AllCanonical, first_bad}
-use Rattle.refusals.specs.declared.Refusal.TheVariants.{TableLength, TableWord, NoInverse, DestinationLength}
-use Rattle.refusals.specs.declared.Answer.TheVariants.{Accepted, Refused}
-use Rattle.matrix_inverse.specs.Inversion.{Inverts}
+use Rattle.refusals.specs.declared.Refusal.TheVariants.{TableLength, TableWord, DestinationLength}
 use Rattle.table.specs.Table.{raw_words, table_words, raw_matrix, matrix_of, inverse_of, RawInverse}
-use Rattle.table.specs.Table.{prepared, raw_test, Prepares, accepts, no_inverse}
+use Rattle.table.specs.Table.{prepared, raw_test, Prepares, accepts}
 
 -- ---- its words
 module _ (raw n : List ℕ) (size : length raw ≡ raw_words) (size-n : length n ≡ 144) where
@@ -85,17 +83,17 @@ module _ (raw n : List ℕ) (size : length raw ≡ raw_words) (size-n : length n
 
 -- ---- the tests of Prepare
 module _ (raw : List ℕ) (room : ℕ) where
-  pub wrong_length : (length raw ≡ raw_words → ⊥) → raw_test raw room ≡ Refused TableLength
+  pub wrong_length : (length raw ≡ raw_words → ⊥) → raw_test raw room ≡ Err TableLength
   unfolding raw_test
   wrong_length h = rw (ne_eqb (length raw) raw_words h)
 
   module _ (size : length raw ≡ raw_words) where
-    pub wrong_room : (room ≡ table_words → ⊥) → raw_test raw room ≡ Refused DestinationLength
+    pub wrong_room : (room ≡ table_words → ⊥) → raw_test raw room ≡ Err DestinationLength
     unfolding raw_test
     wrong_room h = rw (eq-eqb (length raw) raw_words size, ne_eqb room table_words h)
 
     module _ (fits : room ≡ table_words) where
-      pub wrong_word : (b : ℕ) → b ≡ first_bad raw → (b ≡ raw_words → ⊥) → raw_test raw room ≡ Refused (TableWord b)
+      pub wrong_word : (b : ℕ) → b ≡ first_bad raw → (b ≡ raw_words → ⊥) → raw_test raw room ≡ Err (TableWord b)
       unfolding raw_test
       wrong_word b e h =
           rw (
@@ -105,19 +103,12 @@ module _ (raw : List ℕ) (room : ℕ) where
             ne_eqb (first_bad raw) raw_words (λ q. h (e ∙ q)),
           )
 
-      pub raw_accepted : first_bad raw ≡ raw_words → raw_test raw room ≡ Accepted
+      pub raw_accepted : first_bad raw ≡ raw_words → raw_test raw room ≡ Ok tt
       unfolding raw_test
       raw_accepted h =
           rw (eq-eqb (length raw) raw_words size, eq-eqb room table_words fits, eq-eqb (first_bad raw) raw_words h)
 
 -- ---- the answer, after the tests
-module _ (raw old : List ℕ) (tested : raw_test raw (length old) ≡ Accepted) where
-  pub without : (n m : List ℕ) (b : Bool) → Inverts (raw_matrix raw) n m b → b ≡ false
-      → Prepares raw old (Refused NoInverse) old
-  without n m b h e = no_inverse tested (subst (λ a. Inverts (raw_matrix raw) n m a) e h).1
-
-  pub inverted : (n m : List ℕ) (b : Bool) → Inverts (raw_matrix raw) n m b → b ≡ true → RawInverse raw m
-  inverted n m b h e = subst (λ a. Inverts (raw_matrix raw) n m a) e h
-
-  pub written : (n new : List ℕ) → RawInverse raw n → new ≡ prepared raw n → Prepares raw old Accepted new
-  written n new h e = subst (λ s. Prepares raw old Accepted s) (sym e) (accepts n tested h)
+module _ (raw old : List ℕ) (tested : raw_test raw (length old) ≡ Ok tt) where
+  pub written : (n new : List ℕ) → RawInverse raw n → new ≡ prepared raw n → Prepares raw old (Ok tt) new
+  written n new h e = subst (λ s. Prepares raw old (Ok tt) s) (sym e) (accepts n tested h)

@@ -7,7 +7,7 @@ ghost use Rattle.matrix.specs.Matrix.{matrix_words};
 ghost use Rattle.table.specs.Table.{raw_words, table_words, prepared, Prepares};
 
 use matrix::MATRIX_WORDS;
-use refusals::{Answer, Refusal};
+use refusals::Refusal;
 use table::{RAW_WORDS, WORDS};
 
 // Word t of the prepared table: M, its inverse n, then K.
@@ -34,23 +34,21 @@ fn write(raw: &[u64], n: &[u64; MATRIX_WORDS], destination: &mut [u64])
 }
 
 // Prepare: 1, 8, 2, 3. The inverse is found in an array of its own, so that a refusal leaves the destination as it was.
-pub fn prepare(raw: &[u64], destination: &mut [u64]) -> Answer
+pub fn prepare(raw: &[u64], destination: &mut [u64]) -> Result<(), Refusal>
     ensures { Prepares raw.now destination.old result destination.new }
 {
     if raw.len() != RAW_WORDS {
-        return Answer::Refused(Refusal::TableLength);
+        return Err(Refusal::TableLength);
     }
     if destination.len() != WORDS {
-        return Answer::Refused(Refusal::DestinationLength);
+        return Err(Refusal::DestinationLength);
     }
-    let bad = field_words::first_bad(raw);
-    if bad != RAW_WORDS {
-        return Answer::Refused(Refusal::TableWord(bad));
+    if let Some(bad) = field_words::first_bad(raw) {
+        return Err(Refusal::TableWord(bad));
     }
-    let mut n = [0u64; MATRIX_WORDS];
-    if !matrix_inverse::invert(&raw[..MATRIX_WORDS], &mut n) {
-        return Answer::Refused(Refusal::NoInverse);
-    }
+    let Some(n) = matrix_inverse::invert(&raw[..MATRIX_WORDS]) else {
+        return Err(Refusal::NoInverse);
+    };
     write(raw, &n, destination);
-    Answer::Accepted
+    Ok(())
 }

@@ -5,11 +5,11 @@ use mathlib.Core.List.{List}
 use Prim.Native.Nat.{ℕ, ◌+◌, ◌*◌}
 use borrow.Author.Tests.{eqb-true, eq-eqb}
 use lib.ListN.{length}
+use Rattle.std.specs.Prelude.{Ok}
 use Rattle.field_words.specs.Words.{AllCanonical}
 use Rattle.field_words.proofs.Laws.{good_test, test_good}
 use Rattle.numbers.specs.Numbers.{IsPermitted, most_batches, tap_word_batches}
 use Rattle.numbers.proofs.Laws.{tap_length_sound, tap_length_complete}
-use Rattle.refusals.specs.declared.Answer.TheVariants.{Accepted}
 use Rattle.refusals.proofs.Laws.{passed, both_accepted}
 use Rattle.table.specs.Table.{IsTable, table_test}
 use Rattle.table.proofs.Theorems.{test_sound, test_complete}
@@ -22,7 +22,7 @@ pub record BuildInputs (T w : List ℕ) (size k : ℕ) : Type 0 where
   pub room : size ≡ 384 * k
   pub canonical : AllCanonical w
 
-pub build_inputs : (T w : List ℕ) (size : ℕ) → build_test T w size ≡ Accepted
+pub build_inputs : (T w : List ℕ) (size : ℕ) → build_test T w size ≡ Ok tt
     → BuildInputs T w size (tap_word_batches (length w))
 unfolding build_test
 build_inputs T w size e =
@@ -38,7 +38,7 @@ build_inputs T w size e =
       canonical = good_test w (passed _ _ _ c.1).0;
     }
 
-pub build_passes : (T w : List ℕ) (size k : ℕ) → BuildInputs T w size k → build_test T w size ≡ Accepted
+pub build_passes : (T w : List ℕ) (size k : ℕ) → BuildInputs T w size k → build_test T w size ≡ Ok tt
 unfolding build_test
 build_passes T w size k h =
     let l = tap_length_complete most_batches (length w) k h.taps h.permitted in

@@ -6,11 +6,10 @@ use mathlib.Core.List.{List}
 use Prim.Native.Nat.{ℕ, ◌+◌, ◌*◌}
 use native.Mathlib.Omega.{arith}
 use lib.ListN.{length}
+use Rattle.std.specs.Prelude.{Ok}
 use Rattle.field_words.specs.Words.{AllCanonical}
 use Rattle.numbers.specs.Numbers.{IsPermitted, tap_word_batches}
-use Rattle.refusals.specs.declared.DigestAnswer.TheVariants.{Accepted}
-use Rattle.refusals.specs.Refusals.{digest}
-use Rattle.refusals.specs.Answers.{digest_after, leaves}
+use Rattle.refusals.specs.Answers.{with_value, leaves}
 use Rattle.table.specs.Table.{IsTable}
 use Rattle.hash.specs.Hash.{chain}
 use Rattle.trace.specs.Trace.{trace}
@@ -22,14 +21,14 @@ module _ (T w : List ℕ) (k : ℕ) (table : IsTable T) (permitted : IsPermitted
   batches : tap_word_batches (length w) ≡ k
   batches = omega arith
 
-  pub build_accepts : build_answer T w (384 * k) ≡ Accepted (digest (chain T w k))
+  pub build_accepts : build_answer T w (384 * k) ≡ Ok (chain T w k)
   unfolding build_answer
   build_accepts =
       let e =
       build_passes T w (384 * k) k
       (record { table = table; permitted = permitted; taps = size; room = refl; canonical = canonical }) in
-      ap (λ a. digest_after a (digest (chain T w (tap_word_batches (length w))))) e
-      ∙ ap (λ n. Accepted (digest (chain T w n))) batches
+      ap (λ a. with_value a (chain T w (tap_word_batches (length w)))) e
+      ∙ ap (λ n. Ok (chain T w n)) batches
 
   pub build_leaves_lem : (old : List ℕ) → length old ≡ 384 * k → build_leaves T w old ≡ trace T w k
   unfolding build_leaves

@@ -1,5 +1,5 @@
--- What the tests of Edit say where they accept, that they are Check's where tap number and new tap are in range, what
--- is left of them after each, and that an accepted trace can be rewritten.
+-- What the tests of Edit say where they accept, that they are Check's where tap number and new tap are in range, and
+-- that an accepted trace can be rewritten.
 -- Assumes nothing.
 use mathlib.Core.Path.{◌≡◌}
 use mathlib.Core.List.{List}
@@ -8,13 +8,11 @@ use native.Mathlib.Omega.{arith}
 use borrow.Author.Tests.{le-leb, leb-true}
 use lib.Dec.{leb}
 use lib.ListN.{length}
+use Rattle.std.specs.Prelude.{Ok}
 use Rattle.field_words.specs.Words.{AllCanonical, canonical_words, first_bad}
 use Rattle.field_words.proofs.Laws.{test_good, good_test}
 use Rattle.numbers.specs.Numbers.{trace_word_batches}
 use Rattle.refusals.specs.declared.Refusal.TheVariants.{NoSuchTap, ClaimWord, TraceWord, TapWord}
-use Rattle.refusals.specs.declared.Answer.{Answer}
-use Rattle.refusals.specs.declared.Answer.TheVariants.{Accepted}
-use Rattle.refusals.specs.Answers.{unless}
 use Rattle.refusals.proofs.Laws.{passed, both_accepted}
 use Rattle.check_constraints.specs.Constraints.{constraint_test}
 use Rattle.check_trace.specs.Answers.{opening_test, trace_test, check_test}
@@ -22,18 +20,6 @@ use Rattle.check_trace.proofs.Answers.{CheckInputs, opened}
 use Rattle.check_exact.proofs.Exactness.{reads_that_list}
 use Rattle.trace_rewrite.specs.EditHelpers.{Rewritable}
 use Rattle.trace_edit.specs.Answers.{edit_test}
-
--- ---- what a function learns from the tests that it passes, one after the other
-
--- what is left to be tested from 6 on, from 10 on, and from 9 on
-abbrev pub from_tap : List ℕ → List ℕ → List ℕ → ℕ → List ℕ → ℕ → Answer
-from_tap T t claim c new k = unless (canonical_words new) (TapWord (first_bad new)) (constraint_test T t claim c k)
-
-abbrev pub from_words : List ℕ → List ℕ → List ℕ → ℕ → List ℕ → ℕ → Answer
-from_words T t claim c new k = unless (canonical_words t) (TraceWord (first_bad t)) (from_tap T t claim c new k)
-
-abbrev pub from_claim : List ℕ → List ℕ → List ℕ → ℕ → List ℕ → ℕ → Answer
-from_claim T t claim c new k = unless (canonical_words claim) (ClaimWord (first_bad claim)) (from_words T t claim c new k)
 
 -- ---- what all tests say
 module _ (T t claim : List ℕ) (c n : ℕ) (new : List ℕ) where
@@ -43,8 +29,8 @@ module _ (T t claim : List ℕ) (c n : ℕ) (new : List ℕ) where
   unfolding edit_test check_test trace_test
   same_test h a = rw (le-leb n (3 * trace_word_batches (length t)) h, test_good new a)
 
-  pub edit_inputs : edit_test T t claim c n new ≡ Accepted → let k = trace_word_batches (length t) in
-      CheckInputs T t claim c k × (n ≤ 3 * k) × AllCanonical new × (constraint_test T t claim c k ≡ Accepted)
+  pub edit_inputs : edit_test T t claim c n new ≡ Ok tt → let k = trace_word_batches (length t) in
+      CheckInputs T t claim c k × (n ≤ 3 * k) × AllCanonical new × (constraint_test T t claim c k ≡ Ok tt)
   unfolding edit_test
   edit_inputs e =
       let a = both_accepted (opening_test T t c) _ e in
@@ -63,7 +49,7 @@ module _ (T t claim : List ℕ) (c n : ℕ) (new : List ℕ) where
       )
 
   -- an accepted trace can be rewritten: it is the trace of the list that is read off it
-  pub rewritable : length claim ≡ 4 → edit_test T t claim c n new ≡ Accepted
+  pub rewritable : length claim ≡ 4 → edit_test T t claim c n new ≡ Ok tt
       → Rewritable T t (trace_word_batches (length t)) n new
   rewritable four e =
       let i = edit_inputs e in

@@ -8,12 +8,10 @@ use Prim.Native.Nat.{ℕ, ◌+◌, ◌*◌, ◌-◌, ◌≤◌, ◌<◌}
 use native.Mathlib.Decide.{ℕ_discrete}
 use native.Mathlib.Omega.{arith}
 use lib.ListN.{length}
+use Rattle.std.specs.Prelude.{Ok}
 use Rattle.field_words.specs.Words.{AllCanonical}
 use Rattle.numbers.specs.Numbers.{trace_word_batches}
-use Rattle.refusals.specs.declared.Digest.{Digest}
-use Rattle.refusals.specs.declared.DigestAnswer.TheVariants.{Accepted}
-use Rattle.refusals.specs.declared.TestsAnswer.TheVariants as counted
-use Rattle.refusals.proofs.Laws.{digest_accepted, tests_accepted, digest_returned, tests_returned}
+use Rattle.refusals.proofs.Laws.{value_accepted, value_returned}
 use Rattle.table.specs.Table.{IsTable}
 use Rattle.hash.specs.Hash.{tap, output_at}
 use Rattle.hash.proofs.Inputs.{output_zero}
@@ -30,18 +28,18 @@ use Rattle.trace_rewrite.proofs.Altered.{touched_is, length_altered, altered_can
 use Rattle.trace_edit.proofs.Answers.{same_test, edit_inputs}
 
 pub accepts_exactly : (T t claim : List ℕ) (c n : ℕ) (new : List ℕ)
-    → ((d : Digest) × (edit_answer T t claim c n new ≡ Accepted d))
-    ↔ (((m : ℕ) × (check_answer T t claim c ≡ counted.Accepted m))
+    → ((d : List ℕ) × (edit_answer T t claim c n new ≡ Ok d))
+    ↔ (((m : ℕ) × (check_answer T t claim c ≡ Ok m))
     × (n ≤ 3 * trace_word_batches (length t)) × AllCanonical new)
 unfolding edit_answer check_answer
 accepts_exactly T t claim c n new = (
   λ s.
-      let i = edit_inputs T t claim c n new (digest_accepted (edit_test T t claim c n new) _ s.0 s.1).0 in
+      let i = edit_inputs T t claim c n new (value_accepted (edit_test T t claim c n new) _ s.0 s.1).0 in
       let e = check_passes T t claim c (trace_word_batches (length t)) i.0 i.3 in
-      ((_, sym (tests_returned refl e refl)), i.1, i.2),
+      ((_, sym (value_returned refl e refl)), i.1, i.2),
   λ s.
-      let e = (tests_accepted (check_test T t claim c) _ s.0.0 s.0.1).0 in
-      (_, sym (digest_returned refl (same_test T t claim c n new s.1 s.2 ∙ e) refl)),
+      let e = (value_accepted (check_test T t claim c) _ s.0.0 s.0.1).0 in
+      (_, sym (value_returned refl (same_test T t claim c n new s.1 s.2 ∙ e) refl)),
 )
 
 module _ (T w : List ℕ) (k n : ℕ) (new : List ℕ) (table : IsTable T) (some : 1 ≤ k) (size : length w ≡ 12 * k + 4)

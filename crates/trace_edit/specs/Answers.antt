@@ -2,20 +2,18 @@
 -- turned back", for the order of the refusals). T is the lent table, t the lent trace, c the number of batches that is
 -- lent with the claim, n the lent tap number, new the new tap.
 -- Assumes nothing.
-use Rattle.std.specs.Prelude.{List, ℕ, ◌*◌, leb, length}
+use Rattle.std.specs.Prelude.{List, ℕ, ◌*◌, leb, length, Result}
 use Rattle.field_words.specs.Words.{first_bad, canonical_words}
 use Rattle.numbers.specs.Numbers.{trace_word_batches}
 use Rattle.refusals.specs.declared.Refusal.TheVariants.{NoSuchTap, ClaimWord, TraceWord, TapWord}
-use Rattle.refusals.specs.declared.Answer.{Answer}
-use Rattle.refusals.specs.declared.DigestAnswer.{DigestAnswer}
-use Rattle.refusals.specs.Refusals.{digest}
-use Rattle.refusals.specs.Answers.{unless, after, digest_after, leaves}
+use Rattle.refusals.specs.Answers.{Answer, unless, after, with_value, leaves}
 use Rattle.hash.specs.Hash.{chain, first_taps}
 use Rattle.trace.specs.Trace.{trace}
 use Rattle.check_constraints.specs.Constraints.{constraint_test}
 use Rattle.check_constraints.specs.ReadOff.{read_taps}
 use Rattle.check_trace.specs.Answers.{opening_test}
 use Rattle.trace_rewrite.specs.Edit.{altered}
+use Rattle.refusals.specs.declared.Refusal.{Refusal}
 
 -- 15; 9; 10; 6; 11
 abbrev pub edit_trace_test : List ℕ → List ℕ → List ℕ → ℕ → ℕ → List ℕ → ℕ → Answer
@@ -36,9 +34,9 @@ unfoldable pub altered_taps : List ℕ → List ℕ → ℕ → List ℕ → Lis
 altered_taps T t n new = altered (read_taps T t (trace_word_batches (length t))) n new
 
 -- the output of its first 3c + 1 taps is returned
-unfoldable pub edit_answer : List ℕ → List ℕ → List ℕ → ℕ → ℕ → List ℕ → DigestAnswer
+unfoldable pub edit_answer : List ℕ → List ℕ → List ℕ → ℕ → ℕ → List ℕ → Result (List ℕ) Refusal
 edit_answer T t claim c n new =
-    digest_after (edit_test T t claim c n new) (digest (chain T (first_taps c (altered_taps T t n new)) c))
+    with_value (edit_test T t claim c n new) (chain T (first_taps c (altered_taps T t n new)) c)
 
 -- the trace of the altered list, or the lent one
 unfoldable pub edit_leaves : List ℕ → List ℕ → List ℕ → ℕ → ℕ → List ℕ → List ℕ

@@ -2,13 +2,15 @@
 -- that is filled four words at a time.
 -- Assumes nothing.
 use mathlib.Core.Path.{◌≡◌, refl, sym, ap, ap₂, ◌∙◌, subst}
-use mathlib.Core.List.{List, [], ◌∷◌}
+use mathlib.Core.List.{List, [], ◌∷◌, ◌++◌, append_assoc}
 use Prim.Native.Nat.{ℕ, ◌+◌, ◌*◌, ◌-◌, ◌/◌, ◌%◌, ◌≤◌, ◌<◌}
 use native.Mathlib.Omega.{arith}
 use borrow.Author.Tests.{lt-ltb, le-ltb, eq-eqb, ne_eqb}
-use lib.ListN.{length, set}
+use borrow.Rule.Slice.PartMut.{put_mid, post_of, Post-is}
+use lib.ListN.{length, take, drop}
+use lib.Seq.{take_at, drop-append-add, drop-drop}
 use Rattle.lists.specs.Lists.{cell, tab}
-use Rattle.lists.proofs.Tab.{filled, filled_more, filled_all, cell_tab}
+use Rattle.lists.proofs.Tab.{length_tab, tab_ext, tab_add, filled, filled_all}
 use Rattle.field.specs.Field.{Canonical}
 use Rattle.field_words.specs.Words.{CanonicalTo}
 use Rattle.table.specs.Table.{initial_constant}
@@ -18,19 +20,6 @@ use Rattle.check_constraints.specs.Constraints.{round, minus, back}
 use Rattle.numbers.specs.Numbers.{first_row}
 use Rattle.check_constraints.specs.ReadOff.{read_input, read_word, read_taps}
 use Rattle.check_constraints.proofs.OneRound.{back_step_state}
-use Rattle.trace_rows.specs.RowHelpers.{HasRow}
-use Rattle.trace_read_off.specs.TapHelpers.{HasTap}
-
--- ---- the rows that are read are there
-pub input_row : {t : List ℕ} (h i : ℕ) → HasTap t (h + 1) → i ≤ 32 * (h / 3) + 31 → HasRow t i
-input_row h i p b = record {
-  canonical = p.canonical;
-  inside = omega (arith, p.size, p.inside);
-  small = omega (arith, p.few, p.inside);
-}
-
-pub first_row_lem : {t : List ℕ} {i : ℕ} → HasTap t i → HasRow t 0
-first_row_lem p = record { canonical = p.canonical; inside = omega (arith, p.size, p.some); small = omega arith }
 
 -- ---- the input of hash h
 module _ (T t : List ℕ) (h i : ℕ) where
@@ -72,29 +61,29 @@ module _ (T t : List ℕ) (i j : ℕ) (l : j < 4) where
       rw (le-ltb (4 * i + j) 4 (omega arith), q, r) (ap (λ x. cell x (4 + j)) (e ∙ ap (read_input T t) f))
 
 -- ---- four words written behind those that are there
-pub four_more : (f : ℕ → ℕ) (i at : ℕ) (s l w : List ℕ) → at ≡ 4 * i → at + 4 ≤ length s
-    → w ≡ tab 4 (λ j. f (4 * i + j)) → l ≡ filled (4 * i) f s
-    → set (set (set (set l at (cell w 0)) (at + 1) (cell w 1)) (at + 2) (cell w 2)) (at + 3) (cell w 3)
-    ≡ filled (4 * (i + 1)) f s
-four_more f i at s l w q h e p =
-    more 3 (omega arith) (more 2 (omega arith) (more 1 (omega arith) first_one))
+pub four_more : (f : ℕ → ℕ) (i at : ℕ) (s l : List ℕ) {w : List ℕ} → at ≡ 4 * i → at + 4 ≤ length s
+    → w ≡ tab 4 (λ j. f (4 * i + j)) → l ≡ filled (4 * i) f s → put_mid at (at + 4 - at) l w ≡ filled (4 * (i + 1)) f s
+unfolding filled
+four_more f i at s l {w} q h e p =
+    ap (λ x. put_mid at (at + 4 - at) x w) held
+    ∙ sym (append_assoc (take at there) w (post_of at (at + 4 - at) there))
+    ∙ ap₂ (λ x y. x ++ w ++ y) (take_at (tab at f) (drop at s) at (length_tab at f))
+    (Post-is at (at + 4) there (omega arith) ∙ behind)
+    ∙ ap (λ x. tab at f ++ x ++ drop (at + 4) s) (e ∙ tab_ext 4 _ _ (λ j b. ap (λ n. f (n + j)) (sym q)))
+    ∙ ap (λ x. x ++ drop (at + 4) s) (sym (tab_add at 4 f))
     ∙ ap (λ n. filled n f s) four_on
   where
-    word : (j : ℕ) → j < 4 → cell w j ≡ f (at + j)
-    word j b = ap (λ x. cell x j) e ∙ cell_tab 4 (λ n. f (4 * i + n)) j b ∙ ap (λ n. f (n + j)) (sym q)
+    there : List ℕ
+    there = tab at f ++ drop at s
 
-    first_one : set l at (cell w 0) ≡ filled (at + 1) f s
-    first_one =
-        filled_more f at (cell w 0) s l (omega arith) (word 0 (omega arith) ∙ ap f (omega arith))
-        (p ∙ ap (λ n. filled n f s) (sym q))
+    held : l ≡ there
+    held = p ∙ ap (λ n. filled n f s) (sym q)
 
-    more : (j : ℕ) → j < 4 → {m : List ℕ} → m ≡ filled (at + j) f s
-        → set m (at + j) (cell w j) ≡ filled (at + (j + 1)) f s
-    more j b {m} g =
-        filled_more f (at + j) (cell w j) s m (omega arith) (word j b) g ∙ ap (λ n. filled n f s) one
-      where
-        one : at + j + 1 ≡ at + (j + 1)
-        one = omega arith
+    behind : drop (at + 4) there ≡ drop (at + 4) s
+    behind =
+        ap (λ n. drop (n + 4) there) (sym (length_tab at f))
+        ∙ drop-append-add (tab at f) (drop at s) 4
+        ∙ drop-drop 4 at s
 
     four_on : at + 4 ≡ 4 * (i + 1)
     four_on = omega arith

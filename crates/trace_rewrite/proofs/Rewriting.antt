@@ -2,7 +2,7 @@
 -- rows that are left and those that are written make the trace of the altered list.
 -- Assumes nothing.
 use mathlib.Core.Path.{◌≡◌, sym, ap, ◌∙◌, subst}
-use mathlib.Core.List.{List, ◌++◌, append_assoc}
+use mathlib.Core.List.{List, [], ◌∷◌, ◌++◌, append_assoc}
 use Prim.Native.Nat.{ℕ, ◌+◌, ◌*◌, ◌-◌, ◌/◌, ◌%◌, ◌≤◌, ◌<◌}
 use native.Mathlib.Decide.{ℕ_discrete}
 use native.Mathlib.Omega.{arith}
@@ -12,12 +12,11 @@ use lib.Seq.{take_at, take_all}
 use Rattle.lists.specs.Lists.{choose, cell, tab}
 use Rattle.lists.proofs.Tab.{length_tab, cell_tab, tab_ext}
 use Rattle.field_words.specs.Words.{AllCanonical}
-use Rattle.refusals.specs.Refusals.{digest}
 use Rattle.hash.specs.Hash.{input, tap, output_at, chain, first_taps}
 use Rattle.hash.proofs.States.{same_cells}
 use Rattle.hash.proofs.Inputs.{cell_tap, tap_is_tap, output_zero, output_tap}
 use Rattle.hash_chain.proofs.FirstTaps.{chain_first}
-use Rattle.hash_chain.proofs.Answers.{digest_take}
+use Rattle.hash_chain.proofs.Answers.{four_cells}
 use Rattle.trace.specs.Trace.{row, hash_input, trace_row, trace}
 use Rattle.trace.specs.RowHelpers.{with_rows, rows_before}
 use Rattle.trace.proofs.TraceCells.{trace_row_state, length_trace, trace_canonical, last_row_output}
@@ -208,10 +207,11 @@ module _ (T t : List ℕ) (k n : ℕ) (new : List ℕ) (r : Rewritable T t k n n
           small = omega (arith, r.few);
         }
 
-    pub output_shown : (s : List ℕ) → s ≡ row u i → digest s ≡ digest (chain T (first_taps c v) c)
-    output_shown s q =
+    pub output_shown : (s : List ℕ) → 4 ≤ length s → s ≡ row u i
+        → cell s 0 ∷ cell s 1 ∷ cell s 2 ∷ cell s 3 ∷ [] ≡ chain T (first_taps c v) c
+    output_shown s four q =
         let l : i ≡ 32 * c - 1 = omega arith in
-        digest_take s
-        ∙ ap (λ x. digest (take 4 x))
+        four_cells s four
+        ∙ ap (λ x. (take 4 x))
         (q ∙ ap (λ x. row x i) e ∙ row_of_trace T v k size_v canonical_v i (omega arith) ∙ ap (trace_row T v) l)
-        ∙ ap digest (last_row_output T v c low ∙ sym (chain_first T v c))
+        ∙ (last_row_output T v c low ∙ sym (chain_first T v c))

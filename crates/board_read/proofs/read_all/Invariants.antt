@@ -1,16 +1,11 @@
 -- `board_read::read_all`: the destination is filled from the front with the elements.
 -- Assumes nothing.
 use mathlib.Core.Path.{◌≡◌}
-use Prim.Native.Nat.{◌+◌, ◌*◌, ◌-◌, ◌≤◌}
-use lib.ListN.{length}
+use Prim.Native.Nat.{◌+◌, ◌*◌}
 use Rattle.lists.proofs.Tab.{filled}
 use Rattle.board_words.specs.Elements.{element_at}
 use Rattle.board_read.proofs.read_all.Given as goal
 
 abbrev pub invariant-loop-i : goal.invariant-loop-i
 invariant-loop-i l =
-    (l.i ≤ l.i-end) × (length l.destination ≡ length l.initial.destination)
-    × (l.destination ≡ filled l.i (λ n. element_at l.file (l.index + 3 * n)) l.initial.destination)
-
-abbrev pub decreases-loop-i : goal.decreases-loop-i
-decreases-loop-i l = l.i-end - l.i
+    l.destination ≡ filled l.i (λ n. element_at l.file (l.index + 3 * n)) l.initial.destination

@@ -3,32 +3,26 @@
 -- Assumes nothing.
 use mathlib.Core.Path.{◌≡◌, refl, sym, ap, ◌∙◌}
 use mathlib.Core.List.{List}
-use mathlib.Core.Bool.{Bool, true, false}
+use mathlib.Core.Bool.{Bool, true}
 use Prim.Native.Nat.{ℕ, ◌+◌, ◌≤◌}
 use native.Mathlib.Omega.{arith}
-use borrow.Author.Tests.{eq-eqb, ne_eqb, le-ltb}
+use borrow.Author.Tests.{le-ltb}
 use lib.Dec.{eqb, ltb}
+use Rattle.std.specs.Prelude.{Ok}
 use Rattle.field.specs.Field.{P}
-use Rattle.refusals.specs.Answers.{unless}
+use Rattle.refusals.specs.Answers.{Answer, unless}
 use Rattle.refusals.specs.declared.Refusal.TheVariants.{WrongKind, WrongValue}
-use Rattle.refusals.specs.declared.Answer.{Answer}
-use Rattle.refusals.specs.declared.Answer.TheVariants.{Accepted}
 use Rattle.refusals.proofs.Laws.{unless_refused, unless_passed}
+use Rattle.board_words.specs.declared.Kind.TheVariants.{High, Middle, Low}
 use Rattle.board_words.specs.Words.{kind_of, payload_of, word_at}
 use Rattle.board_words.specs.Elements.{element_at, element_test}
 use Rattle.board_words.proofs.Laws.{read_three, no_word}
+use Rattle.board_words.proofs.Words.{kind_other}
 use Rattle.board_read.proofs.test.Goals as goal
-
--- a kind that is compared is that of the file's word
-kind_is : (k w v n : ℕ) → k ≡ kind_of w → w ≡ v → k ≡ n → eqb (kind_of v) n ≡ true
-kind_is k w v n e f h = eq-eqb _ _ (sym (e ∙ ap kind_of f) ∙ h)
-
-kind_is_not : (k w v n : ℕ) → k ≡ kind_of w → w ≡ v → (k ≡ n → ⊥) → eqb (kind_of v) n ≡ false
-kind_is_not k w v n e f h = ne_eqb _ _ (λ q. h (e ∙ ap kind_of f ∙ q))
 
 -- the tests from the value on, from the third kind on, from the second on
 abbrev from_value : List ℕ → ℕ → Answer
-from_value file j = unless (ltb (element_at file j) P) (WrongValue j) Accepted
+from_value file j = unless (ltb (element_at file j) P) (WrongValue j) (Ok tt)
 
 abbrev from_low : List ℕ → ℕ → Answer
 from_low file j = unless (eqb (kind_of (word_at file (j + 2))) 3) (WrongKind (j + 2)) (from_value file j)
@@ -57,21 +51,21 @@ module _ (file : List ℕ) (j : ℕ) {o : Answer} where
 value_is : (x y : ℕ) (b : Bool) → x ≡ y → b ≡ ltb x P → {t : Bool} → b ≡ t → ltb y P ≡ t
 value_is x y b e f h = ap (λ v. ltb v P) (sym e) ∙ sym f ∙ h
 
-pub returns-then-kind-ne1 : goal.returns-then-kind-ne1
-returns-then-kind-ne1 c =
+pub returns-then-ne : goal.returns-then-ne
+returns-then-ne c =
     first _ _
-    (unless_refused _ (kind_is_not _ _ _ _ c.kind.ensures c.read-high.ensures c.if-kind-ne1.true) refl)
+    (unless_refused _ (kind_other High _ c.kind.ensures c.read-high.ensures c.ne.ensures c.if-ne.true) refl)
 
-pub returns-then-kind-ne2 : goal.returns-then-kind-ne2
-returns-then-kind-ne2 c =
-    one_kind _ _ (kind_is _ _ _ _ c.kind.ensures c.read-high.ensures c.if-kind-ne1.false)
-    (unless_refused _ (kind_is_not _ _ _ _ c.kind-2.ensures c.read-middle.ensures c.if-kind-ne2.true) refl)
+pub returns-then-ne-2 : goal.returns-then-ne-2
+returns-then-ne-2 c =
+    one_kind _ _ (kind_other High _ c.kind.ensures c.read-high.ensures c.ne.ensures c.if-ne.false)
+    (unless_refused _ (kind_other Middle _ c.kind-2.ensures c.read-middle.ensures c.ne-2.ensures c.if-ne-2.true) refl)
 
-pub returns-then-kind-ne3 : goal.returns-then-kind-ne3
-returns-then-kind-ne3 c =
-    two_kinds _ _ (kind_is _ _ _ _ c.kind.ensures c.read-high.ensures c.if-kind-ne1.false)
-    (kind_is _ _ _ _ c.kind-2.ensures c.read-middle.ensures c.if-kind-ne2.false)
-    (unless_refused _ (kind_is_not _ _ _ _ c.kind-3.ensures c.read-low.ensures c.if-kind-ne3.true) refl)
+pub returns-then-ne-3 : goal.returns-then-ne-3
+returns-then-ne-3 c =
+    two_kinds _ _ (kind_other High _ c.kind.ensures c.read-high.ensures c.ne.ensures c.if-ne.false)
+    (kind_other Middle _ c.kind-2.ensures c.read-middle.ensures c.ne-2.ensures c.if-ne-2.false)
+    (unless_refused _ (kind_other Low _ c.kind-3.ensures c.read-low.ensures c.ne-3.ensures c.if-ne-3.true) refl)
 
 pub returns-then-payload-gt-MOST_HIGH : goal.returns-then-payload-gt-MOST_HIGH
 returns-then-payload-gt-MOST_HIGH c =
@@ -79,9 +73,9 @@ returns-then-payload-gt-MOST_HIGH c =
     let p = c.payload.ensures ∙ ap payload_of c.read-high.ensures in
     let large : P ≤ element_at a.file.now a.index =
     omega (arith, no_word a.file.now a.index (rw p at c.if-payload-gt-MOST_HIGH.true)) in
-    three_kinds _ _ (kind_is _ _ _ _ c.kind.ensures c.read-high.ensures c.if-kind-ne1.false)
-    (kind_is _ _ _ _ c.kind-2.ensures c.read-middle.ensures c.if-kind-ne2.false)
-    (kind_is _ _ _ _ c.kind-3.ensures c.read-low.ensures c.if-kind-ne3.false)
+    three_kinds _ _ (kind_other High _ c.kind.ensures c.read-high.ensures c.ne.ensures c.if-ne.false)
+    (kind_other Middle _ c.kind-2.ensures c.read-middle.ensures c.ne-2.ensures c.if-ne-2.false)
+    (kind_other Low _ c.kind-3.ensures c.read-low.ensures c.ne-3.ensures c.if-ne-3.false)
     (unless_refused _ (le-ltb _ _ large) refl)
 
 pub returns-then-not-is_canonical : goal.returns-then-not-is_canonical
@@ -89,9 +83,9 @@ returns-then-not-is_canonical c =
     let v =
     read_three _ _ _ _ _ _ c.read-high.ensures c.read-middle.ensures c.read-low.ensures
     c.value.ensures in
-    three_kinds _ _ (kind_is _ _ _ _ c.kind.ensures c.read-high.ensures c.if-kind-ne1.false)
-    (kind_is _ _ _ _ c.kind-2.ensures c.read-middle.ensures c.if-kind-ne2.false)
-    (kind_is _ _ _ _ c.kind-3.ensures c.read-low.ensures c.if-kind-ne3.false)
+    three_kinds _ _ (kind_other High _ c.kind.ensures c.read-high.ensures c.ne.ensures c.if-ne.false)
+    (kind_other Middle _ c.kind-2.ensures c.read-middle.ensures c.ne-2.ensures c.if-ne-2.false)
+    (kind_other Low _ c.kind-3.ensures c.read-low.ensures c.ne-3.ensures c.if-ne-3.false)
     (unless_refused _ (value_is _ _ _ v c.is_canonical.ensures c.if-not-is_canonical.true) refl)
 
 pub returns : goal.returns
@@ -99,7 +93,7 @@ returns c =
     let v =
     read_three _ _ _ _ _ _ c.read-high.ensures c.read-middle.ensures c.read-low.ensures
     c.value.ensures in
-    three_kinds _ _ (kind_is _ _ _ _ c.kind.ensures c.read-high.ensures c.if-kind-ne1.false)
-    (kind_is _ _ _ _ c.kind-2.ensures c.read-middle.ensures c.if-kind-ne2.false)
-    (kind_is _ _ _ _ c.kind-3.ensures c.read-low.ensures c.if-kind-ne3.false)
+    three_kinds _ _ (kind_other High _ c.kind.ensures c.read-high.ensures c.ne.ensures c.if-ne.false)
+    (kind_other Middle _ c.kind-2.ensures c.read-middle.ensures c.ne-2.ensures c.if-ne-2.false)
+    (kind_other Low _ c.kind-3.ensures c.read-low.ensures c.ne-3.ensures c.if-ne-3.false)
     (unless_passed _ (value_is _ _ _ v c.is_canonical.ensures c.if-not-is_canonical.false) refl)

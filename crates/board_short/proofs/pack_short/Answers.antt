@@ -6,20 +6,15 @@ use Rattle.board_short.specs.ShortBoard.{packed_short, pack_short_leaves}
 use Rattle.board_short.proofs.Answers.{pack_accepted}
 use Rattle.board_short.proofs.pack_short.Goals as goal
 
-pub returns-in_default : goal.returns-in_default
+pub returns-in_err-test_pack-clause-destination_after : goal.returns-in_err-test_pack-clause-destination_after
 unfolding pack_short_leaves
-returns-in_default c =
-    let e = c.test_pack-answer.ensures in
-    record { value = e; destination_after = leaves_old e _ c.in_default.is }
+returns-in_err-test_pack-clause-destination_after c = leaves_old c.test_pack.ensures _ c.in_err-test_pack.was
 
 pub write_file-requires : goal.write_file-requires
 write_file-requires c =
-    let h = pack_accepted _ _ _ (sym c.test_pack-answer.ensures ∙ c.in-Accepted.is) in
+    let h = pack_accepted _ _ _ (sym c.test_pack.ensures ∙ c.in_ok-test_pack.was) in
     (h.permitted.high, h.size_is)
 
-pub returns : goal.returns
+pub returns-clause-destination_after : goal.returns-clause-destination_after
 unfolding packed_short pack_short_leaves
-returns c =
-    let e = c.test_pack-answer.ensures in
-    let a = c.in-Accepted.is in
-    record { value = sym a ∙ e; destination_after = leaves_new e _ a c.write_file.ensures }
+returns-clause-destination_after c = leaves_new c.test_pack.ensures _ c.in_ok-test_pack.was c.write_file.ensures

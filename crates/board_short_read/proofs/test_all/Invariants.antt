@@ -8,7 +8,5 @@ use Rattle.board_short_read.proofs.test_all.Given as goal
 
 abbrev pub invariant-loop : goal.invariant-loop
 invariant-loop l =
-    (l.counter ≤ l.count) × (4 * l.at ≤ length l.file) × (shorts_test l.file l.at (l.count - l.counter) ≡ shorts_test l.file l.index l.count)
-
-abbrev pub decreases-loop : goal.decreases-loop
-decreases-loop l = l.count - l.counter
+    (4 * l.at ≤ length l.file)
+    × (shorts_test l.file l.at (l.count - l.counter) ≡ shorts_test l.file l.index l.count)

@@ -6,18 +6,13 @@ use Rattle.board_to_full.specs.ToFull.{to_full_leaves}
 use Rattle.board_to_full.proofs.Answers.{accepted}
 use Rattle.board_to_full.proofs.to_full.Goals as goal
 
-pub returns-in_default : goal.returns-in_default
+pub returns-in_err-test-clause-destination_after : goal.returns-in_err-test-clause-destination_after
 unfolding to_full_leaves
-returns-in_default c =
-    let e = c.test-answer.ensures in
-    record { value = e; destination_after = leaves_old e _ c.in_default.is }
+returns-in_err-test-clause-destination_after c = leaves_old c.test.ensures _ c.in_err-test.was
 
 pub write-requires : goal.write-requires
-write-requires c = accepted _ _ (sym c.test-answer.ensures ∙ c.in-Accepted.is)
+write-requires c = accepted _ _ (sym c.test.ensures ∙ c.in_ok-test.was)
 
-pub returns : goal.returns
+pub returns-clause-destination_after : goal.returns-clause-destination_after
 unfolding to_full_leaves
-returns c =
-    let e = c.test-answer.ensures in
-    let a = c.in-Accepted.is in
-    record { value = sym a ∙ e; destination_after = leaves_new e _ a c.write.ensures }
+returns-clause-destination_after c = leaves_new c.test.ensures _ c.in_ok-test.was c.write.ensures

@@ -6,28 +6,24 @@ use Prim.Native.Nat.{ℕ, ◌+◌, ◌*◌}
 use native.Mathlib.Omega.{arith}
 use lib.ListN.{length}
 use Rattle.numbers.specs.Numbers.{tap_word_batches}
-use Rattle.board_words.specs.Words.{word_at, bytes_of}
+use Rattle.board_words.specs.Words.{bytes_of}
 use Rattle.board_words.specs.Elements.{words_of}
 use Rattle.board_words.proofs.Laws.{length_words, write_file}
 use Rattle.board.specs.Board.{element_count, count_word, file_of, packed}
 use Rattle.board_short_read.specs.Reading.{shorts_at}
 use Rattle.board_short_read.proofs.Tests.{accepts}
 use Rattle.board_short_read.proofs.Round.{length_shorts}
-use Rattle.board_short.specs.ShortBoard.{short_taps_in, short_count_in, short_batches_in}
+use Rattle.board_short.specs.ShortBoard.{short_taps_in, short_batches_in}
+use Rattle.board_short.proofs.Answers.{word_counts}
 use Rattle.board_short.proofs.Round.{board_elements, taps_length}
 use Rattle.board_to_full.proofs.write.Goals as goal
-
--- k is the file's
-k_is : (file : List ℕ) (word k : ℕ) → word ≡ word_at file 0 → k ≡ short_count_in word → k ≡ short_batches_in file
-unfolding short_batches_in
-k_is file word k e f = f ∙ ap short_count_in e
 
 pub read-requires : goal.read-requires
 read-requires c = c.requires.0.four
 
 pub count_word-requires : goal.count_word-requires
 count_word-requires c =
-    let k = k_is c.args.file.now _ _ c.read.ensures c.count_in-k.ensures in
+    let k = word_counts c.args.file.now c.read.ensures c.count_in-k.ensures in
     omega (arith, k, c.requires.1)
 
 pub write-requires : goal.write-requires
@@ -36,7 +32,7 @@ write-requires c = omega (arith, c.requires.2)
 pub write_elements-requires : goal.write_elements-requires
 write_elements-requires c =
     let h = c.requires in
-    let k = k_is c.args.file.now _ _ c.read.ensures c.count_in-k.ensures in (
+    let k = word_counts c.args.file.now c.read.ensures c.count_in-k.ensures in (
       (λ i l. accepts _ _ (h.0.elements i (omega (arith, k)))),
       omega (arith, c.write.auto.destination, h.2, k),
     )
@@ -46,7 +42,7 @@ unfolding packed file_of
 returns c =
     let f = c.args.file.now in
     let k = c.count_in-k.result in
-    let same = k_is f _ _ c.read.ensures c.count_in-k.ensures in
+    let same = sym (word_counts f c.read.ensures c.count_in-k.ensures) in
     let xs : List ℕ = shorts_at f 1 (element_count k) in
     let size : length c.args.destination.now ≡ 4 * (1 + length (words_of xs)) =
     omega (arith, c.requires.2, same, length_words xs, length_shorts f 1 (element_count k)) in

@@ -1,8 +1,7 @@
 -- `board_to_full::write_elements`: the elements passed are written, one after the other.
 -- Assumes nothing.
 use mathlib.Core.Path.{◌≡◌}
-use Prim.Native.Nat.{◌≤◌}
-use lib.ListN.{length, take}
+use lib.ListN.{take}
 use lib.Seq.{sets}
 use Rattle.board_words.specs.Words.{bytes_of}
 use Rattle.board_words.specs.Elements.{words_of}
@@ -11,5 +10,5 @@ use Rattle.board_to_full.proofs.write_elements.Given as goal
 
 abbrev pub invariant-loop-i : goal.invariant-loop-i
 invariant-loop-i l =
-    (l.i ≤ l.count) × (length l.destination ≡ length l.initial.destination) × (l.at ≡ first_word l.file 1 l.i)
+    (l.at ≡ first_word l.file 1 l.i)
     × (l.destination ≡ sets l.initial.destination 4 (bytes_of (words_of (take l.i (shorts_at l.file 1 l.count)))))

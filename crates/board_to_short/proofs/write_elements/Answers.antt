@@ -1,9 +1,11 @@
+-- `board_to_short::write_elements`: an element that is written after those passed, and all of them.
+-- Assumes nothing.
 use mathlib.Core.Path.{◌≡◌, refl, sym, ap, ◌∙◌}
 use mathlib.Core.List.{List}
 use Prim.Native.Nat.{ℕ, ◌+◌, ◌*◌, ◌<◌}
 use native.Mathlib.Omega.{arith}
 use lib.ListN.{length}
-use lib.Seq.{sets, length-sets, take-length}
+use lib.Seq.{sets, take-length}
 use Rattle.lists.specs.Lists.{cell, each}
 use Rattle.board_words.specs.Words.{bytes_of}
 use Rattle.board_words.specs.Elements.{element_at, elements_at}
@@ -19,7 +21,7 @@ read_is file count i read l e = e ∙ sym (cell_elements file 1 count i l)
 
 pub loop-i-init : goal.loop-i-init
 unfolding each
-loop-i-init c = (omega arith, refl, omega arith, refl)
+loop-i-init c = (omega arith, refl)
 
 pub read-requires : goal.read-requires
 read-requires c = (omega arith, c.requires.1 _ (omega arith))
@@ -37,18 +39,19 @@ pub loop-i-preserved : goal.loop-i-preserved
 loop-i-preserved c =
     let list = elements_at c.args.file.now 1 c.args.count in
     let loop = c.loop-i in
-    let read = read_is c.args.file.now c.args.count loop.i _ (omega arith) c.read.ensures in
+    let read = read_is c.args.file.now c.args.count loop.i _ c.loop-i-test.true c.read.ensures in
     let l : loop.i < length list = omega (arith, length_elements c.args.file.now 1 c.args.count) in
     let words = ap (λ x. length (short_words x)) read in
     let stored =
     c.write-at.ensures.destination_after
-    ∙ ap (λ x. sets loop.destination (4 * loop.at) (bytes_of (short_words x))) read in
-    let next = write_next _ _ _ list loop.i 1 _ l loop.invariant.2 loop.invariant.3 stored in
-    (omega arith, ap length next ∙ simp length-sets, omega (arith, words, length_next list loop.i l, c.write-at.ensures.value), next)
+    ∙ ap (λ x. sets loop.destination (4 * loop.at) (bytes_of (short_words x))) read in (
+      omega (arith, words, length_next list loop.i l, c.write-at.ensures.value),
+      write_next _ _ _ list loop.i 1 _ l loop.invariant.0 loop.invariant.1 stored,
+    )
 
 pub returns : goal.returns
 returns c =
     let list = elements_at c.args.file.now 1 c.args.count in
     let loop = c.loop-i in
     let all : loop.i ≡ length list = omega (arith, length_elements c.args.file.now 1 c.args.count) in
-    loop.invariant.3 ∙ rw (all, take-length list)
+    loop.invariant.1 ∙ rw (all, take-length list)

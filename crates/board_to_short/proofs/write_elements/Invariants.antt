@@ -1,7 +1,7 @@
 -- `board_to_short::write_elements`: the elements passed are written, one after the other.
 -- Assumes nothing.
 use mathlib.Core.Path.{◌≡◌}
-use Prim.Native.Nat.{◌+◌, ◌≤◌}
+use Prim.Native.Nat.{◌+◌}
 use lib.ListN.{length, take}
 use lib.Seq.{sets}
 use Rattle.board_words.specs.Words.{bytes_of}
@@ -11,6 +11,5 @@ use Rattle.board_to_short.proofs.write_elements.Given as goal
 
 abbrev pub invariant-loop-i : goal.invariant-loop-i
 invariant-loop-i l =
-    (l.i ≤ l.count) × (length l.destination ≡ length l.initial.destination)
-    × (l.at ≡ 1 + length (short_words_of (take l.i (elements_at l.file 1 l.count))))
+    (l.at ≡ 1 + length (short_words_of (take l.i (elements_at l.file 1 l.count))))
     × (l.destination ≡ sets l.initial.destination 4 (bytes_of (short_words_of (take l.i (elements_at l.file 1 l.count)))))

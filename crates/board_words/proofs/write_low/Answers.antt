@@ -3,7 +3,6 @@
 use mathlib.Core.Path.{ap, ◌∙◌}
 use native.Mathlib.Omega.{arith}
 use lib.Bits.{and_mask, mask_lt}
-use lib.Dec.{lit<}
 use Rattle.board_words.specs.Words.{joined}
 use Rattle.board_words.proofs.Laws.{write_one}
 use Rattle.board_words.proofs.write_low.Goals as goal
@@ -12,7 +11,7 @@ pub overflow_cast-low : goal.overflow_cast-low
 overflow_cast-low c = omega (arith, mask_lt c.args.element 30)
 
 pub join-requires : goal.join-requires
-join-requires c = (lit< tt, mask_lt c.args.element 30)
+join-requires c = mask_lt c.args.element 30
 
 pub returns : goal.returns
 returns c =

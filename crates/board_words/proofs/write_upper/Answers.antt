@@ -4,7 +4,6 @@ use mathlib.Core.Path.{refl, ap, ◌∙◌}
 use Prim.Native.Nat.{◌+◌, ◌/◌, ◌^◌}
 use native.Mathlib.Omega.{arith}
 use lib.Bits.{and_mask, mask_lt}
-use lib.Dec.{lit<}
 use Rattle.board_words.specs.Words.{joined}
 use Rattle.board_words.proofs.Laws.{write_on, write_one}
 use Rattle.board_words.proofs.write_upper.Goals as goal
@@ -13,7 +12,7 @@ pub overflow_cast-middle : goal.overflow_cast-middle
 overflow_cast-middle c = omega (arith, mask_lt (c.args.element / 2 ^ 30) 30)
 
 pub join-requires-2 : goal.join-requires-2
-join-requires-2 c = (lit< tt, mask_lt (c.args.element / 2 ^ 30) 30)
+join-requires-2 c = mask_lt (c.args.element / 2 ^ 30) 30
 
 pub returns : goal.returns
 returns c =

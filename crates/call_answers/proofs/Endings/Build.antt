@@ -5,11 +5,11 @@ use mathlib.Core.List.{List}
 use Prim.Native.Nat.{ℕ, ◌*◌}
 use lib.Dec.{eqb}
 use lib.ListN.{length}
+use Rattle.std.specs.Prelude.{Ok}
 use Rattle.field_words.specs.Words.{first_bad, canonical_words}
 use Rattle.numbers.specs.Numbers.{most_batches, is_tap_length, tap_word_batches}
 use Rattle.refusals.specs.declared.Refusal.{Refusal}
 use Rattle.refusals.specs.declared.Refusal.TheVariants.{TapLength, TapWord, DestinationLength}
-use Rattle.refusals.specs.declared.Answer.TheVariants.{Accepted}
 use Rattle.refusals.specs.Answers.{unless, after}
 use Rattle.refusals.proofs.Laws.{AnswerEnds, unless_ends, after_ends}
 use Rattle.table.specs.Table.{table_test}
@@ -23,11 +23,11 @@ module _ (Q : Refusal → Type 0) (causes : TableCauses Q) (T w : List ℕ) (tap
       → AnswerEnds Q (after (table_test T)
       (unless (is_tap_length most_batches (length w)) TapLength
       (unless room DestinationLength
-      (unless (canonical_words w) (TapWord (first_bad w)) Accepted))))
+      (unless (canonical_words w) (TapWord (first_bad w)) (Ok tt)))))
   room_ends q8 room =
       after_ends Q (table_test T) _ (table_ends Q causes T) λ e.
       taps_end Q most_batches w taps _ λ q.
-      unless_ends Q room DestinationLength _ (λ f. q8) λ f. words_end Q w q Accepted (λ c. tt)
+      unless_ends Q room DestinationLength _ (λ f. q8) λ f. words_end Q w q (Ok tt) (λ c. tt)
 
   pub build_ends : (rows : ℕ) → Q DestinationLength → AnswerEnds Q (build_test T w rows)
   unfolding build_test

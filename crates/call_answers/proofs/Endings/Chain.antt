@@ -3,10 +3,10 @@
 use mathlib.Core.List.{List}
 use Prim.Native.Nat.{ℕ}
 use lib.Dec.{eqb}
+use Rattle.std.specs.Prelude.{Ok}
 use Rattle.numbers.specs.Numbers.{most_batches}
 use Rattle.refusals.specs.declared.Refusal.{Refusal}
 use Rattle.refusals.specs.declared.Refusal.TheVariants.{DestinationLength}
-use Rattle.refusals.specs.declared.Answer.TheVariants.{Accepted}
 use Rattle.refusals.proofs.Laws.{AnswerEnds, unless_ends, after_ends}
 use Rattle.table.specs.Table.{table_test}
 use Rattle.hash_chain.specs.Answers.{chain_test}
@@ -19,11 +19,11 @@ module _ (Q : Refusal → Type 0) (causes : TableCauses Q) (T w : List ℕ) (tap
   unfolding chain_test
   chain_ends =
       after_ends Q (table_test T) _ (table_ends Q causes T) λ e.
-      taps_end Q most_batches w taps _ λ q. words_end Q w q Accepted (λ c. tt)
+      taps_end Q most_batches w taps _ λ q. words_end Q w q (Ok tt) (λ c. tt)
 
   pub chain_call_ends : (size : ℕ) → Q DestinationLength → AnswerEnds Q (chain_call_test T w size)
   unfolding chain_call_test
   chain_call_ends size q8 =
       after_ends Q (table_test T) _ (table_ends Q causes T) λ e.
       taps_end Q most_batches w taps _ λ q.
-      unless_ends Q (eqb size 4) DestinationLength _ (λ f. q8) λ f. words_end Q w q Accepted (λ c. tt)
+      unless_ends Q (eqb size 4) DestinationLength _ (λ f. q8) λ f. words_end Q w q (Ok tt) (λ c. tt)

@@ -12,9 +12,9 @@ use Rattle.field_words.specs.Words.{first_bad}
 use Rattle.field_words.proofs.Laws.{within}
 use Rattle.refusals.specs.declared.Refusal.{Refusal}
 use Rattle.refusals.specs.declared.Refusal.TheVariants.{TableLength, TableWord, NoInverse, DestinationLength}
-use Rattle.refusals.specs.declared.Answer.{Answer}
 use Rattle.refusals.proofs.Laws.{AnswerEnds, unless_ends}
 use Rattle.table.specs.Table.{raw_words, table_words, raw_test, Prepares, accepts, no_inverse, refuses}
+use Rattle.refusals.specs.Answers.{Answer}
 
 pub prepare_ends : (Q : Refusal → Type 0) (raw old : List ℕ) → ((length raw ≡ raw_words → ⊥) → Q TableLength)
     → ((length old ≡ table_words → ⊥) → Q DestinationLength) → ((i : ℕ) → i < raw_words → Q (TableWord i)) → Q NoInverse

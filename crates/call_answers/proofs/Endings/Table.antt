@@ -5,10 +5,10 @@ use Prim.Native.Nat.{ℕ, ◌<◌}
 use native.Mathlib.Omega.{arith}
 use Rattle.refusals.specs.declared.Refusal.{Refusal}
 use Rattle.refusals.specs.declared.Refusal.TheVariants.{TableLength, TableWord, WrongInverse}
-use Rattle.refusals.specs.declared.Answer.{Answer}
 use Rattle.refusals.proofs.Laws.{AnswerEnds}
 use Rattle.table.specs.Table.{table_words, table_test}
 use Rattle.table.proofs.Theorems as table
+use Rattle.refusals.specs.Answers.{Answer}
 
 -- what is to be shown of each
 pub record TableCauses (Q : Refusal → Type 0) : Type 0 where

@@ -11,8 +11,7 @@ use Rattle.numbers.specs.Numbers.{IsPermittedTo, is_tap_length, tap_word_batches
 use Rattle.numbers.proofs.Laws.{tap_length_sound}
 use Rattle.refusals.specs.declared.Refusal.{Refusal}
 use Rattle.refusals.specs.declared.Refusal.TheVariants.{TapLength, TapWord}
-use Rattle.refusals.specs.declared.Answer.{Answer}
-use Rattle.refusals.specs.Answers.{unless}
+use Rattle.refusals.specs.Answers.{Answer, unless}
 use Rattle.refusals.proofs.Laws.{AnswerEnds, unless_ends}
 
 -- of a list of such words, whatever follows

@@ -8,15 +8,14 @@ use mathlib.Core.Logic.{◌⊎◌}
 use Prim.Native.Nat.{ℕ, ◌*◌, ◌<◌}
 use native.Mathlib.Omega.{arith}
 use lib.ListN.{length}
+use Rattle.std.specs.Prelude.{Ok}
 use Rattle.field_words.specs.Words.{first_bad, canonical_words}
 use Rattle.field_words.proofs.Laws.{bad_test, good_test}
 use Rattle.numbers.specs.Numbers.{IsPermitted, most_batches, is_trace_length, trace_word_batches}
 use Rattle.numbers.proofs.Laws.{trace_length_sound}
 use Rattle.refusals.specs.declared.Refusal.{Refusal}
 use Rattle.refusals.specs.declared.Refusal.TheVariants.{TraceLength, ClaimWord, TraceWord, Constraint, ClaimBatches}
-use Rattle.refusals.specs.declared.Answer.{Answer}
-use Rattle.refusals.specs.declared.Answer.TheVariants.{Accepted}
-use Rattle.refusals.specs.Answers.{unless, after}
+use Rattle.refusals.specs.Answers.{Answer, unless, after}
 use Rattle.refusals.proofs.Laws.{AnswerEnds, unless_ends, after_ends}
 use Rattle.table.specs.Table.{table_test}
 use Rattle.check_constraints.specs.Constraints.{between, tests, walk, constraint_test}
@@ -31,7 +30,7 @@ use Rattle.call_answers.proofs.Endings.Table.{TableCauses, table_ends}
 pub record TraceCauses (Q : Refusal → Type 0) (T t claim : List ℕ) (c : ℕ) : Type 0 where
   pub of_table : TableCauses Q
   pub by_length : is_trace_length most_batches (length t) ≡ false → Q TraceLength
-  pub by_batches : (k : ℕ) → table_test T ≡ Accepted → IsPermitted k → length t ≡ 384 * k → (c ≡ 0) ⊎ (k < c)
+  pub by_batches : (k : ℕ) → table_test T ≡ Ok tt → IsPermitted k → length t ≡ 384 * k → (c ≡ 0) ⊎ (k < c)
       → Q ClaimBatches
   pub by_claim : (i : ℕ) → i < length claim → Q (ClaimWord i)
   pub by_word : (k : ℕ) → length t ≡ 384 * k → IsPermitted k → (i : ℕ) → i < length t → Q (TraceWord i)
@@ -63,7 +62,7 @@ module _ (Q : Refusal → Type 0) (T t claim : List ℕ) (c : ℕ) (causes : Tra
       after_ends Q (table_test T) _ (table_ends Q causes.of_table T) λ e.
       unless_ends Q (is_trace_length most_batches (length t)) TraceLength _ causes.by_length λ f.
       let s = trace_length_sound most_batches (length t) f in
-      unless_ends Q (between 1 k c) ClaimBatches Accepted
+      unless_ends Q (between 1 k c) ClaimBatches (Ok tt)
       (λ g. causes.by_batches k e s.1 s.0 (outside k c g)) λ g. tt
 
   pub opened_ends : (rest : Answer) → (Opened T t c k → AnswerEnds Q rest)

@@ -1,40 +1,63 @@
-use mathlib.Core.Path.{◌≡◌, refl, ap, ◌∙◌}
+-- `check_steps::forward_step`: the first words of the constant are its own, and are canonical; each column that is
+-- stored is the definition's.
+-- Assumes nothing.
+use mathlib.Core.Path.{◌≡◌, refl, sym, ap, ap₂, ◌∙◌, subst}
+use mathlib.Core.List.{List}
+use Prim.Native.Nat.{ℕ, ◌<◌}
 use native.Mathlib.Omega.{arith}
-use lib.ListN.{replicate}
+use lib.ListN.{length, take, replicate, length-take}
+use lib.Seq.{get_or-take}
 use Rattle.lists.specs.Lists.{cell}
 use Rattle.lists.proofs.Tab.{filled, fills_none, fills_more}
-use Rattle.field.specs.Field.{add}
-use Rattle.table.proofs.Ready.{ready_is}
+use Rattle.field.specs.Field.{Canonical, add}
+use Rattle.table.specs.Table.{IsTable, second_step_constant}
+use Rattle.table.proofs.ReadyLaws.{ready_is}
+use Rattle.hash.proofs.States.{IsState, state_cell, second_constant_state}
 use Rattle.check_steps.proofs.Made.{second_made}
 use Rattle.check_steps.proofs.forward_step.Invariants.{plus_constant}
 use Rattle.check_steps.proofs.forward_step.Goals as goal
 
+-- the constant is twelve canonical words
+row : {T k : List ℕ} {r : ℕ} → IsTable T → r < 10 → k ≡ second_step_constant T r → IsState k
+row {T} {k} {r} a h e = subst IsState (sym e) (second_constant_state T a r h)
+
+-- a cell of its first words is its own
+cell_lent : (k : List ℕ) (n j : ℕ) → j < length (take n k) → cell (take n k) j ≡ cell k j
+cell_lent k n j h = get_or-take n k j 0 (omega (arith, length-take n k))
+
 pub mix-mixed-requires : goal.mix-mixed-requires
-mix-mixed-requires c =
-    (ready_is c.args.table.now c.args.ready.now c.requires.1, c.montgomery_cubes.ensures.1)
+mix-mixed-requires c = ready_is _ _ c.args.ready.made
 
-pub loop-i-init : goal.loop-i-init
-loop-i-init c = (omega arith, fills_none refl)
+pub slice_bounds-k-items-end : goal.slice_bounds-k-items-end
+slice_bounds-k-items-end c =
+    let k = c.second_step_constant-constant in
+    let size = (row c.args.ready.accepted (omega arith) k.ensures).size in
+    omega (arith, length-take c.args.count k.result.now, size)
 
-pub add-requires : goal.add-requires
-add-requires c =
-    (c.mix-mixed.ensures.1 c.loop-i.i (omega arith), c.second_step_constant-constant.ensures.1)
+pub loop-j-init : goal.loop-j-init
+loop-j-init c = fills_none refl
 
-pub loop-i-preserved : goal.loop-i-preserved
-loop-i-preserved c =
-    let mixed = c.mix-mixed.result in (
-      omega arith,
-      fills_more c.loop-i.invariant.1 (omega arith)
-          (c.add.ensures.0 ∙ ap (add (cell mixed c.loop-i.i)) c.second_step_constant-constant.ensures.0),
-    )
+pub of-requires-in-loop-j : goal.of-requires-in-loop-j
+of-requires-in-loop-j c =
+    let k = row c.args.ready.accepted (omega arith) c.second_step_constant-constant.ensures in
+    subst Canonical (sym (cell_lent _ c.args.count c.loop-j.j (omega arith))) (state_cell k c.loop-j.j)
+
+pub loop-j-preserved : goal.loop-j-preserved
+loop-j-preserved c =
+    let k = c.second_step_constant-constant in
+    let j = c.loop-j.j in
+    fills_more c.loop-j.invariant (omega (arith, length-take c.args.count k.result.now))
+    (c.add.ensures
+    ∙ ap₂ add c.of.ensures
+    (c.of-in-loop-j.ensures ∙ cell_lent k.result.now c.args.count j (omega arith) ∙ ap (λ x. cell x j) k.ensures))
 
 pub returns : goal.returns
 returns c =
-    let loop = c.loop-i in
+    let loop = c.loop-j in
     let a = c.args in
-    let e : loop.i ≡ a.count = omega arith in
-    second_made a.table.now a.ready.now a.s c.montgomery_cubes.result c.mix-mixed.result
-    loop.out a.round a.count c.requires.4 c.requires.1 c.montgomery_cubes.ensures.0
-    c.mix-mixed.ensures.0
-    (loop.invariant.1.so_far
-    ∙ ap (λ n. filled n (plus_constant a.table.now a.round c.mix-mixed.result) (replicate 12 0)) e)
+    let k = c.second_step_constant-constant in
+    let size = (row a.ready.accepted (omega arith) k.ensures).size in
+    let e : loop.j ≡ a.count = omega (arith, length-take a.count k.result.now, size) in
+    second_made _ _ _ _ _ _ _ a.count c.requires.2 a.ready.made c.montgomery_cubes.ensures c.mix-mixed.ensures
+    (loop.invariant.so_far
+    ∙ ap (λ n. filled n (plus_constant a.ready.table.now a.round c.mix-mixed.result.words) (replicate 12 0)) e)

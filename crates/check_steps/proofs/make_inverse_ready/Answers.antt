@@ -1,5 +1,5 @@
--- `check_steps::make_inverse_ready`: the inverse's 144 words lie in the table and are canonical; they are made ready with the
--- back scale.
+-- `check_steps::make_inverse_ready`: the inverse's 144 words lie in the table and are canonical; they are made ready
+-- with the back scale.
 -- Assumes nothing.
 use mathlib.Core.Path.{sym, ap, ◌∙◌, subst}
 use native.Mathlib.Omega.{arith}

@@ -1,31 +1,38 @@
 -- `check_trace::test_trace`: each return is the case of the definition that the tests before it left.
 -- Assumes nothing.
-use mathlib.Core.Path.{refl}
-use Rattle.refusals.proofs.Laws.{tests_turned_back}
+use mathlib.Core.Path.{refl, ap}
+use Rattle.std.specs.Prelude.{Err}
+use Rattle.std.proofs.lemmas.Result.{err_from_is_err_and}
+use Rattle.field_words.proofs.Laws.{good_test}
+use Rattle.refusals.proofs.Laws.{unless_refused, unless_passed, value_turned_back}
 use Rattle.check_trace.specs.Answers.{trace_test}
-use Rattle.check_trace.proofs.Answers.{canonical_words_lem, walked}
-use Rattle.check_trace.proofs.Answers.{claim_refused, claim_passed, words_refused, words_passed}
+use Rattle.check_trace.proofs.Answers.{walked}
 use Rattle.check_trace.proofs.test_trace.Goals as goal
 
-pub returns-in_default : goal.returns-in_default
+pub returns-in_err-test_words : goal.returns-in_err-test_words
 unfolding trace_test
-returns-in_default c =
-    tests_turned_back (claim_refused _ _ _ _ _ c.test_claim-of_claim.ensures c.refusal.ensures refl) _ refl
+returns-in_err-test_words c =
+    let p = err_from_is_err_and c.from_residual.result c.from_residual.ensures.1 in
+    let claim = c.in_err-test_words.ensures in
+    rw (p.1, p.2) (value_turned_back (unless_refused _ claim.0 (ap Err claim.1)) _ refl)
 
-pub returns-in_default-of_words : goal.returns-in_default-of_words
+pub returns-in_err-test_words-2 : goal.returns-in_err-test_words-2
 unfolding trace_test
-returns-in_default-of_words c =
-    tests_turned_back
-    (claim_passed _ _ _ _ _ c.test_claim-of_claim.ensures c.in-Accepted.is (words_refused _ _ _ _ _ c.test_words-of_words.ensures c.refusal-in_default-of_words.ensures refl)) _ refl
+returns-in_err-test_words-2 c =
+    let p = err_from_is_err_and c.from_residual-in_err-test_words-2.result
+    c.from_residual-in_err-test_words-2.ensures.1 in
+    let words = c.in_err-test_words-2.ensures in
+    rw (p.1, p.2)
+    (value_turned_back
+    (unless_passed _ c.in_ok-test_words.ensures (unless_refused _ words.0 (ap Err words.1))) _ refl)
 
 pub walk_tests-requires : goal.walk_tests-requires
 walk_tests-requires c =
     let p = c.requires in
-    let canonical = canonical_words_lem c.args.trace.now c.test_words-of_words.ensures c.in-Accepted-of_words.is in
-    (p.4, p.5, p.0, canonical, p.1, p.2, p.3)
+    (good_test _ c.in_ok-test_words-2.ensures, p.0, p.1, p.2)
 
 pub returns : goal.returns
 unfolding trace_test
 returns c =
     walked _ _ c.walk_tests.ensures
-    (claim_passed _ _ _ _ _ c.test_claim-of_claim.ensures c.in-Accepted.is (words_passed _ _ _ _ _ c.test_words-of_words.ensures c.in-Accepted-of_words.is refl))
+    (unless_passed _ c.in_ok-test_words.ensures (unless_passed _ c.in_ok-test_words-2.ensures refl))

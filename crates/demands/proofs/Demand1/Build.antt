@@ -7,14 +7,13 @@ use Prim.Native.Nat.{ℕ, ◌*◌}
 use borrow.Author.Tests.{eqb-true}
 use lib.Dec.{eqb}
 use lib.ListN.{length}
+use Rattle.std.specs.Prelude.{Ok, Err}
 use Rattle.lists.proofs.Bools.{and_both}
 use Rattle.numbers.specs.Numbers.{most_batches, is_tap_length, tap_word_batches}
-use Rattle.refusals.specs.Refusals.{digest}
 use Rattle.refusals.specs.Answers.{leaves}
 use Rattle.refusals.specs.declared.Refusal.{Refusal}
 use Rattle.refusals.specs.declared.Refusal.TheVariants.{TapLength, DestinationLength}
-use Rattle.refusals.specs.declared.Answer.TheVariants as answer
-use Rattle.refusals.proofs.Laws.{passed, both_accepted, digest_refused, AnswerEnds}
+use Rattle.refusals.proofs.Laws.{passed, both_accepted, value_refused, AnswerEnds}
 use Rattle.table.specs.Table.{table_test}
 use Rattle.hash.specs.Hash as rescue
 use Rattle.trace.specs.Trace.{trace}
@@ -26,25 +25,23 @@ use Rattle.call_answers.proofs.Theorems as bits
 use Rattle.demands.specs.Demand1.{build, numbers, call_numbers, OneOf, Answered, BuildResult}
 use Rattle.demands.proofs.Demand1.Numbers.{one_of, table_causes_lem, taps_causes}
 use Rattle.demands.proofs.Demand1.Words.{digest_says, output_new, output_old, kept_old}
-use Rattle.demands.proofs.Demand1.Chain.{chain_words}
 use Rattle.call_answers.proofs.Endings.Build.{build_ends, build_call_ends}
-use Rattle.refusals.specs.declared.DigestAnswer.TheVariants as digests
 
-pub build_numbered : (T w : List ℕ) (size : ℕ) (r : Refusal) → build_answer T w size ≡ digests.Refused r
+pub build_numbered : (T w : List ℕ) (size : ℕ) (r : Refusal) → build_answer T w size ≡ Err r
     → OneOf (numbers build) r
 unfolding build_answer
 build_numbered T w size r e =
     let ns = numbers build in
-    subst (AnswerEnds (OneOf ns)) (digest_refused (build_test T w size) _ r e)
+    subst (AnswerEnds (OneOf ns)) (value_refused (build_test T w size) _ r e)
     (build_ends (OneOf ns) (table_causes_lem ns refl refl refl) T w (taps_causes ns most_batches w refl refl) size
     (one_of 8 ns refl))
 
-pub build_keeps : (T w old : List ℕ) (r : Refusal) → build_answer T w (length old) ≡ digests.Refused r
+pub build_keeps : (T w old : List ℕ) (r : Refusal) → build_answer T w (length old) ≡ Err r
     → build_leaves T w old ≡ old
 unfolding build_answer build_leaves
-build_keeps T w old r e = kept_old _ r (digest_refused (build_test T w (length old)) _ r e) _ old
+build_keeps T w old r e = kept_old _ r (value_refused (build_test T w (length old)) _ r e) _ old
 
-build_call_inputs : (T w : List ℕ) (rows size : ℕ) → build_call_test T w rows size ≡ answer.Accepted
+build_call_inputs : (T w : List ℕ) (rows size : ℕ) → build_call_test T w rows size ≡ Ok tt
     → BuildInputs T w rows (tap_word_batches (length w))
 unfolding build_call_test
 build_call_inputs T w rows size e =
@@ -62,7 +59,7 @@ build_called T w rows rows' output output' code h =
     let ns = call_numbers build in
     let k = tap_word_batches (length w) in
     let t = build_call_test T w (length rows) (length output) in
-    let d = digest (rescue.chain T w k) in
+    let d = (rescue.chain T w k) in
     digest_says code ns (λ a. t ≡ a) (BuildResult T w rows' output') ((rows' ≡ rows) × (output' ≡ output)) t refl d
     h.four.coded
     (bits.build_bits T w (length rows) (length output))
@@ -73,7 +70,7 @@ build_called T w rows rows' output output' code h =
       k = k;
       permitted = i.permitted;
       taps = i.taps;
-      output_is = output_new t d code output output' h.four e ∙ chain_words T w k i.permitted.low;
+      output_is = output_new t d code output output' h.four e;
       rows_are = h.rows ∙ ap (λ x. leaves x (trace T w k) rows) e;
     }))
     (λ r. (h.rows ∙ ap (λ x. leaves x (trace T w k) rows) r.1, output_old t d code output output' h.four r))

@@ -7,12 +7,11 @@ use native.Mathlib.Omega.{arith}
 use borrow.Author.Tests.{eqb-true}
 use lib.Dec.{eqb}
 use lib.ListN.{length}
+use Rattle.std.specs.Prelude.{Ok, Err}
 use Rattle.numbers.specs.Numbers.{most_batches, is_tap_length, tap_word_batches}
-use Rattle.refusals.specs.Refusals.{digest, digest_words}
 use Rattle.refusals.specs.declared.Refusal.{Refusal}
 use Rattle.refusals.specs.declared.Refusal.TheVariants.{TapLength, DestinationLength}
-use Rattle.refusals.specs.declared.Answer.TheVariants as answer
-use Rattle.refusals.proofs.Laws.{passed, both_accepted, digest_refused, AnswerEnds}
+use Rattle.refusals.proofs.Laws.{passed, both_accepted, value_refused, AnswerEnds}
 use Rattle.table.specs.Table.{table_test}
 use Rattle.hash.specs.Hash as rescue
 use Rattle.hash.proofs.Inputs.{hash_tap}
@@ -23,30 +22,18 @@ use Rattle.call_answers.specs.Calls.{chain_call_test, chain_call}
 use Rattle.call_answers.proofs.Answers.{chain_room}
 use Rattle.call_answers.proofs.Theorems as bits
 use Rattle.demands.specs.Demand1.{chain, numbers, call_numbers, OneOf, Answered, ChainResult}
-use Rattle.refusals.proofs.Returned.{four_words}
 use Rattle.demands.proofs.Demand1.Numbers.{one_of, table_causes_lem, taps_causes}
 use Rattle.demands.proofs.Demand1.Words.{digest_says, output_new, output_old}
 use Rattle.call_answers.proofs.Endings.Chain.{chain_ends, chain_call_ends}
-use Rattle.refusals.specs.declared.DigestAnswer.TheVariants as digests
 
-pub chain_numbered : (T w : List ℕ) (r : Refusal) → chain_answer T w ≡ digests.Refused r → OneOf (numbers chain) r
+pub chain_numbered : (T w : List ℕ) (r : Refusal) → chain_answer T w ≡ Err r → OneOf (numbers chain) r
 unfolding chain_answer
 chain_numbered T w r e =
     let ns = numbers chain in
-    subst (AnswerEnds (OneOf ns)) (digest_refused (chain_test T w) _ r e)
+    subst (AnswerEnds (OneOf ns)) (value_refused (chain_test T w) _ r e)
     (chain_ends (OneOf ns) (table_causes_lem ns refl refl refl) T w (taps_causes ns most_batches w refl refl))
 
--- the output of one hash or more has four words, whatever it was taken from
-output_size : (T w : List ℕ) (h : ℕ) → 1 ≤ h → length (rescue.output_at T w h) ≡ 4
-unfolding rescue.output_at
-output_size T w zero l = absurd (omega arith)
-output_size T w (suc h) l = (hash_tap T _ _).size
-
-pub chain_words : (T w : List ℕ) (k : ℕ) → 1 ≤ k → digest_words (digest (rescue.chain T w k)) ≡ rescue.chain T w k
-unfolding rescue.chain
-chain_words T w k some = four_words (rescue.output_at T w (3 * k)) (output_size T w (3 * k) (omega arith))
-
-chain_call_inputs : (T w : List ℕ) (size : ℕ) → chain_call_test T w size ≡ answer.Accepted
+chain_call_inputs : (T w : List ℕ) (size : ℕ) → chain_call_test T w size ≡ Ok tt
     → ChainInputs T w (tap_word_batches (length w))
 unfolding chain_call_test
 chain_call_inputs T w size e =
@@ -64,7 +51,7 @@ chain_called T w output output' code h =
     let ns = call_numbers chain in
     let k = tap_word_batches (length w) in
     let t = chain_call_test T w (length output) in
-    let d = digest (rescue.chain T w k) in
+    let d = (rescue.chain T w k) in
     digest_says code ns (λ a. t ≡ a) (ChainResult T w output') (output' ≡ output) t refl d h.coded
     (bits.chain_bits T w (length output))
     (chain_call_ends (OneOf ns) (table_causes_lem ns refl refl refl) T w
@@ -74,6 +61,6 @@ chain_called T w output output' code h =
       k = k;
       permitted = i.permitted;
       taps = i.size;
-      output_is = output_new t d code output output' h e ∙ chain_words T w k i.permitted.low;
+      output_is = output_new t d code output output' h e;
     }))
     (output_old t d code output output' h)

@@ -4,10 +4,10 @@ use mathlib.Core.Path.{◌≡◌, refl, subst}
 use mathlib.Core.List.{List, [], ◌∷◌}
 use Prim.Native.Nat.{ℕ}
 use lib.ListN.{length}
+use Rattle.std.specs.Prelude.{Ok, Err}
 use Rattle.numbers.specs.Numbers.{trace_word_batches}
 use Rattle.refusals.specs.declared.Refusal.{Refusal}
-use Rattle.refusals.specs.declared.Answer.TheVariants as answer
-use Rattle.refusals.proofs.Laws.{tests_refused, AnswerEnds}
+use Rattle.refusals.proofs.Laws.{value_refused, AnswerEnds}
 use Rattle.check_constraints.specs.Constraints as order
 use Rattle.check_constraints.specs.ReadOff.{read_taps}
 use Rattle.check_constraints.proofs.TestCount.{length_tests}
@@ -21,7 +21,6 @@ use Rattle.demands.specs.Demand1.{check, numbers, call_numbers, OneOf, Answered,
 use Rattle.demands.proofs.Demand1.Numbers.{one_of, table_causes_lem, trace_causes}
 use Rattle.demands.proofs.Demand1.Words.{tests_says}
 use Rattle.call_answers.proofs.Endings.Check.{check_ends}
-use Rattle.refusals.specs.declared.TestsAnswer.TheVariants as counts
 
 check_numbers : (T t claim : List ℕ) (c : ℕ) → AnswerEnds (OneOf (numbers check)) (check_test T t claim c)
 check_numbers T t claim c =
@@ -30,15 +29,15 @@ check_numbers T t claim c =
     (trace_causes ns T t claim c (table_causes_lem ns refl refl refl) refl refl refl refl)
     (λ h i q n f. one_of 11 ns refl)
 
-pub check_numbered : (T t claim : List ℕ) (c : ℕ) (r : Refusal) → check_answer T t claim c ≡ counts.Refused r
+pub check_numbered : (T t claim : List ℕ) (c : ℕ) (r : Refusal) → check_answer T t claim c ≡ Err r
     → OneOf (numbers check) r
 unfolding check_answer
 check_numbered T t claim c r e =
-    subst (AnswerEnds (OneOf (numbers check))) (tests_refused (check_test T t claim c) _ r e) (check_numbers T t claim c)
+    subst (AnswerEnds (OneOf (numbers check))) (value_refused (check_test T t claim c) _ r e) (check_numbers T t claim c)
 
 -- what an accepted trace stands for
 pub list_for : (T t claim : List ℕ) (c : ℕ) → length claim ≡ 4 → let k = trace_word_batches (length t) in
-    CheckInputs T t claim c k → order.constraint_test T t claim c k ≡ answer.Accepted
+    CheckInputs T t claim c k → order.constraint_test T t claim c k ≡ Ok tt
     → IsListFor T t claim c k (read_taps T t k)
 list_for T t claim c four i e =
     let o = i.opening in

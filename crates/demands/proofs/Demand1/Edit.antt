@@ -4,12 +4,11 @@ use mathlib.Core.Path.{◌≡◌, refl, ap, subst, ◌∙◌}
 use mathlib.Core.List.{List, [], ◌∷◌}
 use Prim.Native.Nat.{ℕ}
 use lib.ListN.{length}
+use Rattle.std.specs.Prelude.{Ok, Err}
 use Rattle.numbers.specs.Numbers.{trace_word_batches}
-use Rattle.refusals.specs.Refusals.{digest}
 use Rattle.refusals.specs.Answers.{leaves}
 use Rattle.refusals.specs.declared.Refusal.{Refusal}
-use Rattle.refusals.specs.declared.Answer.TheVariants as answer
-use Rattle.refusals.proofs.Laws.{both_accepted, digest_refused, AnswerEnds}
+use Rattle.refusals.proofs.Laws.{both_accepted, value_refused, AnswerEnds}
 use Rattle.hash.specs.Hash as rescue
 use Rattle.trace.specs.Trace.{trace}
 use Rattle.check_trace.specs.Answers.{opening_test}
@@ -20,27 +19,25 @@ use Rattle.call_answers.proofs.Theorems as bits
 use Rattle.demands.specs.Demand1.{edit, numbers, call_numbers, OneOf, Answered, EditResult}
 use Rattle.demands.proofs.Demand1.Numbers.{one_of, table_causes_lem, trace_causes}
 use Rattle.demands.proofs.Demand1.Words.{digest_says, output_new, output_old, kept_old}
-use Rattle.demands.proofs.Demand1.Chain.{chain_words}
 use Rattle.call_answers.proofs.Endings.Edit.{edit_ends, edit_call_ends}
-use Rattle.refusals.specs.declared.DigestAnswer.TheVariants as digests
 
 pub edit_numbered : (T t claim : List ℕ) (c n : ℕ) (new : List ℕ) (r : Refusal)
-    → edit_answer T t claim c n new ≡ digests.Refused r → OneOf (numbers edit) r
+    → edit_answer T t claim c n new ≡ Err r → OneOf (numbers edit) r
 unfolding edit_answer
 edit_numbered T t claim c n new r e =
     let ns = numbers edit in
-    subst (AnswerEnds (OneOf ns)) (digest_refused (edit_test T t claim c n new) _ r e)
+    subst (AnswerEnds (OneOf ns)) (value_refused (edit_test T t claim c n new) _ r e)
     (edit_ends (OneOf ns) T t claim c
     (trace_causes ns T t claim c (table_causes_lem ns refl refl refl) refl refl refl refl) n new (one_of 15 ns refl)
     (λ i h. one_of 6 ns refl) (λ l a h i j m f. one_of 11 ns refl))
 
 pub edit_keeps : (T t claim : List ℕ) (c n : ℕ) (new : List ℕ) (r : Refusal)
-    → edit_answer T t claim c n new ≡ digests.Refused r → edit_leaves T t claim c n new ≡ t
+    → edit_answer T t claim c n new ≡ Err r → edit_leaves T t claim c n new ≡ t
 unfolding edit_answer edit_leaves
-edit_keeps T t claim c n new r e = kept_old _ r (digest_refused (edit_test T t claim c n new) _ r e) _ t
+edit_keeps T t claim c n new r e = kept_old _ r (value_refused (edit_test T t claim c n new) _ r e) _ t
 
 edit_call_inputs : (T t claim : List ℕ) (c n : ℕ) (new : List ℕ) (size : ℕ)
-    → edit_call_test T t claim c n new size ≡ answer.Accepted → Opened T t c (trace_word_batches (length t))
+    → edit_call_test T t claim c n new size ≡ Ok tt → Opened T t c (trace_word_batches (length t))
 unfolding edit_call_test
 edit_call_inputs T t claim c n new size e = opened T t c (both_accepted (opening_test T t c) _ e).0
 
@@ -59,7 +56,7 @@ edit_called T t t' output output' c0 c1 c2 c3 c n w0 w1 w2 w3 code h =
     let w = altered_taps T t n new in
     let first = rescue.first_taps c w in
     let tested = edit_call_test T t claim c n new (length output) in
-    let d = digest (rescue.chain T first c) in
+    let d = (rescue.chain T first c) in
     digest_says code ns (λ a. tested ≡ a) (EditResult T t c n new t' output') ((t' ≡ t) × (output' ≡ output)) tested
     refl d h.four.coded
     (bits.edit_bits T t claim c refl n new (length output) refl)
@@ -73,7 +70,7 @@ edit_called T t t' output output' c0 c1 c2 c3 c n w0 w1 w2 w3 code h =
       permitted = o.permitted;
       rows = o.size;
       claimed = (o.low, o.high);
-      output_is = output_new tested d code output output' h.four e ∙ chain_words T first c o.low;
+      output_is = output_new tested d code output output' h.four e;
       rows_are = h.rows ∙ ap (λ x. leaves x (trace T w k) t) e;
     }))
     (λ r. (h.rows ∙ ap (λ x. leaves x (trace T w k) t) r.1, output_old tested d code output output' h.four r))

@@ -4,9 +4,9 @@ use mathlib.Core.Path.{◌≡◌, refl, ap, subst, ◌∙◌}
 use mathlib.Core.List.{List, [], ◌∷◌}
 use Prim.Native.Nat.{ℕ}
 use lib.ListN.{length}
+use Rattle.std.specs.Prelude.{Err}
 use Rattle.refusals.specs.Answers.{leaves}
 use Rattle.refusals.specs.declared.Refusal.{Refusal}
-use Rattle.refusals.specs.declared.Answer.TheVariants as answer
 use Rattle.refusals.proofs.Laws.{AnswerEnds}
 use Rattle.board.specs.Board.{pack_test, packed, pack_leaves, most_file_batches}
 use Rattle.call_answers.specs.Calls.{PackCall}
@@ -22,11 +22,11 @@ pack_numbers w claim size =
     pack_ends (OneOf ns) w claim size (one_of 8 ns refl) (λ i h. one_of 9 ns refl)
     (taps_causes ns most_file_batches w refl refl)
 
-pub pack_numbered : (w claim : List ℕ) (size : ℕ) (r : Refusal) → pack_test w claim size ≡ answer.Refused r
+pub pack_numbered : (w claim : List ℕ) (size : ℕ) (r : Refusal) → pack_test w claim size ≡ Err r
     → OneOf (numbers pack) r
 pack_numbered w claim size r e = subst (AnswerEnds (OneOf (numbers pack))) e (pack_numbers w claim size)
 
-pub pack_keeps : (w claim old : List ℕ) (r : Refusal) → pack_test w claim (length old) ≡ answer.Refused r
+pub pack_keeps : (w claim old : List ℕ) (r : Refusal) → pack_test w claim (length old) ≡ Err r
     → pack_leaves w claim old ≡ old
 unfolding pack_leaves
 pack_keeps w claim old r e = kept_old _ r e _ old

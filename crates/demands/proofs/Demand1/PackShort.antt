@@ -4,11 +4,10 @@ use mathlib.Core.Path.{◌≡◌, refl, ap, subst, ◌∙◌}
 use mathlib.Core.List.{List, [], ◌∷◌}
 use Prim.Native.Nat.{ℕ}
 use lib.ListN.{length}
+use Rattle.std.specs.Prelude.{Err}
 use Rattle.numbers.specs.Numbers.{most_batches}
-use Rattle.refusals.specs.Answers.{leaves}
+use Rattle.refusals.specs.Answers.{Answer, leaves}
 use Rattle.refusals.specs.declared.Refusal.{Refusal}
-use Rattle.refusals.specs.declared.Answer.{Answer}
-use Rattle.refusals.specs.declared.Answer.TheVariants as answer
 use Rattle.refusals.proofs.Laws.{AnswerEnds}
 use Rattle.board_short.specs.ShortBoard.{pack_short_test, packed_short, pack_short_leaves}
 use Rattle.call_answers.specs.Calls.{PackShortCall}
@@ -25,12 +24,12 @@ pack_short_numbers w claim size =
     pack_short_ends (OneOf ns) w claim size (one_of 8 ns refl) (λ i h. one_of 9 ns refl)
     (taps_causes ns most_batches w refl refl)
 
-pub pack_short_numbered : (w claim : List ℕ) (size : ℕ) (r : Refusal) → pack_short_test w claim size ≡ answer.Refused r
+pub pack_short_numbered : (w claim : List ℕ) (size : ℕ) (r : Refusal) → pack_short_test w claim size ≡ Err r
     → OneOf (numbers pack_short) r
 pack_short_numbered w claim size r e =
     subst (AnswerEnds (OneOf (numbers pack_short))) e (pack_short_numbers w claim size)
 
-pub pack_short_keeps : (w claim old : List ℕ) (r : Refusal) → pack_short_test w claim (length old) ≡ answer.Refused r
+pub pack_short_keeps : (w claim old : List ℕ) (r : Refusal) → pack_short_test w claim (length old) ≡ Err r
     → pack_short_leaves w claim old ≡ old
 unfolding pack_short_leaves
 pack_short_keeps w claim old r e = kept_old _ r e _ old

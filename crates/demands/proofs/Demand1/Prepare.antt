@@ -3,7 +3,6 @@
 use mathlib.Core.Path.{◌≡◌, refl, subst}
 use mathlib.Core.List.{List}
 use Prim.Native.Nat.{ℕ}
-use Rattle.refusals.specs.declared.Answer.{Answer}
 use Rattle.refusals.proofs.Laws.{AnswerEnds}
 use Rattle.table.specs.Table.{Prepares}
 use Rattle.table_prepare.proofs.Theorems.{refused_kept}
@@ -13,6 +12,7 @@ use Rattle.demands.specs.Demand1.{prepare, numbers, call_numbers, OneOf, Answere
 use Rattle.demands.proofs.Demand1.Numbers.{one_of}
 use Rattle.demands.proofs.Demand1.Words.{answer_says}
 use Rattle.call_answers.proofs.Endings.Prepare.{prepare_ends}
+use Rattle.refusals.specs.Answers.{Answer}
 
 pub prepare_numbers : (raw old new : List ℕ) (a : Answer) → Prepares raw old a new
     → AnswerEnds (OneOf (numbers prepare)) a

@@ -4,10 +4,11 @@ use mathlib.Core.Path.{◌≡◌, refl, sym, ap, subst, ◌∙◌}
 use mathlib.Core.List.{List, [], ◌∷◌}
 use Prim.Native.Nat.{ℕ}
 use lib.ListN.{length}
+use Rattle.std.specs.Prelude.{Err}
 use Rattle.numbers.specs.Numbers.{trace_word_batches}
 use Rattle.refusals.specs.Answers.{leaves}
 use Rattle.refusals.specs.declared.Refusal.{Refusal}
-use Rattle.refusals.proofs.Laws.{tests_refused, AnswerEnds}
+use Rattle.refusals.proofs.Laws.{value_refused, AnswerEnds}
 use Rattle.check_constraints.specs.Constraints as order
 use Rattle.check_constraints.specs.ReadOff.{read_taps}
 use Rattle.check_constraints.proofs.TestCount.{length_tests}
@@ -21,7 +22,6 @@ use Rattle.demands.proofs.Demand1.Numbers.{one_of, table_causes_lem, trace_cause
 use Rattle.demands.proofs.Demand1.Words.{tests_says, kept_old}
 use Rattle.demands.proofs.Demand1.Check.{list_for}
 use Rattle.call_answers.proofs.Endings.ReadOff.{read_off_ends}
-use Rattle.refusals.specs.declared.TestsAnswer.TheVariants as counts
 
 read_off_numbers : (T t claim : List ℕ) (c size : ℕ)
     → AnswerEnds (OneOf (numbers read_off)) (read_off_test T t claim c size)
@@ -32,17 +32,17 @@ read_off_numbers T t claim c size =
     (λ s h i q n f. one_of 11 ns refl)
 
 pub read_off_numbered : (T t claim : List ℕ) (c size : ℕ) (r : Refusal)
-    → read_off_answer T t claim c size ≡ counts.Refused r → OneOf (numbers read_off) r
+    → read_off_answer T t claim c size ≡ Err r → OneOf (numbers read_off) r
 unfolding read_off_answer
 read_off_numbered T t claim c size r e =
-    subst (AnswerEnds (OneOf (numbers read_off))) (tests_refused (read_off_test T t claim c size) _ r e)
+    subst (AnswerEnds (OneOf (numbers read_off))) (value_refused (read_off_test T t claim c size) _ r e)
     (read_off_numbers T t claim c size)
 
 pub read_off_keeps : (T t claim old : List ℕ) (c : ℕ) (r : Refusal)
-    → read_off_answer T t claim c (length old) ≡ counts.Refused r → read_off_leaves T t claim c old ≡ old
+    → read_off_answer T t claim c (length old) ≡ Err r → read_off_leaves T t claim c old ≡ old
 unfolding read_off_answer read_off_leaves
 read_off_keeps T t claim old c r e =
-    kept_old _ r (tests_refused (read_off_test T t claim c (length old)) _ r e) _ old
+    kept_old _ r (value_refused (read_off_test T t claim c (length old)) _ r e) _ old
 
 pub read_off_called : (T t taps taps' : List ℕ) (c0 c1 c2 c3 c code : ℕ)
     → ReadOffCall T t (c0 ∷ c1 ∷ c2 ∷ c3 ∷ []) c code taps taps'

@@ -4,10 +4,9 @@ use mathlib.Core.Path.{◌≡◌, refl, ap, subst, ◌∙◌}
 use mathlib.Core.List.{List}
 use Prim.Native.Nat.{ℕ}
 use lib.ListN.{length}
-use Rattle.refusals.specs.Answers.{leaves}
+use Rattle.std.specs.Prelude.{Err}
+use Rattle.refusals.specs.Answers.{Answer, leaves}
 use Rattle.refusals.specs.declared.Refusal.{Refusal}
-use Rattle.refusals.specs.declared.Answer.{Answer}
-use Rattle.refusals.specs.declared.Answer.TheVariants as answer
 use Rattle.refusals.proofs.Laws.{AnswerEnds}
 use Rattle.board.specs.Board.{packed}
 use Rattle.board_short.specs.ShortBoard.{short_taps_in, short_claim_in}
@@ -24,11 +23,11 @@ to_full_numbers file size =
     let ns = numbers to_full in
     to_full_ends (OneOf ns) file (short_causes ns file refl refl refl refl) size (one_of 19 ns refl) (one_of 8 ns refl)
 
-pub to_full_numbered : (file : List ℕ) (size : ℕ) (r : Refusal) → to_full_test file size ≡ answer.Refused r
+pub to_full_numbered : (file : List ℕ) (size : ℕ) (r : Refusal) → to_full_test file size ≡ Err r
     → OneOf (numbers to_full) r
 to_full_numbered file size r e = subst (AnswerEnds (OneOf (numbers to_full))) e (to_full_numbers file size)
 
-pub to_full_keeps : (file old : List ℕ) (r : Refusal) → to_full_test file (length old) ≡ answer.Refused r
+pub to_full_keeps : (file old : List ℕ) (r : Refusal) → to_full_test file (length old) ≡ Err r
     → to_full_leaves file old ≡ old
 unfolding to_full_leaves
 to_full_keeps file old r e = kept_old _ r e _ old

@@ -4,10 +4,9 @@ use mathlib.Core.Path.{◌≡◌, refl, ap, subst, ◌∙◌}
 use mathlib.Core.List.{List}
 use Prim.Native.Nat.{ℕ}
 use lib.ListN.{length}
-use Rattle.refusals.specs.Answers.{leaves}
+use Rattle.std.specs.Prelude.{Err}
+use Rattle.refusals.specs.Answers.{Answer, leaves}
 use Rattle.refusals.specs.declared.Refusal.{Refusal}
-use Rattle.refusals.specs.declared.Answer.{Answer}
-use Rattle.refusals.specs.declared.Answer.TheVariants as answer
 use Rattle.refusals.proofs.Laws.{AnswerEnds}
 use Rattle.board.specs.Board.{taps_in, claim_in}
 use Rattle.board_short.specs.ShortBoard.{packed_short}
@@ -24,11 +23,11 @@ to_short_numbers file size =
     let ns = numbers to_short in
     to_short_ends (OneOf ns) file (full_causes ns file refl refl refl) size (one_of 19 ns refl) (one_of 8 ns refl)
 
-pub to_short_numbered : (file : List ℕ) (size : ℕ) (r : Refusal) → to_short_test file size ≡ answer.Refused r
+pub to_short_numbered : (file : List ℕ) (size : ℕ) (r : Refusal) → to_short_test file size ≡ Err r
     → OneOf (numbers to_short) r
 to_short_numbered file size r e = subst (AnswerEnds (OneOf (numbers to_short))) e (to_short_numbers file size)
 
-pub to_short_keeps : (file old : List ℕ) (r : Refusal) → to_short_test file (length old) ≡ answer.Refused r
+pub to_short_keeps : (file old : List ℕ) (r : Refusal) → to_short_test file (length old) ≡ Err r
     → to_short_leaves file old ≡ old
 unfolding to_short_leaves
 to_short_keeps file old r e = kept_old _ r e _ old

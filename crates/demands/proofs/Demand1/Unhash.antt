@@ -4,10 +4,10 @@ use mathlib.Core.Path.{◌≡◌, refl, ap, subst, ◌∙◌}
 use mathlib.Core.List.{List, [], ◌∷◌}
 use Prim.Native.Nat.{ℕ}
 use lib.ListN.{length}
-use Rattle.refusals.specs.Answers.{leaves}
+use Rattle.std.specs.Prelude.{Err}
+use Rattle.refusals.specs.Answers.{Answer, leaves}
 use Rattle.refusals.specs.declared.Refusal.{Refusal}
-use Rattle.refusals.specs.declared.Answer.{Answer}
-use Rattle.refusals.proofs.Laws.{pair_refused, AnswerEnds}
+use Rattle.refusals.proofs.Laws.{value_refused, AnswerEnds}
 use Rattle.hash_undo.specs.Unhash.{taps_before}
 use Rattle.hash_undo.specs.Answers.{unhash_test, unhash_answer}
 use Rattle.call_answers.specs.Calls.{unhash_call_test, UnhashCall}
@@ -16,13 +16,12 @@ use Rattle.demands.specs.Demand1.{unhash, numbers, call_numbers, OneOf, Answered
 use Rattle.demands.proofs.Demand1.Numbers.{one_of, table_causes_lem}
 use Rattle.demands.proofs.Demand1.Words.{answer_says}
 use Rattle.call_answers.proofs.Endings.Unhash.{unhash_ends, unhash_call_ends}
-use Rattle.refusals.specs.declared.PairAnswer.TheVariants as pairs
 
-pub unhash_numbered : (T s : List ℕ) (r : Refusal) → unhash_answer T s ≡ pairs.Refused r → OneOf (numbers unhash) r
+pub unhash_numbered : (T s : List ℕ) (r : Refusal) → unhash_answer T s ≡ Err r → OneOf (numbers unhash) r
 unfolding unhash_answer
 unhash_numbered T s r e =
     let ns = numbers unhash in
-    subst (AnswerEnds (OneOf ns)) (pair_refused (unhash_test T s) _ r e)
+    subst (AnswerEnds (OneOf ns)) (value_refused (unhash_test T s) _ r e)
     (unhash_ends (OneOf ns) (table_causes_lem ns refl refl refl) T s (λ i h. one_of 6 ns refl) (λ t c. one_of 16 ns refl))
 
 pub unhash_called : (T taps taps' : List ℕ) (s0 s1 s2 s3 s4 s5 s6 s7 s8 s9 s10 s11 code : ℕ)

@@ -4,11 +4,10 @@ use mathlib.Core.Path.{◌≡◌, refl, sym, ap, subst, ◌∙◌}
 use mathlib.Core.List.{List}
 use Prim.Native.Nat.{ℕ}
 use lib.ListN.{length}
-use Rattle.refusals.specs.Refusals.{digest}
-use Rattle.refusals.specs.Answers.{leaves}
+use Rattle.std.specs.Prelude.{Err}
+use Rattle.refusals.specs.Answers.{Answer, leaves}
 use Rattle.refusals.specs.declared.Refusal.{Refusal}
-use Rattle.refusals.specs.declared.Answer.{Answer}
-use Rattle.refusals.proofs.Laws.{digest_refused, AnswerEnds}
+use Rattle.refusals.proofs.Laws.{value_refused, AnswerEnds}
 use Rattle.board_short.specs.ShortBoard.{unpack_short_answer, unpack_short_test, short_taps_in, short_claim_in}
 use Rattle.board_short.specs.ShortBoard.{unpack_short_leaves}
 use Rattle.board_short.proofs.Round as short
@@ -18,20 +17,19 @@ use Rattle.demands.specs.Demand1.{unpack_short, numbers, call_numbers, OneOf, An
 use Rattle.demands.proofs.Demand1.Numbers.{one_of, short_causes}
 use Rattle.demands.proofs.Demand1.Words.{digest_says, output_new, output_old, kept_old}
 use Rattle.call_answers.proofs.Endings.UnpackShort.{unpack_short_ends, unpack_short_call_ends}
-use Rattle.refusals.specs.declared.DigestAnswer.TheVariants as digests
 
-pub unpack_short_numbered : (file : List ℕ) (size : ℕ) (r : Refusal) → unpack_short_answer file size ≡ digests.Refused r
+pub unpack_short_numbered : (file : List ℕ) (size : ℕ) (r : Refusal) → unpack_short_answer file size ≡ Err r
     → OneOf (numbers unpack_short) r
 unfolding unpack_short_answer
 unpack_short_numbered file size r e =
     let ns = numbers unpack_short in
-    subst (AnswerEnds (OneOf ns)) (digest_refused (unpack_short_test file size) _ r e)
+    subst (AnswerEnds (OneOf ns)) (value_refused (unpack_short_test file size) _ r e)
     (unpack_short_ends (OneOf ns) file (short_causes ns file refl refl refl refl) size (λ n. one_of 8 ns refl))
 
-pub unpack_short_keeps : (file old : List ℕ) (r : Refusal) → unpack_short_answer file (length old) ≡ digests.Refused r
+pub unpack_short_keeps : (file old : List ℕ) (r : Refusal) → unpack_short_answer file (length old) ≡ Err r
     → unpack_short_leaves file old ≡ old
 unfolding unpack_short_answer unpack_short_leaves
-unpack_short_keeps file old r e = kept_old _ r (digest_refused (unpack_short_test file (length old)) _ r e) _ old
+unpack_short_keeps file old r e = kept_old _ r (value_refused (unpack_short_test file (length old)) _ r e) _ old
 
 pub unpack_short_called : (file taps taps' claim claim' : List ℕ) (code : ℕ)
     → UnpackShortCall file code taps taps' claim claim'
@@ -42,7 +40,7 @@ unfolding unpack_short_call
 unpack_short_called file taps taps' claim claim' code h =
     let ns = call_numbers unpack_short in
     let t = unpack_short_call_test file (length taps) (length claim) in
-    let d = digest (short_claim_in file) in
+    let d = short_claim_in file in
     let left : Answer → List ℕ = λ x. leaves x (short_taps_in file) taps in
     digest_says code ns (λ a. t ≡ a) (UnpackShortResult file taps' claim') ((taps' ≡ taps) × (claim' ≡ claim)) t refl d
     h.four.coded
@@ -52,6 +50,6 @@ unpack_short_called file taps taps' claim claim' code h =
     (λ e. record {
       none = refl;
       taps_are = h.list ∙ ap left e;
-      claim_is = output_new t d code claim claim' h.four e ∙ sym (short.claim_is file d refl);
+      claim_is = output_new t d code claim claim' h.four e;
     })
     (λ r. (h.list ∙ ap left r.1, output_old t d code claim claim' h.four r))

@@ -1,13 +1,10 @@
 -- `field_products::multiply`: the cells passed are filled with the products, and the others are as they were.
 -- Assumes nothing.
-use Prim.Native.Nat.{◌-◌}
 use Rattle.lists.specs.Lists.{cell}
 use Rattle.lists.proofs.Tab.{Fills}
 use Rattle.field.specs.MontgomeryHelpers.{times_word}
 use Rattle.field_products.proofs.multiply.Given as goal
 
 abbrev pub invariant-loop-j : goal.invariant-loop-j
-invariant-loop-j l = Fills 12 (λ i. times_word (cell l.initial.a i) (cell l.b i)) l.initial.a l.j l.a
-
-abbrev pub decreases-loop-j : goal.decreases-loop-j
-decreases-loop-j l = 12 - l.j
+invariant-loop-j l =
+    Fills 12 (λ i. times_word (cell l.initial.x-items i) (cell l.b.words i)) l.initial.x-items l.j l.x-items

@@ -6,24 +6,16 @@ use Rattle.hash.proofs.States.{first_step_state, second_step_state, state_at_sta
 use Rattle.hash.proofs.CodeStates.{canonical_state}
 use Rattle.hash.proofs.final_state.Goals as goal
 
-pub plus_initial-state-requires : goal.plus_initial-state-requires
-plus_initial-state-requires c = (c.requires.0, c.requires.1)
-
 pub loop-round-init : goal.loop-round-init
 loop-round-init c = (omega arith, canonical_state c.plus_initial-state.ensures (state_at_state _ _ 0), λ s e. e)
 
-pub first_step-requires : goal.first_step-requires
-first_step-requires c =
-    (c.requires.0, omega arith, c.loop-round.invariant.1, c.requires.2)
-
 pub second_step-next-requires : goal.second_step-next-requires
-second_step-next-requires c =
-    (c.requires.0, omega arith, canonical_state c.first_step.ensures (first_step_state _ _ _), c.requires.2)
+second_step-next-requires c = (omega arith, canonical_state c.first_step.ensures (first_step_state _ _ _))
 
 pub loop-round-preserved : goal.loop-round-preserved
 unfolding state_at
 loop-round-preserved c =
-    let T = c.args.table.now in
+    let T = c.args.ready.table.now in
     let round = c.loop-round.round in (
       omega arith,
       canonical_state c.second_step-next.ensures (second_step_state _ _ _),
@@ -38,4 +30,4 @@ returns c =
     let start = c.args in
     let e : c.loop-round.round ≡ 10 = omega arith in
     c.loop-round.invariant.2 start.input c.plus_initial-state.ensures
-    ∙ ap (state_at start.table.now start.input) e
+    ∙ ap (state_at start.ready.table.now start.input) e

@@ -9,4 +9,5 @@ use Rattle.hash.proofs.final_state.Given as goal
 
 abbrev pub invariant-loop-round : goal.invariant-loop-round
 invariant-loop-round l =
-    (l.round ≤ 10) × CanonicalTo 12 l.state × ((s : List ℕ) → l.initial.state ≡ state_at l.table s 0 → l.state ≡ state_at l.table s l.round)
+    (l.round ≤ 10) × CanonicalTo 12 l.state
+    × ((s : List ℕ) → l.initial.state ≡ state_at l.ready.table.now s 0 → l.state ≡ state_at l.ready.table.now s l.round)

@@ -1,22 +1,15 @@
-use mathlib.Core.Path.{refl, ap, ◌∙◌}
-use native.Mathlib.Omega.{arith}
-use Rattle.lists.proofs.Tab.{fills_none, fills_more, fills_all}
-use Rattle.field.specs.Field.{add}
+-- `hash::plus_initial`: K_0 is twelve canonical words, and the sum is the definition's state before round 0.
+-- Assumes nothing.
+use mathlib.Core.Path.{sym, ap, ◌∙◌, subst}
 use Rattle.hash.specs.Hash.{state_at, plus}
+use Rattle.hash.proofs.States.{IsState, initial_state}
 use Rattle.hash.proofs.plus_initial.Goals as goal
 
-pub loop-j-init : goal.loop-j-init
-loop-j-init c = fills_none refl
-
-pub add-requires : goal.add-requires
-add-requires c =
-    (c.requires.1 _ (omega arith), c.initial_constant-constant.ensures.1)
-
-pub loop-j-preserved : goal.loop-j-preserved
-loop-j-preserved c =
-    fills_more c.loop-j.invariant (omega arith)
-    (c.add.ensures.0 ∙ ap (add _) c.initial_constant-constant.ensures.0)
+pub plus-requires : goal.plus-requires
+plus-requires c =
+    let k = subst IsState (sym c.initial_constant.ensures) (initial_state _ c.requires.0) in
+    (c.requires.1, k.size, k.canonical)
 
 pub returns : goal.returns
-unfolding state_at plus
-returns c = fills_all c.loop-j.invariant (omega arith)
+unfolding state_at
+returns c = c.plus.ensures ∙ ap (plus c.args.input) c.initial_constant.ensures

@@ -1,34 +1,23 @@
-use mathlib.Core.Path.{◌≡◌, ap, ◌∙◌}
 use native.Mathlib.Omega.{arith}
-use Rattle.hash.specs.Hash.{output_at}
 use Rattle.hash_chain.proofs.CodeChain.{starts, input_canonical, goes_on}
 use Rattle.hash_chain.proofs.last_state.Goals as goal
 
 pub loop-h-init : goal.loop-h-init
 loop-h-init c =
     let start = c.args in
-    (omega arith, starts start.table.now start.taps.now _ (omega arith) c.chain_start-state.ensures)
+    (omega arith, starts start.ready.table.now start.taps.now _ (omega arith) c.chain_start-state.ensures)
 
 pub final_state-next-requires : goal.final_state-next-requires
 final_state-next-requires c =
-    let loop = c.loop-h in (
-      c.requires.0,
-      input_canonical c.args.table.now c.args.taps.now loop.h loop.state _ loop.invariant.1
-          c.input_of.ensures c.requires.3 (omega arith),
-      c.requires.4,
-    )
+    let loop = c.loop-h in
+    input_canonical c.args.ready.table.now c.args.taps.now loop.h loop.state _ loop.invariant.1
+    c.input_of.ensures c.requires.2 (omega arith)
 
 pub loop-h-preserved : goal.loop-h-preserved
 loop-h-preserved c =
     let start = c.args in
     let loop = c.loop-h in (
       omega arith,
-      goes_on start.table.now start.taps.now loop.h loop.state _ loop.invariant.1
+      goes_on start.ready.table.now start.taps.now loop.h loop.state _ loop.invariant.1
           c.input_of.ensures _ c.final_state-next.ensures,
     )
-
-pub returns : goal.returns
-returns c =
-    let start = c.args in
-    let e : c.loop-h.h ≡ start.hashes = omega arith in
-    c.loop-h.invariant.1 ∙ ap (output_at start.table.now start.taps.now) e

@@ -1,58 +1,55 @@
 -- `hash_chain::test_chain`: each return is the case of the definition that the tests before it left.
 -- Assumes nothing.
-use mathlib.Core.Path.{◌≡◌, refl, ap}
+use mathlib.Core.Path.{◌≡◌, refl, ap, ◌∙◌}
+use native.Mathlib.Omega.{arith}
 use lib.ListN.{length}
-use Rattle.field_words.specs.Words.{first_bad, canonical_words}
-use Rattle.field_words.proofs.Laws.{scanned_good, scanned_bad}
-use Rattle.numbers.specs.Numbers.{most_batches, is_tap_length}
+use Rattle.std.specs.Prelude.{Some, None, Err, ok_or}
+use Rattle.std.proofs.lemmas.Result.{err_from_is_err_and}
+use Rattle.numbers.specs.Numbers.{most_batches}
 use Rattle.numbers.proofs.Laws.{tap_permitted, tap_refused}
 use Rattle.refusals.specs.declared.Refusal.TheVariants.{TapLength, TapWord}
-use Rattle.refusals.specs.declared.Answer.{Answer}
-use Rattle.refusals.specs.declared.Answer.TheVariants.{Accepted, Refused}
-use Rattle.refusals.specs.Answers.{unless}
-use Rattle.refusals.proofs.Laws.{unless_refused, unless_passed, after_refused, after_accepted}
+use Rattle.refusals.proofs.Laws.{refused_same, unless_refused, unless_passed, after_refused, after_accepted}
 use Rattle.hash_chain.specs.Answers.{chain_test}
 use Rattle.hash_chain.proofs.test_chain.Goals as goal
-use Rattle.table.specs.Table.{table_test}
-use Prim.Native.Nat.{ℕ}
-use mathlib.Core.List.{List}
 
--- where the table is accepted, what is answered is left to the taps' length and words
-accepted : (T w : List ℕ) {a o : Answer} → a ≡ table_test T → a ≡ Accepted
-    → o ≡ unless (is_tap_length most_batches (length w)) TapLength
-    (unless (canonical_words w) (TapWord (first_bad w)) Accepted) → o ≡ chain_test T w
+pub returns-in_err-test_and_ready : goal.returns-in_err-test_and_ready
 unfolding chain_test
-accepted T w table passed e = after_accepted table passed e
+returns-in_err-test_and_ready c =
+    let p = err_from_is_err_and c.from_residual.result c.from_residual.ensures.1 in
+    let table = c.in_err-test_and_ready.ensures in
+    (after_refused _ (p.1 ∙ ap Err p.2 ∙ table.0) p.1, table.1)
 
-pub returns-in_default : goal.returns-in_default
+pub returns-in_err-ok_or : goal.returns-in_err-ok_or
 unfolding chain_test
-returns-in_default c =
-    (after_refused _ c.test_and_ready-of_table.ensures.0 c.in_default.is, c.test_and_ready-of_table.ensures.1)
-
-pub returns-in_default-tap_batches : goal.returns-in_default-tap_batches
-returns-in_default-tap_batches c =
-    let e = tap_refused most_batches (length c.args.taps.now) c.tap_batches.ensures c.in_default-tap_batches.is in (
-      accepted _ c.args.taps.now c.test_and_ready-of_table.ensures.0 c.in-Accepted.is
-          (unless_refused
-          (unless (canonical_words c.args.taps.now) (TapWord (first_bad c.args.taps.now)) Accepted) e refl),
-      c.test_and_ready-of_table.ensures.1,
+returns-in_err-ok_or c =
+    let p = err_from_is_err_and c.from_residual-in_err-ok_or.result c.from_residual-in_err-ok_or.ensures.1 in
+    let table = c.in_ok-test_and_ready.ensures in
+    let none : c.tap_batches.result ≡ None = grind arith in
+    let same = refused_same (c.in_err-ok_or.ensures.value ∙ ap (λ b. ok_or b TapLength) none) in (
+      after_accepted table.0 refl
+          (unless_refused _ (tap_refused most_batches (length c.args.taps.now) c.tap_batches.ensures none)
+          (p.1 ∙ ap Err (p.2 ∙ same))),
+      table.1,
     )
 
-pub returns-then-bad-taps : goal.returns-then-bad-taps
-returns-then-bad-taps c =
-    let bad = c.first_bad-bad.ensures in
-    let e = tap_permitted most_batches (length c.args.taps.now) c.tap_batches.ensures c.in-Permitted.is in (
-      accepted _ c.args.taps.now c.test_and_ready-of_table.ensures.0 c.in-Accepted.is
-          (unless_passed TapLength e.0
-          (unless_refused Accepted (scanned_bad _ bad c.if-bad-taps.true) (ap (λ i. Refused (TapWord i)) bad))),
-      c.test_and_ready-of_table.ensures.1,
+pub returns-in-Some : goal.returns-in-Some
+unfolding chain_test
+returns-in-Some c =
+    let table = c.in_ok-test_and_ready.ensures in
+    let some : c.tap_batches.result ≡ Some c.in_ok-ok_or.field-0 = grind arith in
+    let count = tap_permitted most_batches (length c.args.taps.now) c.tap_batches.ensures some in
+    let bad = c.in-Some.ensures in (
+      after_accepted table.0 refl
+          (unless_passed TapLength count.0 (unless_refused _ bad.0 (ap (λ i. Err (TapWord i)) bad.1))),
+      table.1,
     )
 
 pub returns : goal.returns
+unfolding chain_test
 returns c =
-    let e = tap_permitted most_batches (length c.args.taps.now) c.tap_batches.ensures c.in-Permitted.is in (
-      accepted _ c.args.taps.now c.test_and_ready-of_table.ensures.0 c.in-Accepted.is
-          (unless_passed TapLength e.0
-          (unless_passed (TapWord (first_bad c.args.taps.now)) (scanned_good _ c.first_bad-bad.ensures c.if-bad-taps.false) refl)),
-      c.test_and_ready-of_table.ensures.1,
+    let table = c.in_ok-test_and_ready.ensures in
+    let some : c.tap_batches.result ≡ Some c.in_ok-ok_or.field-0 = grind arith in
+    let count = tap_permitted most_batches (length c.args.taps.now) c.tap_batches.ensures some in (
+      after_accepted table.0 refl (unless_passed TapLength count.0 (unless_passed _ c.in_default.ensures refl)),
+      table.1,
     )

@@ -1,36 +1,16 @@
--- `hash_undo::ends_in_zeros`: the definition's four comparisons, each decided by a test of the code.
+-- `hash_undo::ends_in_zeros`: the test of each cell from the ninth on, which are the definition's four comparisons.
 -- Assumes nothing.
-use mathlib.Core.Path.{◌≡◌, sym, ◌∙◌}
-use mathlib.Core.Bool.{Bool, true, ◌&&◌}
-use borrow.Author.Tests.{eq-eqb, ne_eqb}
-use Rattle.hash_undo.specs.Unhash.{ends_in_zeros}
+use mathlib.Core.Path.{◌∙◌}
+use borrow.Author.Rules.{rules}
+use borrow.Author.Tests.{tests}
+use lib.Dec.{eqb}
+use Rattle.std.proofs.lemmas.Iterator.{YieldsList-from_slice}
+use Rattle.std.proofs.lemmas.Iterator.Search.{all_from_yields_List}
+use Rattle.hash_undo.proofs.Taps.{zeros_tested}
 use Rattle.hash_undo.proofs.ends_in_zeros.Goals as goal
 
--- where three comparisons hold, the last decides
-last-left : {a b c d : Bool} → a ≡ true → b ≡ true → c ≡ true → (a && b && c && d) ≡ d
-last-left e f g = rw (e, f, g)
-
-pub returns-then-input-ne0 : goal.returns-then-input-ne0
-unfolding ends_in_zeros
-returns-then-input-ne0 c = simp (ne_eqb _ _ c.if-input-ne0.true)
-
-pub returns-then-input-ne0-2 : goal.returns-then-input-ne0-2
-unfolding ends_in_zeros
-returns-then-input-ne0-2 c = simp (eq-eqb _ _ c.if-input-ne0.false, ne_eqb _ _ c.if-input-ne0-2.true)
-
-pub returns-then-input-ne0-3 : goal.returns-then-input-ne0-3
-unfolding ends_in_zeros
-returns-then-input-ne0-3 c =
-    simp (eq-eqb _ _ c.if-input-ne0.false, eq-eqb _ _ c.if-input-ne0-2.false, ne_eqb _ _ c.if-input-ne0-3.true)
-
-pub returns-then-input-ne0-4 : goal.returns-then-input-ne0-4
-unfolding ends_in_zeros
-returns-then-input-ne0-4 c =
-    sym (last-left (eq-eqb _ _ c.if-input-ne0.false) (eq-eqb _ _ c.if-input-ne0-2.false)
-    (eq-eqb _ _ c.if-input-ne0-3.false) ∙ ne_eqb _ _ c.if-input-ne0-4.true)
-
 pub returns : goal.returns
-unfolding ends_in_zeros
 returns c =
-    sym (last-left (eq-eqb _ _ c.if-input-ne0.false) (eq-eqb _ _ c.if-input-ne0-2.false)
-    (eq-eqb _ _ c.if-input-ne0-3.false) ∙ eq-eqb _ _ c.if-input-ne0-4.false)
+    all_from_yields_List (λ x. eqb x 0) _ _ _ c.all.ensures.ran (YieldsList-from_slice _ c.iter.ensures.rest)
+    (λ x b q k. search (rules, tests))
+    ∙ zeros_tested c.args.input (search rules)

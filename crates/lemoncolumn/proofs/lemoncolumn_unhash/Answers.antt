@@ -1,20 +1,15 @@
 -- `lemoncolumn::lemoncolumn_unhash`: Unhash, or what is left of it where the pair finds no room.
 -- Assumes nothing.
-use mathlib.Core.Path.{sym, ap, ◌∙◌}
+use mathlib.Core.Path.{ap, ◌∙◌}
 use Rattle.call_results.specs.Code.{answer_code}
-use Rattle.call_answers.proofs.Answers.{unhash_handed, unhash_refused, unhash_stopped}
+use Rattle.call_results.proofs.Handed.{handed_as}
+use Rattle.call_answers.proofs.Answers.{unhash_handed, unhash_stopped}
 use Rattle.lemoncolumn.proofs.lemoncolumn_unhash.Goals as goal
 
 pub returns-then-pair-ne-PAIR_ROOM : goal.returns-then-pair-ne-PAIR_ROOM
 returns-then-pair-ne-PAIR_ROOM c =
     unhash_stopped _ _ _ _ c.if-pair-ne-PAIR_ROOM.true (c.answer_code.ensures ∙ ap answer_code c.hash_no_room.ensures)
 
-pub returns-in-Accepted : goal.returns-in-Accepted
-returns-in-Accepted c =
-    unhash_handed _ _ _ c.if-pair-ne-PAIR_ROOM.false _ _ (sym c.unhash.ensures ∙ c.in-Accepted.is)
-    c.put_pair.ensures
-
-pub returns-in-Refused : goal.returns-in-Refused
-returns-in-Refused c =
-    unhash_refused _ _ _ c.if-pair-ne-PAIR_ROOM.false _ _ (sym c.unhash.ensures ∙ c.in-Refused.is)
-    c.refusal_code.ensures
+pub returns : goal.returns
+returns c =
+    unhash_handed _ _ _ c.if-pair-ne-PAIR_ROOM.false _ _ (handed_as _ _ _ _ _ c.unhash.ensures c.hand_over.ensures)

@@ -2,7 +2,7 @@
 -- words.
 -- Assumes nothing.
 use mathlib.Core.Path.{ap, ◌∙◌}
-use Rattle.call_results.specs.Code.{digest_code}
+use Rattle.call_results.specs.Code.{words_code}
 use Rattle.call_results.proofs.Handed.{handed_as}
 use Rattle.call_answers.proofs.Answers.{kept, list_kept, unpack_without, unpack_stopped, no_list_refuses}
 use Rattle.call_answers.proofs.Answers.{unpack_answer_lem, unpack_left}
@@ -12,7 +12,7 @@ pub returns-then-claim-ne4 : goal.returns-then-claim-ne4
 returns-then-claim-ne4 c =
     let without = c.if-claim-ne4.true in
     record {
-      four = unpack_stopped _ _ _ without _ _ (c.digest_code.ensures ∙ ap digest_code c.unpack.ensures.value);
+      four = unpack_stopped _ _ _ without _ _ (c.words_code.ensures ∙ ap words_code c.unpack.ensures.value);
       list =
           list_kept c.unpack.new.destination _ c.unpack.auto.destination
           ∙ kept _ _ (unpack_without _ _ _ without) (no_list_refuses _) _ _;

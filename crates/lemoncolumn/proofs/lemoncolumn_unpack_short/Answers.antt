@@ -2,7 +2,7 @@
 -- no list of taps having 0 words.
 -- Assumes nothing.
 use mathlib.Core.Path.{ap, ◌∙◌}
-use Rattle.call_results.specs.Code.{digest_code}
+use Rattle.call_results.specs.Code.{words_code}
 use Rattle.call_results.proofs.Handed.{handed_as}
 use Rattle.call_answers.proofs.Answers.{kept, list_kept, unpack_short_without, unpack_short_stopped}
 use Rattle.call_answers.proofs.Answers.{no_short_list_refuses}
@@ -12,7 +12,7 @@ use Rattle.lemoncolumn.proofs.lemoncolumn_unpack_short.Goals as goal
 pub returns-then-claim-ne4 : goal.returns-then-claim-ne4
 returns-then-claim-ne4 c =
     let without = c.if-claim-ne4.true in
-    let coded = c.digest_code.ensures ∙ ap digest_code c.unpack_short.ensures.value in
+    let coded = c.words_code.ensures ∙ ap words_code c.unpack_short.ensures.value in
     record {
       four = unpack_short_stopped _ _ _ without _ _ coded;
       list =

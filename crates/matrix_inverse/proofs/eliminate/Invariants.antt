@@ -1,13 +1,7 @@
 -- `matrix_inverse::eliminate`: the columns passed are those of the identity; a column without a pivot ends it.
 -- Assumes nothing.
-use Prim.Native.Nat.{◌-◌, ◌≤◌}
 use Rattle.matrix_inverse.specs.EliminationHelpers.{Reduces}
 use Rattle.matrix_inverse.proofs.eliminate.Given as goal
 
 abbrev pub invariant-loop-j : goal.invariant-loop-j
-invariant-loop-j l =
-    (l.j ≤ 12) × Reduces l.initial.w l.w l.j
-
-abbrev pub decreases-loop-j : goal.decreases-loop-j
-decreases-loop-j l =
-    12 - l.j
+invariant-loop-j l = Reduces l.initial.w l.w l.j

@@ -1,25 +1,23 @@
--- `matrix_inverse::invert`: the matrix with the identity beside it is eliminated. Then the right half is the inverse; or a
--- column without a pivot gives a non-zero column that the matrix takes to zeros.
+-- `matrix_inverse::invert`: the matrix with the identity beside it is eliminated. Then the right half is the inverse;
+-- or a column without a pivot gives a non-zero column that the matrix takes to zeros.
 -- Assumes nothing.
-use mathlib.Core.Path.{refl, sym, subst}
-use Rattle.matrix_inverse.specs.EliminationHelpers.{Working}
-use Rattle.matrix_inverse.proofs.Inversion.{start_working, without, found}
+use mathlib.Core.Path.{sym, subst}
+use Rattle.matrix.specs.Matrix.{IsInverse}
+use Rattle.matrix_inverse.specs.EliminationHelpers.{Working, Reduces, Stuck}
+use Rattle.matrix_inverse.proofs.Inversion.{start_working, no_pivot, inverted}
 use Rattle.matrix_inverse.proofs.invert.Goals as goal
 
 pub eliminate-requires : goal.eliminate-requires
 eliminate-requires c =
-    subst Working (sym c.start.ensures) (start_working _ c.requires.0 c.requires.1)
+    subst Working (sym c.start-w.ensures) (start_working _ c.requires.0 c.requires.1)
 
-pub returns-then-not-eliminate : goal.returns-then-not-eliminate
-returns-then-not-eliminate c =
-    let r = c.eliminate in (
-      refl,
-      without c.args.m.now _ _ r.result c.start.ensures r.ensures
-          c.if-not-eliminate.true,
-    )
+pub returns-in_err-eliminate : goal.returns-in_err-eliminate
+returns-in_err-eliminate c =
+    rw c.from_residual.ensures (no_pivot _ (subst Stuck c.start-w.ensures c.in_err-eliminate.ensures))
 
 pub returns : goal.returns
 returns c =
-    let r = c.eliminate in
-    found c.args.m.now _ _ _ r.result c.start.ensures r.ensures
-    c.if-not-eliminate.false c.store.ensures
+    let m = c.args.m.now in
+    let w = c.eliminate.new.w in
+    subst (IsInverse m) (sym c.right_half.ensures)
+    (inverted m w (subst (λ u. Reduces u w 12) c.start-w.ensures c.in_ok-eliminate.ensures))

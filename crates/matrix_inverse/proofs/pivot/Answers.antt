@@ -1,30 +1,15 @@
-use native.Mathlib.Omega.{arith}
-use Rattle.matrix_inverse.proofs.Steps.{pivot_more}
+-- `matrix_inverse::pivot`: what `find` says of a range, of the rows from j on.
+-- Assumes nothing.
+use mathlib.Core.Path.{◌≡◌}
+use Rattle.std.proofs.Common.{rules}
+use Rattle.std.proofs.lemmas.Iterator.{first_from_Range}
+use Rattle.matrix_inverse.specs.EliminationHelpers.{at}
+use Rattle.matrix_inverse.proofs.Steps.{pivot_first}
 use Rattle.matrix_inverse.proofs.pivot.Goals as goal
-
-pub loop-r-init : goal.loop-r-init
-loop-r-init c =
-    (omega arith, omega arith, λ i a b. absurd (omega arith))
-
-pub returns-then-w-r-ne0 : goal.returns-then-w-r-ne0
-returns-then-w-r-ne0 c =
-    record {
-      from = omega arith;
-      to = omega arith;
-      before = c.loop-r.invariant.2;
-      found = λ h. c.if-w-r-ne0.true;
-    }
-
-pub loop-r-preserved : goal.loop-r-preserved
-loop-r-preserved c =
-    let l = c.loop-r in
-    (omega arith, omega arith, pivot_more c.args.w.now c.args.j l.r l.invariant.2 c.if-w-r-ne0.false)
 
 pub returns : goal.returns
 returns c =
-    record {
-      from = omega arith;
-      to = omega arith;
-      before = λ i a b. c.loop-r.invariant.2 i a (omega arith);
-      found = λ h. absurd (omega arith);
-    }
+    let a = c.args in
+    pivot_first a.w.now a.j c.find.result
+    (first_from_Range _ _ _ c.find.result (λ i. at a.w.now i a.j ≡ 0 → ⊥) (λ i. at a.w.now i a.j ≡ 0)
+    c.find.ensures.ran (λ x q k. search rules) (λ x q k. search rules))

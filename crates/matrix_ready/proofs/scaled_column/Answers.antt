@@ -1,23 +1,11 @@
-use mathlib.Core.Path.{refl, sym, subst}
-use native.Mathlib.Omega.{arith}
-use Rattle.lists.proofs.Tab.{cell_tab, fills_none, fills_more, fills_all}
-use Rattle.field.specs.Field.{Canonical}
-use Rattle.field.proofs.Forms.{times_lt}
-use Rattle.field_words.specs.Words.{CanonicalTo}
+-- `matrix_ready::scaled_column`: each word is the product that its call gives.
+-- Assumes nothing.
+use Rattle.std.proofs.Common.{rules}
+use Rattle.lists.proofs.Made.{made_same}
 use Rattle.matrix_ready.proofs.scaled_column.Goals as goal
 
-pub loop-i-init : goal.loop-i-init
-loop-i-init c = fills_none refl
-
-pub times-requires : goal.times-requires
-times-requires c =
-    let p = c.requires in
-    (p.1 _ (omega arith), p.3, p.4)
-
-pub loop-i-preserved : goal.loop-i-preserved
-loop-i-preserved c = fills_more c.loop-i.invariant (omega arith) c.times.ensures.0
+pub invariant_of-result : goal.invariant_of-result
+invariant_of-result c = record { canonical = λ i h. let w = c.from_fn-words.ensures.items.at i 0 h in search rules }
 
 pub returns : goal.returns
-returns c =
-    let made = fills_all c.loop-i.invariant (omega arith) in
-    (made, subst (CanonicalTo 12) (sym made) (λ i h. subst Canonical (sym (cell_tab 12 _ i h)) (times_lt _ _)))
+returns c = made_same _ 12 _ _ (λ i y q h w. search rules) _ c.from_fn-words.ensures.items

@@ -1,41 +1,27 @@
-use mathlib.Core.Path.{◌≡◌, refl, sym, ap, ◌∙◌}
-use mathlib.Core.List.{List, [], ◌∷◌}
-use Prim.Native.Nat.{ℕ, ◌+◌}
-use native.Mathlib.Numerals.{add-one}
-use native.Mathlib.Omega.{arith}
-use lib.ListN.{set, length-set}
-use lib.Seq.{sets}
+-- `matrix_ready::store`: the part that is written anew is as if its words were stored one by one.
+-- Assumes nothing.
+use Rattle.std.proofs.Common.{rules, append_assoc, ◌≡◌, sym, ap, ◌∙◌, ℕ, ◌+◌, ◌≤◌, List, length, arith}
+use borrow.Rule.Slice.PartMut.{put_mid}
+use lib.Seq.{sets, sets-eq, drop-drop}
+use lib.ListN.{take, drop}
+use mathlib.Core.List.{◌++◌}
 use Rattle.lists.specs.Lists.{cell, tab}
-use Rattle.lists.proofs.Tab.{length_tab, tab_suc}
-use Rattle.lists.proofs.Stores.{sets_append}
+use Rattle.lists.proofs.Tab.{tab_cell}
 use Rattle.matrix_ready.proofs.store.Goals as goal
 
-none : (l : List ℕ) (k : ℕ) (f : ℕ → ℕ) → l ≡ sets l k (tab 0 f)
-unfolding tab
-none l k f = refl
-
-more : (l : List ℕ) (k i : ℕ) (f : ℕ → ℕ) → set (sets l k (tab i f)) (k + i) (f i) ≡ sets l k (tab (i + 1) f)
-more l k i f =
-    ap (λ n. sets (sets l k (tab i f)) (k + n) (f i ∷ [])) (sym (length_tab i f))
-    ∙ sets_append l k (tab i f) (f i ∷ [])
-    ∙ ap (sets l k) (sym (tab_suc i f) ∙ ap (λ n. tab n f) (sym (add-one i)))
-
-pub loop-i-init : goal.loop-i-init
-loop-i-init c = (omega arith, c.requires.0, none _ _ _)
-
-pub loop-i-preserved : goal.loop-i-preserved
-loop-i-preserved c =
-    let turn = c.loop-i in
-    let start = c.args in (
-      omega arith,
-      simp length-set turn.invariant.1,
-      ap (λ l. set l (start.start + turn.i) (cell start.words turn.i)) turn.invariant.2
-          ∙ more start.out.now start.start turn.i (cell start.words),
-    )
+written : (out words copied : List ℕ) (start k : ℕ) → copied ≡ words → length words ≡ 12 → k ≡ 12
+    → start + 12 ≤ length out → put_mid start k out copied ≡ sets out start (tab 12 (cell words))
+written out words copied start k c e p h =
+    ap (put_mid start k out) c
+    ∙ ap (λ rest. take start out ++ (words ++ rest)) (drop-drop k start out ∙ ap (λ n. drop n out) place)
+    ∙ sym (append_assoc (take start out) words _)
+    ∙ sym (sets-eq words out start (omega arith))
+    ∙ ap (sets out start) (sym (tab_cell 12 words e))
+  where
+    place : start + k ≡ start + length words
+    place = omega arith
 
 pub returns : goal.returns
 returns c =
-    let turn = c.loop-i in
-    let start = c.args in
-    let e : turn.i ≡ 12 = omega arith in
-    turn.invariant.2 ∙ ap (λ n. sets start.out.now start.start (tab n (cell start.words))) e
+    let e : length c.args.words ≡ 12 = search rules in
+    written _ c.args.words _ c.args.start _ c.copy_from_slice.ensures.after e (omega arith) (omega (arith, c.requires))

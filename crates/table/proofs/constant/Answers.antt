@@ -1,15 +1,14 @@
--- `table::constant`: K_n stands where the definition reads it, and a table's words are canonical.
+-- `table::constant`: K_n is the twelve words from where it stands.
 -- Assumes nothing.
-use mathlib.Core.Path.{sym}
-use Prim.Native.Nat.{◌+◌, ◌*◌}
+use mathlib.Core.Path.{◌≡◌}
+use Prim.Native.Nat.{◌+◌, ◌-◌, ◌*◌}
 use native.Mathlib.Omega.{arith}
-use Rattle.matrix.specs.Matrix.{matrix_words}
-use Rattle.table.proofs.Parts.{cell_constant}
+use Rattle.table.specs.Table.{constant}
 use Rattle.table.proofs.constant.Goals as goal
 
 pub returns : goal.returns
+unfolding constant
 returns c =
-    let a = c.args in (
-      sym (cell_constant a.table.now a.n a.column c.requires.2),
-      c.requires.0.canonical (2 * matrix_words + 12 * a.n + a.column) (omega arith),
-    )
+    let start = 288 + 12 * c.args.n in
+    let twelve : start + 12 - start ≡ 12 = omega arith in
+    rw twelve

@@ -2,9 +2,9 @@
 -- Assumes nothing.
 use mathlib.Core.Path.{◌≡◌}
 use mathlib.Core.Bool.{false}
-use Prim.Native.Nat.{ℕ, ◌*◌, ◌≤◌, ◌<◌}
+use Prim.Native.Nat.{ℕ, ◌*◌, ◌<◌}
 use Rattle.table.specs.Table.{unlike}
 use Rattle.table.proofs.first_unlike.Given as goal
 
 abbrev pub invariant-loop-row : goal.invariant-loop-row
-invariant-loop-row l = (l.row ≤ 12) × ((d : ℕ) → d < 12 * l.row → unlike l.table d ≡ false)
+invariant-loop-row l = (d : ℕ) → d < 12 * l.row → unlike l.table d ≡ false

@@ -1,4 +1,4 @@
--- `table::initial_constant`: cell by cell, `constant` at 0 is what the definition adds before round 0.
+-- `table::initial_constant`: K_0 is what the definition adds before round 0.
 -- Assumes nothing.
 use Rattle.table.specs.Table.{initial_constant}
 use Rattle.table.proofs.initial_constant.Goals as goal

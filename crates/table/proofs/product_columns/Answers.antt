@@ -8,36 +8,22 @@ use Rattle.table.proofs.product_columns.Goals as goal
 pub loop-k-init : goal.loop-k-init
 loop-k-init c = (omega arith, fills_none refl)
 
-pub column-requires : goal.column-requires
-column-requires c = (c.requires.1, omega arith)
-
-pub mix-x-requires : goal.mix-x-requires
-mix-x-requires c = (
-  c.requires.0,
-  column_canonical c.args.n.now _ c.loop-k.k c.requires.1 c.requires.2 (omega arith)
-      c.column.ensures,
-)
-
-pub loop-i-init : goal.loop-i-init
-loop-i-init c =
-    let start = c.args in
-    (omega arith, subst (SoFar start.ready.now start.n.now _) (omega arith) c.loop-k.invariant.1)
+pub invariant_of-column : goal.invariant_of-column
+invariant_of-column c =
+    record {
+      canonical = column_canonical c.args.n.now _ c.loop-k.k c.requires.1 c.requires.2 (omega arith) c.column.ensures;
+    }
 
 pub loop-i-preserved : goal.loop-i-preserved
 loop-i-preserved c =
     let start = c.args in
     let next =
     next_cell start.ready.now start.n.now _ _ c.loop-k.k c.loop-i.i (omega arith)
-    c.column.ensures c.mix-x.ensures.0 in (
+    c.column.ensures c.mix.ensures in (
       omega arith,
       subst (SoFar start.ready.now start.n.now _) (omega arith)
           (fills_more c.loop-i.invariant.1 (omega arith) next),
     )
-
-pub loop-k-preserved : goal.loop-k-preserved
-loop-k-preserved c =
-    let start = c.args in
-    (omega arith, subst (SoFar start.ready.now start.n.now _) (omega arith) c.loop-i.invariant.1)
 
 pub returns : goal.returns
 returns c = fills_all c.loop-k.invariant.1 (omega arith)

@@ -50,9 +50,6 @@ next T s first old new state round new₂ middle state₂ l em en es p =
     more : r + 1 ≡ first + (round + 1)
     more = omega arith
 
-pub plus_initial-state-requires : goal.plus_initial-state-requires
-plus_initial-state-requires c = (c.requires.0, c.requires.1)
-
 pub loop-round-init : goal.loop-round-init
 loop-round-init c =
     let a = c.args in
@@ -65,17 +62,13 @@ loop-round-init c =
       λ s e. record {
         at = e;
         rows = sym
-            (ap (λ n. with_rows (λ i. middle_state a.table.now s (i - r)) r n d) z ∙ rows_none _ r d);
+            (ap (λ n. with_rows (λ i. middle_state a.ready.table.now s (i - r)) r n d) z ∙ rows_none _ r d);
       },
     )
 
-pub first_step-middle-requires : goal.first_step-middle-requires
-first_step-middle-requires c =
-    (c.requires.0, omega arith, c.loop-round.invariant.1, c.requires.4)
-
 pub second_step-next-requires : goal.second_step-next-requires
 second_step-next-requires c =
-    (c.requires.0, omega arith, canonical_state c.first_step-middle.ensures (first_step_state _ _ _), c.requires.4)
+    (omega arith, canonical_state c.first_step-middle.ensures (first_step_state _ _ _))
 
 pub loop-round-preserved : goal.loop-round-preserved
 loop-round-preserved c =
@@ -84,19 +77,16 @@ loop-round-preserved c =
       omega arith,
       canonical_state c.second_step-next.ensures (second_step_state _ _ _),
       c.write_row.auto.destination ∙ loop.invariant.2,
-      λ s e. next start.table.now s start.row.0 start.destination.now loop.destination loop.state
-          loop.round _ _ _ (omega (arith, c.requires.3)) c.first_step-middle.ensures c.write_row.ensures
+      λ s e. next start.ready.table.now s start.row.0 start.destination.now loop.destination loop.state
+          loop.round _ _ _ (omega (arith, c.requires.2)) c.first_step-middle.ensures c.write_row.ensures
           c.second_step-next.ensures (loop.invariant.3 s e),
     )
-
-pub shape_of-destination : goal.shape_of-destination
-shape_of-destination c = c.loop-round.invariant.2
 
 pub returns : goal.returns
 unfolding final_state
 returns c =
     let start = c.args in
-    let T = start.table.now in
+    let T = start.ready.table.now in
     let first = start.row.0 in
     let e : c.loop-round.round ≡ 10 = omega arith in
     let passed = c.loop-round.invariant.3 start.input c.plus_initial-state.ensures in (

@@ -18,7 +18,5 @@ pub record Passed (T s : List ℕ) (first : ℕ) (old new state : List ℕ) (rou
 abbrev pub invariant-loop-round : goal.invariant-loop-round
 invariant-loop-round l =
     (l.round ≤ 10) × CanonicalTo 12 l.state × (length l.destination ≡ length l.initial.destination)
-    × ((s : List ℕ) → l.initial.state ≡ state_at l.table s 0 → Passed l.table s l.first l.initial.destination l.destination l.state l.round)
-
-abbrev pub decreases-loop-round : goal.decreases-loop-round
-decreases-loop-round l = 10 - l.round
+    × ((s : List ℕ) → l.initial.state ≡ state_at l.ready.table.now s 0
+    → Passed l.ready.table.now s l.first l.initial.destination l.destination l.state l.round)

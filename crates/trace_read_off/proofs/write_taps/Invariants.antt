@@ -2,7 +2,7 @@
 -- them all are.
 -- Assumes nothing.
 use mathlib.Core.Path.{◌≡◌}
-use Prim.Native.Nat.{◌*◌, ◌-◌, ◌≤◌}
+use Prim.Native.Nat.{◌*◌}
 use lib.ListN.{length}
 use Rattle.lists.proofs.Tab.{filled}
 use Rattle.check_constraints.specs.ReadOff.{read_word}
@@ -10,8 +10,5 @@ use Rattle.trace_read_off.proofs.write_taps.Given as goal
 
 abbrev pub invariant-loop-n : goal.invariant-loop-n
 invariant-loop-n l =
-    (l.n ≤ l.taps) × (length l.destination ≡ length l.initial.destination)
-    × (l.destination ≡ filled (4 * l.n) (read_word l.table l.trace) l.initial.destination)
-
-abbrev pub decreases-loop-n : goal.decreases-loop-n
-decreases-loop-n l = l.taps - l.n
+    (length l.destination ≡ length l.initial.destination)
+    × (l.destination ≡ filled (4 * l.n) (read_word l.back.table.now l.trace) l.initial.destination)

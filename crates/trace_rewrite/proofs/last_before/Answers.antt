@@ -1,6 +1,6 @@
--- `trace_rewrite::last_before`: the new tap itself, or the input of the hash that takes the tap in, as the trace holds it.
+-- `trace_rewrite::last_before`: the new tap itself, or the input of the hash that takes the tap in, as the trace holds
+-- it.
 -- Assumes nothing.
-use native.Mathlib.Omega.{arith}
 use Rattle.trace_rewrite.proofs.Rewriting.{new_start, held_start}
 use borrow.Author.Rules.{rules}
 use Rattle.trace_rewrite.proofs.last_before.Goals as goal
@@ -8,27 +8,11 @@ use Rattle.trace_rewrite.proofs.last_before.Goals as goal
 pub returns-then-tap-eq0 : goal.returns-then-tap-eq0
 returns-then-tap-eq0 c =
     let a = c.args in
-    new_start a.table.now a.trace.now a.tap.0 a.words c.if-tap-eq0.true (search rules)
+    new_start a.back.table.now a.trace.now a.tap.0 a.words c.if-tap-eq0.true (search rules)
     c.chain_start.ensures
-
-pub read_input-requires : goal.read_input-requires
-read_input-requires c =
-    let p = c.requires in
-    let h = p.2 in (
-      p.0,
-      p.1,
-      record {
-        k = h.k;
-        canonical = h.canonical;
-        size = h.size;
-        some = h.some;
-        few = h.few;
-        inside = omega (arith, h.inside, c.hash.ensures);
-      },
-    )
 
 pub returns : goal.returns
 returns c =
     let a = c.args in
-    held_start a.table.now a.trace.now a.tap.0 a.words c.if-tap-eq0.false _ c.hash.ensures
+    held_start a.back.table.now a.trace.now a.tap.0 a.words c.if-tap-eq0.false _ c.hash.ensures
     c.read_input.ensures

@@ -4,7 +4,4 @@ use Rattle.trace_rows.proofs.RowLaws.{back_made}
 use Rattle.trace_rows.proofs.back.Goals as goal
 
 pub returns : goal.returns
-returns c =
-    let a = c.args in
-    back_made a.table.now a.trace.now a.row.0 c.round_of.ensures.0 c.cells.ensures.0
-    c.back_step.ensures
+returns c = back_made _ _ c.args.row.0 c.round_of.ensures.0 c.cells.ensures.0 c.back_step.ensures

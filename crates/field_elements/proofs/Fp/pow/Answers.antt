@@ -8,10 +8,8 @@ use Rattle.field_elements.proofs.Fp.pow.Goals as goal
 
 pub returns : goal.returns
 returns c =
-    let a = c.args in (
-      c.leave.ensures.0
-          ∙ c.power_times.ensures.0
-          ∙ ap (λ x. mul 1 (power x a.exponent)) c.enter-v.ensures.1
-          ∙ one_times a.self.0 a.exponent (omega arith),
-      c.leave.ensures.1,
-    )
+    let a = c.args in
+    c.leave.ensures.0
+    ∙ c.power_times-w.ensures.0
+    ∙ ap (λ x. mul 1 (power x a.exponent)) c.enter-v.ensures.1
+    ∙ one_times a.self.word a.exponent (omega arith)
