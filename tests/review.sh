@@ -29,10 +29,9 @@ find crates/*/src -name '*.rt' | sort | while read -r file; do
 done >"$work/functions"
 [ -s "$work/functions" ] || wrong "no public function was found"
 # The functions of a trait that a type implements need no `pub`. So there are none, but what std writes for Clone, Copy,
-# PartialEq and Eq, and the two of this list: IMPL | GHOST MEMBER, which says all that the impl's function answers.
+# PartialEq and Eq, and the one of this list: IMPL | GHOST MEMBER, which says all that the impl's function answers.
 traits='
 impl From<Refusal> for Unclear {|    ghost from_gives = { λ r u. u ≡ Refused r };
-impl fmt::Display for Line {|    ghost output = { λ line. Some (text_of line.0) };
 '
 echo "$traits" | grep . >"$work/traits"
 grep -nE '^ *(unsafe )?impl[ <].* for |#\[derive\(' crates/*/src/*.rt |

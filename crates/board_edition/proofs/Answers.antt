@@ -1,6 +1,6 @@
 -- What the test of a file's edition says where it accepts, and what it is refused for.
 -- Assumes nothing.
-use mathlib.Core.Path.{◌≡◌, refl, sym, ◌∙◌}
+use mathlib.Core.Path.{◌≡◌, refl, sym, ap, ◌∙◌}
 use mathlib.Core.List.{List}
 use Prim.Native.Nat.{ℕ, ◌≤◌, ◌<◌}
 use native.Mathlib.Decide.{dec_lt, ℕ_discrete}
@@ -8,6 +8,7 @@ use native.Mathlib.Omega.{arith}
 use borrow.Author.Tests.{eq-eqb, ne_eqb, eqb-true, le-leb, lt-leb, leb-true}
 use lib.ListN.{length}
 use Rattle.std.specs.Prelude.{Ok, Err}
+use Rattle.refusals.specs.Answers.{Answer}
 use Rattle.refusals.specs.declared.Refusal.{Refusal}
 use Rattle.refusals.specs.declared.Refusal.TheVariants.{FileLength, WrongKind, SameEdition}
 use Rattle.refusals.proofs.Laws.{not_accepted, refused_same, passed}
@@ -21,6 +22,11 @@ not_full w n = omega (arith, n)
 
 pub not_short : (w : ℕ) → (mark_in w ≡ short_mark → ⊥) → mark_in w ≡ full_mark
 not_short w n = omega (arith, n)
+
+-- what the test by a mark answered is the definition's of the edition that has it
+pub tested : (file : List ℕ) {mark m : ℕ} {a b : Answer} → a ≡ edition_test file m → m ≡ mark → a ≡ b
+    → edition_test file mark ≡ b
+tested file e f q = sym (ap (edition_test file) f) ∙ sym e ∙ q
 
 -- ---- it accepts exactly the files with the mark
 pub accepted : (file : List ℕ) (mark : ℕ) → edition_test file mark ≡ Ok tt → HasMark file mark

@@ -22,7 +22,7 @@ use refusals::Refusal;
 fn test(file: &[u8], size: usize) -> Result<(), Refusal>
     ensures { result ≡ to_full_test file.now size }
 {
-    board_edition::test(file, Edition::Short)?;
+    board_edition::test(file, Edition::Short.mark())?;
     let word = Word::read(file, 0);
     board_short::test_count(word)?;
     let k = board_short::count_in(word);

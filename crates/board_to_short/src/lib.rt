@@ -43,7 +43,7 @@ fn test_elements(file: &[u8], count: usize, size: usize) -> Result<(), Refusal>
 fn test(file: &[u8], size: usize) -> Result<(), Refusal>
     ensures { result ≡ to_short_test file.now size }
 {
-    board_edition::test(file, Edition::Full)?;
+    board_edition::test(file, Edition::Full.mark())?;
     let word = Word::read(file, 0);
     board::test_count(word)?;
     let k = board::count_in(word);

@@ -1,4 +1,4 @@
--- The span of a row: no constraint below its start or from its end on applies there, however many batches there are and
+-- The span of a row: no constraint below its low or from its end on applies there, however many batches there are and
 -- wherever the claim stands, which is shown by the families that apply at the row's number within its batch.
 -- Assumes nothing.
 use mathlib.Core.Path.{◌≡◌, refl, sym, subst}
@@ -15,7 +15,7 @@ use Rattle.check_constraints.proofs.Families.{Applies, applies_cases, zero_colum
 use Rattle.check_constraints.proofs.Families.{output_kept, goes_on}
 use Rattle.check_constraints.proofs.Families.{ends, joins, claims}
 use Rattle.check_constraints.proofs.ForwardBack.{enters_at, enters_not_at}
-use Rattle.std.specs.declared.ops.Range.{Range}
+use Rattle.check_applies.specs.declared.Span.{Span}
 use Rattle.check_applies.specs.SpanHelpers.{span, span_of}
 
 -- ---- the constraints that can apply at row i stand from low on and before end
@@ -73,14 +73,14 @@ spans i low end a b d room = record {
 module _ (i : ℕ) where
   -- a span that has room, and is the definition's
   fitting : (low end : ℕ) → span low end ≡ span_of i → 1 ≤ low → low < end → end ≤ 53 → Room (within i) low end
-      → Spans i (span_of i).start (span_of i).end
-  fitting low end e a b d room = subst (λ s. Spans i s.start s.end) e (spans i low end a b d room)
+      → Spans i (span_of i).0 (span_of i).1
+  fitting low end e a b d room = subst (λ s. Spans i s.0 s.1) e (spans i low end a b d room)
 
-  all_span : Spans i (span_of i).start (span_of i).end
+  all_span : Spans i (span_of i).0 (span_of i).1
   all_span = go (ℕ_discrete (within i) 0) (entering i) refl (dec_le (within i) 29) (ℕ_discrete (within i) 30)
     where
       go : Dec (within i ≡ 0) → (n : Bool) → entering i ≡ n → Dec (within i ≤ 29) → Dec (within i ≡ 30)
-          → Spans i (span_of i).start (span_of i).end
+          → Spans i (span_of i).0 (span_of i).1
       go (yes z) n f m l =
           fitting 1 21 (rw (eq-eqb (within i) 0 z)) (omega arith) (omega arith) (omega arith) (omega arith)
       go (no z) true f m l =
@@ -102,5 +102,5 @@ module _ (i : ℕ) where
           fitting 45 53 e (omega arith) (omega arith) (omega arith)
           (omega (arith, mod-lt i {m = 32} (omega arith)))
 
-  pub spanned : {s : Range ℕ} → s ≡ span_of i → Spans i s.start s.end
-  spanned e = subst (λ s. Spans i s.start s.end) (sym e) all_span
+  pub spanned : {s : Span} → s ≡ span_of i → Spans i s.0 s.1
+  spanned e = subst (λ s. Spans i s.0 s.1) (sym e) all_span

@@ -8,7 +8,6 @@ ghost use Rattle.check_applies.specs.ComparedHelpers.{IsCompared};
 ghost use Rattle.check_applies.specs.SpanHelpers.{span_of};
 
 use numbers::{BATCH_ROWS, RowNumber};
-use std::ops::Range;
 
 // Rows 10 and 20 of a batch, after which a new tap enters.
 pub fn is_entering(row: RowNumber) -> bool
@@ -42,19 +41,19 @@ fn is_claim_row(c: usize, row: RowNumber) -> bool
 
 // The families of document 01's list, each by the number of its first constraint. It has one for each column that it
 // compares, up to the first of the next family.
-const ZEROS: usize = 1;
+pub const ZEROS: usize = 1;
 
-const NEW_ZEROS: usize = 5;
+pub const NEW_ZEROS: usize = 5;
 
-const STARTS: usize = 9;
+pub const STARTS: usize = 9;
 
-const GOES_ON: usize = 21;
+pub const GOES_ON: usize = 21;
 
-const ENDS: usize = 33;
+pub const ENDS: usize = 33;
 
-const JOINS: usize = 45;
+pub const JOINS: usize = 45;
 
-const CLAIMS: usize = 49;
+pub const CLAIMS: usize = 49;
 
 // One more than the last constraint.
 const END: usize = 53;
@@ -114,15 +113,19 @@ pub fn applies(k: usize, c: usize, row: RowNumber, constraint: usize) -> bool
     }
 }
 
-// From the lowest constraint that can apply at a row to the highest, so that a row of twelve tests takes twelve steps.
-pub fn span_of(row: RowNumber) -> Range<usize>
+// The lowest constraint that can apply at a row, and one more than the highest, so that a row of twelve tests takes
+// twelve steps.
+#[derive(Clone, Copy)]
+pub struct Span(pub usize, pub usize);
+
+pub fn span_of(row: RowNumber) -> Span
     ensures { result ≡ span_of row.0 }
 {
     match row.within().0 {
-        0 => ZEROS..GOES_ON,
-        _ if is_entering(row) => NEW_ZEROS..GOES_ON + 4,
-        1..=29 => GOES_ON..ENDS,
-        30 => ENDS..JOINS,
-        _ => JOINS..END,
+        0 => Span(ZEROS, GOES_ON),
+        _ if is_entering(row) => Span(NEW_ZEROS, GOES_ON + 4),
+        1..=29 => Span(GOES_ON, ENDS),
+        30 => Span(ENDS, JOINS),
+        _ => Span(JOINS, END),
     }
 }

@@ -70,13 +70,23 @@ placed k c i q (joins j l e r n) = record {
 }
 placed k c i q (claims j l e r) = omega arith
 
--- the row is there
-has_row : {t : List ℕ} {i : ℕ} → InTrace t i → HasRow t i
+-- the row is there, and so is the next of its batch
+pub has_row : {t : List ℕ} {i : ℕ} → InTrace t i → HasRow t i
 has_row h = record {
   canonical = h.canonical;
   inside = omega (arith, h.size, h.inside);
   small = omega (arith, h.few, h.inside);
 }
+
+pub has_next : {t : List ℕ} {i n : ℕ} → n ≡ i + 1 → InTrace t i → within i ≤ 29 → HasRow t n
+has_next e h w = record {
+  canonical = h.canonical;
+  inside = omega (arith, h.size, h.inside);
+  small = omega (arith, h.few, h.inside);
+}
+
+pub next_within : (i : ℕ) {n : ℕ} → n ≡ i + 1 → within i ≤ 29 → 1 ≤ within n
+next_within i e h = omega arith
 
 -- ---- forward and back where the code computes them, w being the row's number within its batch
 module _ (T t : List ℕ) (i : ℕ) {w : ℕ} (e : w ≡ within i) where

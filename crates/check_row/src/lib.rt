@@ -3,6 +3,7 @@
 #![tactic(auto)]
 
 ghost use Rattle.std.specs.Prelude.{◌≡◌};
+ghost use Rattle.table.specs.Table.{IsTable};
 ghost use Rattle.check_constraints.specs.Constraints.{holds};
 ghost use Rattle.check_row.specs.TestHelpers.{forward_of, back_after, InTrace, AppliesIn};
 
@@ -37,7 +38,7 @@ pub fn back_after(back: BackReady, trace: &[u64], row: RowNumber) -> [u64; WIDTH
 // Whether the constraint holds at the row, from forward of this row and back of the next, each computed once for all of
 // the row's tests.
 pub fn holds(
-    ready: Ready,
+    table: &[u64],
     trace: &[u64],
     claim: &[u64; 4],
     row: RowNumber,
@@ -45,16 +46,16 @@ pub fn holds(
     forward: &[u64; WIDTH],
     back: &[u64; WIDTH],
 ) -> bool
-    requires { AppliesIn trace.now row.0 constraint
-        × (forward.now ≡ forward_of ready.table.now trace.now row.0)
-        × (back.now ≡ back_after ready.table.now trace.now row.0) }
-    ensures { result ≡ holds ready.entry.table.now trace.now claim.now row.0 constraint }
+    requires { IsTable table.now × AppliesIn trace.now row.0 constraint
+        × (forward.now ≡ forward_of table.now trace.now row.0)
+        × (back.now ≡ back_after table.now trace.now row.0) }
+    ensures { result ≡ holds table.now trace.now claim.now row.0 constraint }
 {
     match Compared::of(constraint) {
         Compared::Zeros(j) => trace_rows::cell(trace, row, j) == 0,
-        Compared::NewZeros(j) => back[j] == table::initial_constant(ready.table)[j],
+        Compared::NewZeros(j) => back[j] == table::initial_constant(table)[j],
         Compared::Starts(j) => {
-            let initial = Fp::of(table::initial_constant(ready.table)[j]);
+            let initial = Fp::of(table::initial_constant(table)[j]);
             let sum = Fp::of(trace_rows::cell(trace, row, j)).add(initial);
             sum.word == back[j]
         }

@@ -7,14 +7,14 @@ use Prim.Native.Nat.{ℕ, ◌*◌, ◌^◌, ◌≤◌, ◌<◌}
 use native.Mathlib.Omega.{arith}
 use lib.ListN.{length}
 use Rattle.std.specs.Prelude.{Result, Ok, Err}
-use Rattle.field_words.specs.Words.{AllCanonical}
+use Rattle.field_words.specs.Words.{AllCanonical, first_bad, canonical_words}
 use Rattle.field_words.proofs.Laws.{good_test, test_good}
 use Rattle.numbers.specs.Numbers.{IsPermitted, most_batches, trace_word_batches}
 use Rattle.numbers.proofs.Laws.{trace_length_sound, trace_length_complete}
 use Rattle.refusals.specs.declared.Refusal.{Refusal}
-use Rattle.refusals.specs.declared.Refusal.TheVariants.{ClaimBatches}
-use Rattle.refusals.specs.Answers.{Answer, with_value}
-use Rattle.refusals.proofs.Laws.{passed, both_accepted}
+use Rattle.refusals.specs.declared.Refusal.TheVariants.{ClaimWord, TraceWord, ClaimBatches}
+use Rattle.refusals.specs.Answers.{Answer, unless, with_value}
+use Rattle.refusals.proofs.Laws.{passed, both_accepted, one_test_refused, one_test_passed}
 use Rattle.table.specs.Table.{IsTable, table_test}
 use Rattle.table.proofs.Theorems.{test_sound, test_complete}
 use Rattle.check_constraints.specs.Constraints.{constraint_test}
@@ -95,12 +95,41 @@ module _ (T t claim : List ℕ) (c : ℕ) where
 
 -- ---- what a function learns from the tests that it passes, one after the other
 
+-- what is left to be tested from 10 on
+abbrev pub from_words : List ℕ → List ℕ → List ℕ → ℕ → ℕ → Answer
+from_words T t claim c k = unless (canonical_words t) (TraceWord (first_bad t)) (constraint_test T t claim c k)
+
 -- a is what the opening tests answered; and k, which the trace's length tells, is few enough for the walk
 pub opened_by : (T t : List ℕ) (c : ℕ) {a : Answer} → a ≡ opening_test T t c → a ≡ Ok tt
     → Opened T t c (trace_word_batches (length t)) × (trace_word_batches (length t) < 2 ^ 32)
 opened_by T t c e q =
     let o = opened T t c (sym e ∙ q) in
     (o, omega (arith, o.permitted.high))
+
+-- a is what the test of the claim's words answered
+module _ (T t claim : List ℕ) (c k : ℕ) {o a : Answer}
+    (e : a ≡ unless (canonical_words claim) (ClaimWord (first_bad claim)) (Ok tt)) where
+  pub claim_refused : {r : Refusal} → a ≡ Err r → o ≡ Err r → o ≡ trace_test T t claim c k
+  unfolding trace_test
+  claim_refused q p =
+      one_test_refused (canonical_words claim) (ClaimWord (first_bad claim)) e (from_words T t claim c k) q p
+
+  pub claim_passed : a ≡ Ok tt → o ≡ from_words T t claim c k → o ≡ trace_test T t claim c k
+  unfolding trace_test
+  claim_passed q p = one_test_passed (canonical_words claim) (ClaimWord (first_bad claim)) e q p
+
+-- and what that of the trace's words did
+module _ (T t claim : List ℕ) (c k : ℕ) {o a : Answer}
+    (e : a ≡ unless (canonical_words t) (TraceWord (first_bad t)) (Ok tt)) where
+  pub words_refused : {r : Refusal} → a ≡ Err r → o ≡ Err r → o ≡ from_words T t claim c k
+  words_refused q p = one_test_refused (canonical_words t) (TraceWord (first_bad t)) e _ q p
+
+  pub words_passed : a ≡ Ok tt → o ≡ constraint_test T t claim c k → o ≡ from_words T t claim c k
+  words_passed q p = one_test_passed (canonical_words t) (TraceWord (first_bad t)) e q p
+
+pub canonical_words_lem : (t : List ℕ) {a : Answer} → a ≡ unless (canonical_words t) (TraceWord (first_bad t)) (Ok tt)
+    → a ≡ Ok tt → AllCanonical t
+canonical_words_lem t e q = good_test t (passed (canonical_words t) (TraceWord (first_bad t)) (Ok tt) (sym e ∙ q)).0
 
 -- what the last tests answered is the answer of all, where those before leave it to them
 pub walked : (n : ℕ) {o : Result ℕ Refusal} (last : Answer) {all : Answer} → o ≡ with_value last n → last ≡ all

@@ -4,7 +4,7 @@
 ghost use Rattle.std.specs.Prelude.{◌≡◌, ◌≤◌, ◌<◌, ◌^◌, true, false, length, MatchResult};
 ghost use Rattle.field_words.specs.Words.{canonical_words, first_bad};
 ghost use Rattle.numbers.specs.Numbers.{trace_words};
-ghost use Rattle.refusals.specs.Answers.{with_value};
+ghost use Rattle.refusals.specs.Answers.{unless, with_value};
 ghost use Rattle.matrix_ready.specs.MixingHelpers.{ready_words};
 ghost use Rattle.table.specs.ReadyHelpers.{ready_left};
 ghost use Rattle.check_constraints.specs.Constraints.{tests};
@@ -38,9 +38,8 @@ pub fn test_opening(
     Ok(())
 }
 
-// 9, 10 or 6: words are canonical, or refused at the first that is not. It is a function of its own, since Edit has 6
-// between 10 and the walk.
-pub fn test_words<F: FnOnce(usize) -> Refusal>(words: &[u64], refusal: F) -> Result<(), Refusal>
+// Words are canonical, or refused at the first that is not.
+pub fn test_canonical<F: FnOnce(usize) -> Refusal>(words: &[u64], refusal: F) -> Result<(), Refusal>
     requires { F.IsAlwaysCallable refusal }
     ensures { MatchResult result (λ _. canonical_words words.now ≡ true)
         (λ r. (canonical_words words.now ≡ false) × F.post refusal (first_bad words.now) r) }
@@ -49,6 +48,24 @@ pub fn test_words<F: FnOnce(usize) -> Refusal>(words: &[u64], refusal: F) -> Res
         None => Ok(()),
         Some(bad) => Err(refusal(bad)),
     }
+}
+
+// 9 and 10 are functions of their own, since Edit has 6 between them and the walk.
+
+// 9: the words of the claim.
+pub fn test_claim(claim: &[u64]) -> Result<(), Refusal>
+    ensures { result ≡ unless (canonical_words claim.now)
+        (Refusal.ClaimWord (first_bad claim.now)) (Ok tt) }
+{
+    test_canonical(claim, Refusal::ClaimWord)
+}
+
+// 10: the words of the trace.
+pub fn test_words(trace: &[u64]) -> Result<(), Refusal>
+    ensures { result ≡ unless (canonical_words trace.now)
+        (Refusal.TraceWord (first_bad trace.now)) (Ok tt) }
+{
+    test_canonical(trace, Refusal::TraceWord)
 }
 
 // 9; 10; 11: how Check and Read-off end.
@@ -63,8 +80,8 @@ pub fn test_trace(
     ensures { result ≡ with_value (trace_test steps.entry.ready.table.now trace.now claim.now c k)
         (length (tests k c)) }
 {
-    test_words(claim, Refusal::ClaimWord)?;
-    test_words(trace, Refusal::TraceWord)?;
+    test_claim(claim)?;
+    test_words(trace)?;
     check_walk::walk_tests(steps, trace, claim, c, k)
 }
 

@@ -23,6 +23,7 @@ pub fn walk_tests(
     ensures { result ≡ with_value (constraint_test steps.entry.ready.table.now trace.now claim.now c k)
         (length (tests k c)) }
 {
+    let table = steps.ready.table;
     let rows = BATCH_ROWS * k;
     let mut tests: usize = 0;
     let mut i: usize = 0;
@@ -33,10 +34,11 @@ pub fn walk_tests(
         let row = RowNumber(i);
         let forward = check_row::forward_of(steps.ready, trace, row);
         let back = check_row::back_after(steps.back, trace, row);
-        for constraint in check_applies::span_of(row) {
+        let span = check_applies::span_of(row);
+        for constraint in span.0..span.1 {
             if check_applies::applies(k, c, row, constraint) {
                 tests += 1;
-                if !check_row::holds(steps.ready, trace, claim, row, constraint, &forward, &back) {
+                if !check_row::holds(table, trace, claim, row, constraint, &forward, &back) {
                     break 'walk Err(Refusal::Constraint {
                         row,
                         constraint,

@@ -5,10 +5,10 @@
 
 ghost use Rattle.std.specs.Prelude.{◌≡◌, ◌-◌, ◌<◌, ◌≤◌, IfOk, length, take, drop};
 ghost use Rattle.std.specs.Io.KnownBytes.{Consumes, IsAtEnd, ReadConsumes};
+ghost use Rattle.clear.specs.Reading.{ended_by};
 
-use clear_line::Line;
 use std::io;
-use std::io::Read;
+use std::io::{Read, Write};
 
 // One call of `read`, into `buf` from `done` on: what was read before is kept, and no byte of the input is lost.
 fn read_on<R: Read>(input: &mut R, buf: &mut [u8], done: usize) -> io::Result<usize>
@@ -18,6 +18,16 @@ fn read_on<R: Read>(input: &mut R, buf: &mut [u8], done: usize) -> io::Result<us
     ensures bytes { ReadConsumes (R.remaining input.old) (R.remaining input.new) result (drop done buf.new) }
 {
     input.read(&mut buf[done..])
+}
+
+// What the input is where a call brought no byte: `read` answers 0 at the end, and an error where it failed.
+fn ended(got: io::Result<usize>, done: usize) -> io::Result<usize>
+    ensures { result ≡ ended_by got done }
+{
+    match got {
+        Ok(_) => Ok(done),
+        Err(error) => Err(error),
+    }
 }
 
 // Reads until the input ends, `buf` is full or a call fails. The number of bytes read: all that the input still had, or
@@ -30,9 +40,9 @@ fn read_all<R: Read>(input: &mut R, buf: &mut [u8]) -> io::Result<usize>
 {
     let mut done = 0;
     while done < buf.len() {
-        match read_on(input, buf, done)? {
-            0 => break,
-            more => done += more,
+        match read_on(input, buf, done) {
+            Ok(more) if 0 < more => done += more,
+            got => return ended(got, done),
         }
     }
     Ok(done)
@@ -50,8 +60,10 @@ fn main(rt: HostRuntime) {
         complain(&rt, "clear: standard input cannot be read");
         return;
     };
-    let line = Line(clear_answer::clear(&bytes[..read]));
-    if print!(rt; "{line}").is_err() {
+    let answer = clear_answer::clear(&bytes[..read]);
+    let mut line = [0u8; 80];
+    let length = clear_line::text(answer, &mut line);
+    if rt.stdout().write_all(&line[..length]).is_err() {
         complain(&rt, "clear: standard output cannot be written");
     }
 }

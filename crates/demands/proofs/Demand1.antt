@@ -1,6 +1,7 @@
--- Demand 1: each operation refuses with its own numbers only, each call's word says a full result or such a refusal,
--- and a refusal alters no lent buffer; a file for each operation, collected here. From how each can end (crate
--- `call_answers`, proofs/Endings), and that its word loses nothing of its answer (there, proofs/Theorems.antt).
+-- Demand 1: each operation refuses with its own numbers only and else hands over all of its words, each call's word
+-- says a full result or such a refusal, and a refusal alters no lent buffer; a file for each operation, collected here.
+-- From how each can end (crate `call_answers`, proofs/Endings), and that its word loses nothing of its answer (there,
+-- proofs/Theorems.antt).
 -- Assumes nothing.
 pub mod Numbers
 pub mod Words
@@ -33,20 +34,20 @@ use Rattle.demands.specs.Demand1.{unpack, pack_short, unpack_short, to_short, to
 use Rattle.demands.specs.Demand1.{prepare_refuses, hash_refuses, chain_refuses, build_refuses, check_refuses}
 use Rattle.demands.specs.Demand1.{read_off_refuses, edit_refuses, unhash_refuses, pack_refuses, unpack_refuses}
 use Rattle.demands.specs.Demand1.{pack_short_refuses, unpack_short_refuses, to_short_refuses, to_full_refuses}
-use Rattle.demands.specs.Demand1.{Told, Demand1}
+use Rattle.demands.specs.Demand1.{Told, WordCounts, Demand1}
 use Rattle.demands.proofs.Demand1.Numbers.{among, not_among}
 use Rattle.demands.proofs.Demand1.Prepare.{prepare_numbers, prepare_called}
-use Rattle.demands.proofs.Demand1.Hash.{hash_numbered, hash_called}
-use Rattle.demands.proofs.Demand1.Chain.{chain_numbered, chain_called}
-use Rattle.demands.proofs.Demand1.Build.{build_numbered, build_keeps, build_called}
+use Rattle.demands.proofs.Demand1.Hash.{hash_numbered, hash_words, hash_called}
+use Rattle.demands.proofs.Demand1.Chain.{chain_numbered, chain_words, chain_called}
+use Rattle.demands.proofs.Demand1.Build.{build_numbered, build_words, build_keeps, build_called}
 use Rattle.demands.proofs.Demand1.Check.{check_numbered, check_called}
 use Rattle.demands.proofs.Demand1.ReadOff.{read_off_numbered, read_off_keeps, read_off_called}
-use Rattle.demands.proofs.Demand1.Edit.{edit_numbered, edit_keeps, edit_called}
-use Rattle.demands.proofs.Demand1.Unhash.{unhash_numbered, unhash_called}
+use Rattle.demands.proofs.Demand1.Edit.{edit_numbered, edit_words, edit_keeps, edit_called}
+use Rattle.demands.proofs.Demand1.Unhash.{unhash_numbered, unhash_words, unhash_called}
 use Rattle.demands.proofs.Demand1.Pack.{pack_numbered, pack_keeps, pack_called}
-use Rattle.demands.proofs.Demand1.Unpack.{unpack_numbered, unpack_keeps, unpack_called}
+use Rattle.demands.proofs.Demand1.Unpack.{unpack_numbered, unpack_words, unpack_keeps, unpack_called}
 use Rattle.demands.proofs.Demand1.PackShort.{pack_short_numbered, pack_short_keeps, pack_short_called}
-use Rattle.demands.proofs.Demand1.UnpackShort.{unpack_short_numbered, unpack_short_keeps, unpack_short_called}
+use Rattle.demands.proofs.Demand1.UnpackShort.{unpack_short_numbered, unpack_short_words, unpack_short_keeps, unpack_short_called}
 use Rattle.demands.proofs.Demand1.ToShort.{to_short_numbered, to_short_keeps, to_short_called}
 use Rattle.demands.proofs.Demand1.ToFull.{to_full_numbered, to_full_keeps, to_full_called}
 
@@ -115,12 +116,25 @@ table = record {
   same_edition = refl;
 }
 
+-- ---- the words of an acceptance
+word_counts : WordCounts
+word_counts = record {
+  hash_words = hash_words;
+  chain_words = chain_words;
+  build_words = build_words;
+  edit_words = edit_words;
+  unhash_words = unhash_words;
+  unpack_words = unpack_words;
+  unpack_short_words = unpack_short_words;
+}
+
 -- ---- the demand
 pub demand_1 : Demand1
 demand_1 = record {
   table = table;
   tells_one = tells_one;
   tells_apart = tells_apart;
+  word_counts = word_counts;
   numbered = numbered;
   prepare_never_4 = never_4;
   only_prepare_3 = only_3;

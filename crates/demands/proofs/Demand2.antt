@@ -53,6 +53,7 @@ use Rattle.check_exact.proofs.ReadList.{row_of_trace}
 use Rattle.check_exact.proofs.Exactness.{accepts_built, reading_off_a_built_trace}
 use Rattle.demands.specs.Demand2.{Demand2}
 use Rattle.demands.proofs.Called.{built, unpacked}
+use Rattle.demands.proofs.Demand1.Unpack.{unpack_words}
 
 -- ---- hash and chain
 hashes : (T a b : List ℕ) → table_test T ≡ Ok tt → length a ≡ 4 → AllCanonical a → length b ≡ 4
@@ -190,19 +191,20 @@ pack_accepts w claim size four = (
       }),
 )
 
-unpack_accepts : (file : List ℕ) (size : ℕ) (d : List ℕ) → length d ≡ 4 → AllBytes file
+unpack_accepts : (file : List ℕ) (size : ℕ) (d : List ℕ) → AllBytes file
     → (unpack_answer file size ≡ Ok d)
-    ↔ ((taps : List ℕ) × (pack_test taps d (length file) ≡ Ok tt)
-    × (file ≡ packed taps d) × (size ≡ length taps))
-unpack_accepts file size d four bytes = (
+    ↔ ((length d ≡ 4) × ((taps : List ℕ) × (pack_test taps d (length file) ≡ Ok tt)
+    × (file ≡ packed taps d) × (size ≡ length taps)))
+unpack_accepts file size d bytes = (
   λ e.
       let p = pack_unpack file size d bytes e in
-      (taps_in file, p.0, sym p.1, (accepted_board file size d e).1 ∙ sym (taps_length file)),
+      let room = (accepted_board file size d e).1 ∙ sym (taps_length file) in
+      (unpack_words file size d e, (taps_in file, p.0, sym p.1, room)),
   λ h.
-      let taps = h.0 in
-      ap (λ f. unpack_answer f size) h.2
-      ∙ ap (unpack_answer (packed taps d)) h.3
-      ∙ (unpack_packed taps d (length file) four h.1).0,
+      let taps = h.1.0 in
+      ap (λ f. unpack_answer f size) h.1.2
+      ∙ ap (unpack_answer (packed taps d)) h.1.3
+      ∙ (unpack_packed taps d (length file) h.0 h.1.1).0,
 )
 
 -- ---- the calls

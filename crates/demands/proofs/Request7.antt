@@ -28,6 +28,7 @@ use Rattle.call_answers.proofs.Answers.{unpack_short_answer_lem, unpack_short_le
 use Rattle.call_answers.proofs.Theorems as bits
 use Rattle.demands.specs.Request7.{IsShortDay, Request7}
 use Rattle.demands.proofs.Called.{had_room}
+use Rattle.demands.proofs.Demand1.UnpackShort.{unpack_short_words}
 
 -- ---- there and back
 writes_exactly : (taps claim : List ℕ) (size : ℕ) → length claim ≡ 4
@@ -111,19 +112,19 @@ one_meaning taps claim others other m n c o e f same =
     (lists, claims)
 
 -- ---- every file
-accepts_exactly : (file : List ℕ) (size : ℕ) (d : List ℕ) → length d ≡ 4 → AllBytes file
+accepts_exactly : (file : List ℕ) (size : ℕ) (d : List ℕ) → AllBytes file
     → (unpack_short_answer file size ≡ Ok d)
-    ↔ ((taps : List ℕ) × (pack_short_test taps d (length file) ≡ Ok tt)
-    × (file ≡ packed_short taps d) × (size ≡ length taps))
-accepts_exactly file size d four bytes = (
+    ↔ ((length d ≡ 4) × ((taps : List ℕ) × (pack_short_test taps d (length file) ≡ Ok tt)
+    × (file ≡ packed_short taps d) × (size ≡ length taps)))
+accepts_exactly file size d bytes = (
   λ e.
       let p = short.pack_unpack file size d bytes e in
-      (short_taps_in file, p.0, sym p.1, short.accepted_room file size d e),
+      (unpack_short_words file size d e, (short_taps_in file, p.0, sym p.1, short.accepted_room file size d e)),
   λ h.
-      let taps = h.0 in
-      ap (λ f. unpack_short_answer f size) h.2
-      ∙ ap (unpack_short_answer (packed_short taps d)) h.3
-      ∙ (short.unpack_packed taps d (length file) four h.1).0,
+      let taps = h.1.0 in
+      ap (λ f. unpack_short_answer f size) h.1.2
+      ∙ ap (unpack_short_answer (packed_short taps d)) h.1.3
+      ∙ (short.unpack_packed taps d (length file) h.0 h.1.1).0,
 )
 
 refuses_exactly : (file : List ℕ) (size : ℕ) (r : Refusal)

@@ -29,6 +29,7 @@ use Rattle.board.specs.Board.{most_file_batches}
 use Rattle.board_short_words.specs.Short.{all_bytes_needed}
 use Rattle.board_short_read.specs.Reading.{short_at, next_word, three_test, short_test, first_word, shorts_at}
 use Rattle.board_short_read.specs.Reading.{shorts_test}
+use Rattle.board_short_read.proofs.Round.{length_shorts}
 use Rattle.board_short.specs.ShortBoard.{short_count_word, short_file_of, pack_short_test, packed_short}
 use Rattle.board_short.specs.ShortBoard.{pack_short_leaves}
 use Rattle.board_short.specs.ShortBoard.{short_count_in, mark_in, short_batches_in, short_claim_in, short_taps_in}
@@ -217,6 +218,12 @@ stored_writes taps claim old e =
     rw (was, longer (length taps) was) refl in
     (same ∙ e, ap (λ a. leaves a (packed_short taps claim) old) same)
 
+-- ---- a claim that was read had four words
+claim_words : (file : List ℕ) (size : ℕ) (d : List ℕ) → stored_unpack_answer file size ≡ Ok d → length d ≡ 4
+unfolding stored_unpack_answer short_claim_in
+claim_words file size d e =
+    ap length (sym (value_accepted (stored_unpack_test file size) _ d e).1) ∙ length_shorts file 1 4
+
 -- ---- the stored file, by computing
 pub stored : Stored
 unfolding ones tab each sum first first_bad word_at element_at all_bytes_needed next_word short_at three_test short_test first_word
@@ -230,4 +237,5 @@ stored = record {
     read = left (stored_unpack_test stored_file) 28 (stored_taps_in stored_file) stored_taps refl refl;
   };
   since_U9 = short_file stored_taps stored_claim stored_file refl refl refl;
+  claim_words = claim_words;
 }

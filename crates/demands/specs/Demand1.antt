@@ -148,6 +148,19 @@ pub data Refuses : Operation → Refusal → Type 0 where
   to_full_refuses : (file : List ℕ) (size : ℕ) (r : Refusal) → to_full_test file size ≡ Err r
       → Refuses to_full r
 
+-- ---- a full result: how many words come with an acceptance, the twelve cells of Hash's state, the eight words of
+-- Unhash's two taps, and the four of an output or a claim
+pub record WordCounts : Type 0 where
+  pub hash_words : (T words s : List ℕ) → hash_answer T words ≡ Ok s → length s ≡ width
+  pub chain_words : (T w d : List ℕ) → chain_answer T w ≡ Ok d → length d ≡ 4
+  pub build_words : (T w : List ℕ) (size : ℕ) (d : List ℕ) → build_answer T w size ≡ Ok d → length d ≡ 4
+  pub edit_words : (T t claim : List ℕ) (c n : ℕ) (new d : List ℕ) → edit_answer T t claim c n new ≡ Ok d
+      → length d ≡ 4
+  pub unhash_words : (T s p : List ℕ) → unhash_answer T s ≡ Ok p → length p ≡ 8
+  pub unpack_words : (file : List ℕ) (size : ℕ) (d : List ℕ) → unpack_answer file size ≡ Ok d → length d ≡ 4
+  pub unpack_short_words : (file : List ℕ) (size : ℕ) (d : List ℕ) → unpack_short_answer file size ≡ Ok d
+      → length d ≡ 4
+
 -- ---- a call from another language: what the word says that it returns
 
 -- `Is a`: the tests behind the call answer a. Then its word says acceptance, with the tests walked where the operation
@@ -247,6 +260,8 @@ pub record Demand1 : Type 0 where
   pub tells_one : (code : ℕ) (r s : Refusal) → Says code (told r) → Says code (told s) → r ≡ s
   pub tells_apart : (code tests : ℕ) (r : Refusal) → Says code (indexed 0 tests) → Says code (told r) → ⊥
   -- ---- the operations
+  -- each hands over all of its words where it accepts
+  pub word_counts : WordCounts
   -- each operation refuses with its own numbers only
   pub numbered : (o : Operation) (r : Refusal) → Refuses o r → OneOf (numbers o) r
   -- Prepare never returns 4, and only it returns 3

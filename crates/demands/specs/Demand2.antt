@@ -62,10 +62,10 @@ pub record Demand2 : Type 0 where
       → (pack_test (unpack_leaves file old) d (length room) ≡ Ok tt)
       × (pack_leaves (unpack_leaves file old) d room ≡ file)
   -- Unpack accepts exactly the files that Pack writes, into a destination as long as the taps
-  pub unpack_accepts : (file : List ℕ) (size : ℕ) (d : List ℕ) → length d ≡ 4 → AllBytes file
+  pub unpack_accepts : (file : List ℕ) (size : ℕ) (d : List ℕ) → AllBytes file
       → (unpack_answer file size ≡ Ok d)
-      ↔ ((taps : List ℕ) × (pack_test taps d (length file) ≡ Ok tt)
-      × (file ≡ packed taps d) × (size ≡ length taps))
+      ↔ ((length d ≡ 4) × ((taps : List ℕ) × (pack_test taps d (length file) ≡ Ok tt)
+      × (file ≡ packed taps d) × (size ≡ length taps)))
   -- ---- from another language, with `'` on what a buffer holds afterwards
   -- what Build's call wrote and returned Read-off's gives back as the taps
   pub call_reads_back : (T w rows rows' output output' room room' : List ℕ) (code : ℕ)

@@ -1,6 +1,6 @@
 -- The program (document 01, "The board file"): it reads a raw table and then a board file of at most 16 batches,
 -- prepares, unpacks, builds, checks against the claim, and prints one line. `Clears` is the contract of
--- `clear_answer::clear`, `text_of` what `clear_line::Line` prints; what an acceptance and each refusal mean stands
+-- `clear_answer::clear`, `text_of` what `clear_line::text` writes; what an acceptance and each refusal mean stands
 -- beside `Clears`.
 -- Assumes nothing.
 use Rattle.std.specs.Prelude.{◌≡◌, List, [], ◌∷◌, ◌++◌, ◌↔◌, ℕ, ◌+◌, ◌*◌, ◌-◌, ◌≤◌, ◌<◌, length, set, Ok, Err}

@@ -54,10 +54,10 @@ pub record Request7 : Type 0 where
   pub no_bit_lost : (x : ℕ) → x < 2 ^ 64 → spelled 0 (short_words x) ≡ x
   -- ---- every file: accepted, or refused for one fault
   -- accepted are exactly the files that the writer writes, into a destination as long as the taps
-  pub accepts_exactly : (file : List ℕ) (size : ℕ) (d : List ℕ) → length d ≡ 4 → AllBytes file
+  pub accepts_exactly : (file : List ℕ) (size : ℕ) (d : List ℕ) → AllBytes file
       → (unpack_short_answer file size ≡ Ok d)
-      ↔ ((taps : List ℕ) × (pack_short_test taps d (length file) ≡ Ok tt)
-      × (file ≡ packed_short taps d) × (size ≡ length taps))
+      ↔ ((length d ≡ 4) × ((taps : List ℕ) × (pack_short_test taps d (length file) ≡ Ok tt)
+      × (file ≡ packed_short taps d) × (size ≡ length taps)))
   -- refused is each for the fault that comes first, and for no other
   pub refuses_exactly : (file : List ℕ) (size : ℕ) (r : Refusal)
       → (unpack_short_answer file size ≡ Err r) ↔ FirstFault file size r

@@ -2,7 +2,7 @@
 -- 1024 batches. By this, short files that are already stored were written and read. The elements, the mark and the file
 -- of k batches are those of the definitions of now, which U9 left as they were. And one such file, byte by byte.
 -- Assumes nothing.
-use Rattle.std.specs.Prelude.{List, [], ◌∷◌, ◌++◌, ℕ, ◌/◌, ◌%◌, ◌^◌, eqb, leb, length, replicate, Result, Ok}
+use Rattle.std.specs.Prelude.{◌≡◌, List, [], ◌∷◌, ◌++◌, ℕ, ◌/◌, ◌%◌, ◌^◌, eqb, leb, length, replicate, Result, Ok}
 use Rattle.field_words.specs.Words.{first_bad, canonical_words}
 use Rattle.numbers.specs.Numbers.{tap_words, permitted, is_tap_length}
 use Rattle.refusals.specs.Answers.{Answer, unless, after, with_value, leaves}
@@ -92,3 +92,6 @@ pub record Stored : Type 0 where
   pub before_U9 : FileOf stored_pack_test stored_pack_leaves stored_unpack_answer stored_unpack_leaves stored_taps stored_claim
       stored_file
   pub since_U9 : ShortFile stored_taps stored_claim stored_file
+  -- and a claim that was read had four words
+  pub claim_words : (file : List ℕ) (size : ℕ) (d : List ℕ) → stored_unpack_answer file size ≡ Ok d
+      → length d ≡ 4

@@ -93,6 +93,9 @@ module _ (word low high x : ℕ) (t : Term word low high x) where
       below a b z n h e l = omega arith
 
 -- ---- the word between the two terms of a step
+pub canonical_loose : (v : ℕ) → Canonical v → Loose v
+canonical_loose v h = omega arith
+
 pub loose_low : (y l : ℕ) → y ≤ 1729382343346488011 → Loose (y + P - l * 536870932)
 loose_low y l h = omega arith
 

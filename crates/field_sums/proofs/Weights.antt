@@ -28,7 +28,7 @@ raised_law s =
     ∙ scaled_by 54958401520256 (2 ^ 31) (cell s j) refl)
 
 -- the constants of `field_sums::weighted`
-abbrev weights : List ℕ
+abbrev pub weights : List ℕ
 weights =
     1753051999233102296
     ∷ 1521519387365323426

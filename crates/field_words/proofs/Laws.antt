@@ -1,18 +1,18 @@
 -- The first word that is not canonical: the scan for it, and that there is none exactly where all are canonical.
 -- Canonical lists joined are canonical.
 -- Assumes nothing.
-use mathlib.Core.Path.{◌≡◌, sym, ◌∙◌}
+use mathlib.Core.Path.{◌≡◌, sym, subst, ◌∙◌}
 use mathlib.Core.Bool.{true, false}
 use mathlib.Core.List.{List, [], ◌∷◌, ◌++◌}
 use Prim.Native.Nat.{ℕ, zero, suc, ◌≤◌, ◌<◌}
 use native.Mathlib.Omega.{arith}
 use borrow.Author.Tests.{le-leb, lt-leb, leb-false, leb-true, eq-eqb, ne_eqb, eqb-true, eqb-false}
 use lib.Dec.{leb}
-use lib.ListN.{length}
+use lib.ListN.{length, replicate, get_or-replicate}
 use Rattle.lists.specs.Lists.{cell}
 use Rattle.lists.proofs.First.{is_first, first_none, found_at}
 use Rattle.field.specs.Field.{P, Canonical}
-use Rattle.field_words.specs.Words.{AllCanonical, first_bad, IsFirstBad, canonical_words}
+use Rattle.field_words.specs.Words.{CanonicalTo, AllCanonical, first_bad, IsFirstBad, canonical_words}
 
 pub within : (s : List ℕ) → first_bad s ≤ length s
 unfolding first_bad
@@ -48,6 +48,10 @@ first_bad_lem s h = record { within = h; bad = λ c. omega (arith, c, bad_at s h
 
 pub only_first_bad : (s : List ℕ) (i : ℕ) → IsFirstBad s i → i ≡ first_bad s
 only_first_bad s i h = stops s i h.within h.before (omega (arith, h.bad))
+
+-- one canonical word n times
+pub same_canonical : (n v : ℕ) → Canonical v → CanonicalTo n (replicate n v)
+same_canonical n v c i h = subst Canonical (sym (get_or-replicate n i v 0 h)) c
 
 -- two lists of canonical words, one after the other
 pub append_canonical : (s t : List ℕ) → AllCanonical s → AllCanonical t → AllCanonical (s ++ t)

@@ -20,5 +20,10 @@ pub fn first_bad(s: &[u64]) -> Option<usize>
     ensures { MatchOption result (canonical_words s.now ≡ true)
         (λ i. (canonical_words s.now ≡ false) × (i ≡ first_bad s.now)) }
 {
-    s.iter().position(|word| !Fp::is_canonical(*word))
+    for (i, word) in s.iter().enumerate() {
+        if !Fp::is_canonical(*word) {
+            return Some(i);
+        }
+    }
+    None
 }

@@ -11,9 +11,12 @@ use Rattle.field.specs.Field.{P, Canonical, add, neg, mul, inverse}
 use Rattle.field.proofs.Power.{big}
 use Rattle.field.proofs.Fermat.{inverse_law}
 use Rattle.matrix.specs.Matrix.{identity}
-use Rattle.matrix.proofs.Linear.{identity_other, identity_lt}
+use Rattle.matrix.proofs.Linear.{identity_same, identity_other, identity_lt}
 use Rattle.matrix_inverse.specs.EliminationHelpers.{at, RowSet, scaled_row, added_row, Reduced, Reduces, Pivot, NoPivot}
 use Rattle.matrix_inverse.proofs.Rows.{row_other, row_working, added_lt, scaled_lt, added_keeps, scaled_keeps}
+
+pub reduces_none : (w : List ℕ) (j : ℕ) → Reduced w j → Reduces w w j
+reduces_none w j h = record { reduced = h; keeps = λ z q. q }
 
 pub reduces_trans : (u w v : List ℕ) (i j : ℕ) → Reduces u w i → Reduces w v j → Reduces u v j
 reduces_trans u w v i j g h = record { reduced = h.reduced; keeps = λ z q. g.keeps z (h.keeps z q) }
@@ -39,12 +42,23 @@ adds_none w r j c l d e h z =
     ∙ mod-eq_of_lt h
 
 -- ---- the pivot
+pub pivot_more : (w : List ℕ) (j r : ℕ) → ((i : ℕ) → j ≤ i → i < r → at w i j ≡ 0) → at w r j ≡ 0 → (i : ℕ) → j ≤ i
+    → i < r + 1 → at w i j ≡ 0
+pivot_more w j r h e i a b = go (ℕ_discrete i r)
+  where
+    go : Dec (i ≡ r) → at w i j ≡ 0
+    go (yes q) = ap (λ y. at w y j) q ∙ e
+    go (no q) = h i a (omega arith)
+
 pub pivot_first : (w : List ℕ) (j : ℕ) (r : Option ℕ)
     → MatchOption r (NoPivot w j)
     (λ i. (j ≤ i) × (i < 12) × (at w i j ≡ 0 → ⊥) × ((k : ℕ) → j ≤ k → k < i → at w k j ≡ 0))
     → MatchOption r (NoPivot w j) (λ i. Pivot w j i)
 pivot_first w j None h = h
 pivot_first w j (Some i) h = record { from = h.0; within = h.1; before = h.3; found = h.2 }
+
+pub lifted_same : (w : List ℕ) (j r : ℕ) → Reduced w j → Pivot w j r → j ≡ r → Reduces w w j × (at w j j ≡ 0 → ⊥)
+lifted_same w j r h p e = (reduces_none w j h, λ z. p.found (ap (λ y. at w y j) (sym e) ∙ z))
 
 pub lifted : (w v : List ℕ) (j r : ℕ) → j < 12 → Reduced w j → Pivot w j r → (j ≡ r → ⊥)
     → RowSet w v j 24 (added_row w j r 1) → Reduces w v j × (at v j j ≡ 0 → ⊥)
@@ -105,6 +119,9 @@ pub record Cleared (w v : List ℕ) (j i : ℕ) : Type 0 where
   pub one : at v j j ≡ 1
   pub zeros : (k : ℕ) → k < i → (k ≡ j → ⊥) → at v k j ≡ 0
 
+pub cleared_none : (w : List ℕ) (j : ℕ) → Reduced w j → at w j j ≡ 1 → Cleared w w j 0
+cleared_none w j h o = record { reduces = reduces_none w j h; one = o; zeros = λ k l. absurd (omega arith) }
+
 pub cleared_same : (w v : List ℕ) (j i : ℕ) → Cleared w v j i → i ≡ j → Cleared w v j (i + 1)
 cleared_same w v j i h e = record { reduces = h.reduces; one = h.one; zeros = λ k l ne. h.zeros k (lt k l ne) ne }
   where
@@ -153,3 +170,15 @@ cleared_more w v u j i hj hi h ne set =
         go : Dec (k ≡ i) → at u k j ≡ 0
         go (yes e) = ap (λ y. at u y j) e ∙ at_i
         go (no e) = row_other v u i 24 f set k j (omega arith) (omega arith) e ∙ h.zeros k (omega arith) kj
+
+pub cleared_all : (w v : List ℕ) (j : ℕ) → j < 12 → Cleared w v j 12 → Reduces w v (j + 1)
+cleared_all w v j hj h =
+    record { reduced = record { working = h.reduces.reduced.working; ident = id }; keeps = h.reduces.keeps }
+  where
+    id : (i l : ℕ) → i < 12 → l < j + 1 → at v i l ≡ identity i l
+    id i l hi hl = go (ℕ_discrete l j) (ℕ_discrete i j)
+      where
+        go : Dec (l ≡ j) → Dec (i ≡ j) → at v i l ≡ identity i l
+        go (no a) b = h.reduces.reduced.ident i l hi (omega arith)
+        go (yes a) (yes b) = ap₂ (at v) b a ∙ h.one ∙ sym (identity_same j) ∙ sym (ap₂ identity b a)
+        go (yes a) (no b) = ap (at v i) a ∙ h.zeros i hi b ∙ sym (identity_other i j b) ∙ sym (ap (identity i) a)

@@ -1,7 +1,7 @@
 -- The table test: the product of M and the stored inverse, the first cell that is unlike the identity, and the answer
 -- by cases.
 -- Assumes nothing.
-use Prim.Native.Nat.{ℕ, ◌+◌, ◌*◌, ◌-◌, ◌/◌, ◌%◌, ◌<◌}
+use Prim.Native.Nat.{ℕ, ◌+◌, ◌*◌, ◌-◌, ◌/◌, ◌%◌, ◌≤◌, ◌<◌}
 use mathlib.Core.Path.{◌≡◌, refl, sym, ap, ap₂, ◌∙◌, subst}
 use mathlib.Core.Bool.{Bool, true, false, not}
 use mathlib.Core.List.{List}
@@ -109,6 +109,10 @@ passes t b = sym (first_none 144 (unlike t) b)
 abbrev pub in_row : List ℕ → ℕ → ℕ → Bool
 in_row s i k = not (eqb (cell s (12 * k + i)) (choose (eqb i k) unit_square 0))
 
+pub unlike_within : (s : List ℕ) (i : ℕ) → unlike_in_row s i ≤ 12
+unfolding unlike_in_row
+unlike_within s i = (is_first 12 (in_row s i)).within
+
 module _ (t r s : List ℕ) (er : r ≡ ready_matrix t) (es : s ≡ tab 144 (by_columns r (inverse_of t))) (i : ℕ)
     (hi : i < 12) where
   row_cell : (k : ℕ) → k < 12 → in_row s i k ≡ unlike t (12 * i + k)
@@ -156,8 +160,10 @@ module _ (t r s : List ℕ) (er : r ≡ ready_matrix t) (es : s ≡ tab 144 (by_
             place : d ≡ 12 * i + (d - 12 * i)
             place = omega arith
 
-    pub row_stops : k < 12 → 12 * i + k ≡ first_unlike t
-    row_stops h = stops t (12 * i + k) (omega arith) passed (sym (row_cell k h) ∙ first_in.found h)
+    pub row_stops : (k ≡ 12 → ⊥) → 12 * i + k ≡ first_unlike t
+    row_stops n =
+        let h : k < 12 = omega (arith, first_in.within, n) in
+        stops t (12 * i + k) (omega arith) passed (sym (row_cell k h) ∙ first_in.found h)
 
     pub row_passes : k ≡ 12 → (d : ℕ) → d < 12 * (i + 1) → unlike t d ≡ false
     row_passes z d h = passed d (omega arith)

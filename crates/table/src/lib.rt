@@ -52,7 +52,7 @@ pub fn inverse(table: &[u64]) -> &[u64]
 // K_n.
 fn constant(table: &[u64], n: usize) -> &[u64]
     requires { IsTable table.now × (n < 21) }
-    ensures { result.now ≡ constant table.now n }
+    ensures { (result.now ≡ constant table.now n) × (length result.now ≡ width) × AllCanonical result.now }
 {
     let start = CONSTANTS + WIDTH * n;
     let end = start + WIDTH;
@@ -62,7 +62,7 @@ fn constant(table: &[u64], n: usize) -> &[u64]
 // K_0, which is added before round 0.
 pub fn initial_constant(table: &[u64]) -> &[u64]
     requires { IsTable table.now }
-    ensures { result.now ≡ initial_constant table.now }
+    ensures { (result.now ≡ initial_constant table.now) × (length result.now ≡ width) × AllCanonical result.now }
 {
     constant(table, 0)
 }
@@ -70,7 +70,8 @@ pub fn initial_constant(table: &[u64]) -> &[u64]
 // The constant that the first step of the round adds.
 pub fn first_step_constant(table: &[u64], round: usize) -> &[u64]
     requires { IsTable table.now × (round < 10) }
-    ensures { result.now ≡ first_step_constant table.now round }
+    ensures { (result.now ≡ first_step_constant table.now round) × (length result.now ≡ width)
+        × AllCanonical result.now }
 {
     constant(table, 2 * round + 1)
 }
@@ -78,7 +79,8 @@ pub fn first_step_constant(table: &[u64], round: usize) -> &[u64]
 // The constant that its second step adds.
 pub fn second_step_constant(table: &[u64], round: usize) -> &[u64]
     requires { IsTable table.now × (round < 10) }
-    ensures { result.now ≡ second_step_constant table.now round }
+    ensures { (result.now ≡ second_step_constant table.now round) × (length result.now ≡ width)
+        × AllCanonical result.now }
 {
     constant(table, 2 * round + 2)
 }

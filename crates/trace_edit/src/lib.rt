@@ -31,9 +31,9 @@ fn test_edit(
     if 3 * k < tap.0 {
         return Err(Refusal::NoSuchTap);
     }
-    check_trace::test_words(claim, Refusal::ClaimWord)?;
-    check_trace::test_words(trace, Refusal::TraceWord)?;
-    check_trace::test_words(words, Refusal::TapWord)?;
+    check_trace::test_claim(claim)?;
+    check_trace::test_words(trace)?;
+    check_trace::test_canonical(words, Refusal::TapWord)?;
     check_walk::walk_tests(steps, trace, claim, c, k)
 }
 

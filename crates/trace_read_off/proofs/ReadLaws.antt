@@ -20,6 +20,19 @@ use Rattle.check_constraints.specs.Constraints.{round, minus, back}
 use Rattle.numbers.specs.Numbers.{first_row}
 use Rattle.check_constraints.specs.ReadOff.{read_input, read_word, read_taps}
 use Rattle.check_constraints.proofs.OneRound.{back_step_state}
+use Rattle.trace_rows.specs.RowHelpers.{HasRow}
+use Rattle.trace_read_off.specs.TapHelpers.{HasTap}
+
+-- ---- the rows that are read are there
+pub input_row : {t : List ℕ} (h i : ℕ) → HasTap t (h + 1) → i ≤ 32 * (h / 3) + 31 → HasRow t i
+input_row h i p b = record {
+  canonical = p.canonical;
+  inside = omega (arith, p.size, p.inside);
+  small = omega (arith, p.few, p.inside);
+}
+
+pub first_row_lem : {t : List ℕ} {i : ℕ} → HasTap t i → HasRow t 0
+first_row_lem p = record { canonical = p.canonical; inside = omega (arith, p.size, p.some); small = omega arith }
 
 -- ---- the input of hash h
 module _ (T t : List ℕ) (h i : ℕ) where

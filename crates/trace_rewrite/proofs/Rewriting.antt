@@ -23,6 +23,7 @@ use Rattle.trace.proofs.TraceCells.{trace_row_state, length_trace, trace_canonic
 use Rattle.trace.proofs.WrittenRows.{length_rows, rows_ext, rows_join, rows_over, row_behind, rows_canonical}
 use Rattle.trace.proofs.WrittenHashes.{before_monotone, before_within, all_rows}
 use Rattle.check_constraints.specs.ReadOff.{read_input, read_word, read_taps}
+use Rattle.check_constraints.proofs.RowCells.{length_row}
 use Rattle.trace_read_off.specs.TapHelpers.{HasTap}
 use Rattle.trace_rows.specs.RowHelpers.{HasRow}
 use Rattle.check_exact.proofs.ReadList.{length_read, row_of_trace}
@@ -207,11 +208,12 @@ module _ (T t : List ℕ) (k n : ℕ) (new : List ℕ) (r : Rewritable T t k n n
           small = omega (arith, r.few);
         }
 
-    pub output_shown : (s : List ℕ) → 4 ≤ length s → s ≡ row u i
+    pub output_shown : (s : List ℕ) → s ≡ row u i
         → cell s 0 ∷ cell s 1 ∷ cell s 2 ∷ cell s 3 ∷ [] ≡ chain T (first_taps c v) c
-    output_shown s four q =
+    output_shown s q =
         let l : i ≡ 32 * c - 1 = omega arith in
-        four_cells s four
+        let twelve : length s ≡ 12 = ap length q ∙ length_row u i has_claim_row.inside in
+        four_cells s (omega (arith, twelve))
         ∙ ap (λ x. (take 4 x))
         (q ∙ ap (λ x. row x i) e ∙ row_of_trace T v k size_v canonical_v i (omega arith) ∙ ap (trace_row T v) l)
         ∙ (last_row_output T v c low ∙ sym (chain_first T v c))

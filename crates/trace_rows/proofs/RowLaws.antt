@@ -10,7 +10,7 @@ use lib.ListN.{length}
 use lib.Dec.{ltb}
 use borrow.Author.Tests.{lt-ltb, le-ltb}
 use Rattle.lists.specs.Lists.{choose, cell}
-use Rattle.lists.proofs.Tab.{Fills, filled, filled_before, filled_after, length_filled, tab_unique}
+use Rattle.lists.proofs.Tab.{filled, filled_before, filled_after, length_filled, tab_unique}
 use Rattle.field.specs.Field.{Canonical, add}
 use Rattle.field_words.specs.Words.{CanonicalTo}
 use Rattle.table.specs.Table.{initial_constant}
@@ -38,11 +38,11 @@ module _ (t : List ℕ) (i : ℕ) (h : HasRow t i) {s : List ℕ} (e : s ≡ row
   cells_read = (e, λ j l. (cell_read l).1)
 
 -- the loop's first four columns are the sums, the others as they were
-pub entering_filled : (s k : List ℕ) → length s ≡ 12 → (out : List ℕ) {m : ℕ} → m ≡ 4
-    → Fills 12 (λ j. add (cell s j) (cell k j)) s m out → out ≡ plus_first 4 s k
+pub entering_filled : (s k : List ℕ) → length s ≡ 12 → (out : List ℕ) (m : ℕ) → m ≡ 4
+    → out ≡ filled m (λ j. add (cell s j) (cell k j)) s → out ≡ plus_first 4 s k
 unfolding plus_first
-entering_filled s k size out q f =
-    f.so_far
+entering_filled s k size out m q f =
+    f
     ∙ ap (λ x. filled x sum s) q
     ∙ tab_unique 12 (filled 4 sum s) (λ j. choose (ltb j 4) (sum j) (cell s j))
     (length_filled 4 sum s (omega arith) ∙ size) (λ j l. same j (dec_lt j 4))

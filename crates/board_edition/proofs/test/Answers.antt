@@ -1,23 +1,14 @@
 -- `board_edition::test`: each return is the case of the definition that the tests before it left.
 -- Assumes nothing.
-use mathlib.Core.Path.{◌≡◌, refl, sym, ap, ◌∙◌}
+use mathlib.Core.Path.{◌≡◌, sym, ap, ◌∙◌}
 use Prim.Native.Nat.{ℕ, ◌/◌, ◌^◌}
 use borrow.Author.Tests.{eq-eqb, ne_eqb, le-leb, lt-leb}
-use denote.Enum.Declared.{tag_of}
 use Rattle.board_words.specs.Words.{payload_of}
 use Rattle.board_words.specs.declared.Kind.TheVariants.{Count}
 use Rattle.board_words.proofs.Words.{kind_other}
 use Rattle.board_short.specs.ShortBoard.{mark_in}
-use Rattle.board_edition.specs.Edition.{mark_of, edition_test}
-use Rattle.board_edition.specs.contracts.Edition.{the_type}
-use Rattle.board_edition.specs.declared.Edition.{Edition}
-use Rattle.board_edition.specs.declared.Edition.TheVariants.{Full, Short}
+use Rattle.board_edition.specs.Edition.{edition_test}
 use Rattle.board_edition.proofs.test.Goals as goal
-
--- the editions stand in the order of their marks
-in_order : (e : Edition) → tag_of the_type e ≡ mark_of e
-in_order Full = refl
-in_order Short = refl
 
 mark_is : {p w v : ℕ} → p ≡ payload_of w → w ≡ v → p / 2 ^ 29 ≡ mark_in v
 mark_is e f = ap (λ n. n / 2 ^ 29) (e ∙ ap payload_of f)
@@ -33,14 +24,14 @@ returns-then-ne c = rw (
   kind_other Count _ c.kind.ensures c.read-word.ensures c.ne.ensures c.if-ne.true,
 )
 
-pub returns-then-payload-edition : goal.returns-then-payload-edition
+pub returns-then-payload-mark : goal.returns-then-payload-mark
 unfolding edition_test
-returns-then-payload-edition c =
+returns-then-payload-mark c =
     let mark = mark_is c.payload.ensures c.read-word.ensures in
     rw (
       le-leb _ _ c.if-file-lt4.false,
       kind_other Count _ c.kind.ensures c.read-word.ensures c.ne.ensures c.if-ne.false,
-      ne_eqb _ _ (λ e. c.if-payload-edition.true (mark ∙ e ∙ sym (in_order c.args.edition))),
+      ne_eqb _ _ (λ e. c.if-payload-mark.true (mark ∙ e)),
     )
 
 pub returns : goal.returns
@@ -50,5 +41,5 @@ returns c =
     rw (
       le-leb _ _ c.if-file-lt4.false,
       kind_other Count _ c.kind.ensures c.read-word.ensures c.ne.ensures c.if-ne.false,
-      eq-eqb _ _ (sym mark ∙ c.if-payload-edition.false ∙ in_order c.args.edition),
+      eq-eqb _ _ (sym mark ∙ c.if-payload-mark.false),
     )

@@ -12,10 +12,11 @@ pub returns-in_err-test : goal.returns-in_err-test
 unfolding to_full_test
 returns-in_err-test c =
     let p = err_from_is_err_and c.from_residual.result c.from_residual.ensures.1 in
-    rw (p.1, p.2, sym c.test.ensures ∙ c.in_err-test.was)
+    rw (p.1, p.2, edition.tested c.args.file.now c.test.ensures c.mark.ensures c.in_err-test.was)
 
 pub read-word-requires : goal.read-word-requires
-read-word-requires c = (edition.accepted _ _ (sym c.test.ensures ∙ c.in_ok-test.was)).four
+read-word-requires c =
+    (edition.accepted _ _ (edition.tested c.args.file.now c.test.ensures c.mark.ensures c.in_ok-test.was)).four
 
 pub returns-in_err-test_count : goal.returns-in_err-test_count
 unfolding to_full_test
@@ -25,7 +26,7 @@ returns-in_err-test_count c =
     rw (
       p.1,
       p.2,
-      sym c.test.ensures ∙ c.in_ok-test.was,
+      edition.tested c.args.file.now c.test.ensures c.mark.ensures c.in_ok-test.was,
       word_tested c.args.file.now c.read-word.ensures c.test_count.ensures c.in_err-test_count.was,
     )
 
@@ -33,14 +34,15 @@ pub returns-then-k-gt-MOST_FILE_BATCHES : goal.returns-then-k-gt-MOST_FILE_BATCH
 unfolding to_full_test
 returns-then-k-gt-MOST_FILE_BATCHES c =
     rw (
-      sym c.test.ensures ∙ c.in_ok-test.was,
+      edition.tested c.args.file.now c.test.ensures c.mark.ensures c.in_ok-test.was,
       word_tested c.args.file.now c.read-word.ensures c.test_count.ensures c.in_ok-test_count.was,
       word_counts c.args.file.now c.read-word.ensures c.count_in-k.ensures,
       lt-leb _ _ c.if-k-gt-MOST_FILE_BATCHES.true,
     )
 
 pub test_all-requires : goal.test_all-requires
-test_all-requires c = (edition.accepted _ _ (sym c.test.ensures ∙ c.in_ok-test.was)).four
+test_all-requires c =
+    (edition.accepted _ _ (edition.tested c.args.file.now c.test.ensures c.mark.ensures c.in_ok-test.was)).four
 
 pub returns-in_err-test_all : goal.returns-in_err-test_all
 unfolding to_full_test
@@ -50,7 +52,7 @@ returns-in_err-test_all c =
     rw (
       p.1,
       p.2,
-      sym c.test.ensures ∙ c.in_ok-test.was,
+      edition.tested c.args.file.now c.test.ensures c.mark.ensures c.in_ok-test.was,
       word_tested c.args.file.now c.read-word.ensures c.test_count.ensures c.in_ok-test_count.was,
       word_counts c.args.file.now c.read-word.ensures c.count_in-k.ensures,
       le-leb _ _ c.if-k-gt-MOST_FILE_BATCHES.false,
@@ -61,7 +63,7 @@ pub returns-then-size-k : goal.returns-then-size-k
 unfolding to_full_test
 returns-then-size-k c =
     rw (
-      sym c.test.ensures ∙ c.in_ok-test.was,
+      edition.tested c.args.file.now c.test.ensures c.mark.ensures c.in_ok-test.was,
       word_tested c.args.file.now c.read-word.ensures c.test_count.ensures c.in_ok-test_count.was,
       word_counts c.args.file.now c.read-word.ensures c.count_in-k.ensures,
       le-leb _ _ c.if-k-gt-MOST_FILE_BATCHES.false,
@@ -73,7 +75,7 @@ pub returns : goal.returns
 unfolding to_full_test
 returns c =
     rw (
-      sym c.test.ensures ∙ c.in_ok-test.was,
+      edition.tested c.args.file.now c.test.ensures c.mark.ensures c.in_ok-test.was,
       word_tested c.args.file.now c.read-word.ensures c.test_count.ensures c.in_ok-test_count.was,
       word_counts c.args.file.now c.read-word.ensures c.count_in-k.ensures,
       le-leb _ _ c.if-k-gt-MOST_FILE_BATCHES.false,

@@ -1,6 +1,6 @@
 -- `board_to_short::test`: each return is the case of the definition that the tests before it left.
 -- Assumes nothing.
-use mathlib.Core.Path.{sym, ◌∙◌}
+use mathlib.Core.Path.{sym}
 use native.Mathlib.Omega.{arith}
 use borrow.Author.Tests.{eq-eqb, ne_eqb}
 use Rattle.std.proofs.lemmas.Result.{err_from_is_err_and}
@@ -14,10 +14,11 @@ pub returns-in_err-test : goal.returns-in_err-test
 unfolding to_short_test
 returns-in_err-test c =
     let p = err_from_is_err_and c.from_residual.result c.from_residual.ensures.1 in
-    rw (p.1, p.2, sym c.test.ensures ∙ c.in_err-test.was)
+    rw (p.1, p.2, edition.tested c.args.file.now c.test.ensures c.mark.ensures c.in_err-test.was)
 
 pub read-word-requires : goal.read-word-requires
-read-word-requires c = (edition.accepted _ _ (sym c.test.ensures ∙ c.in_ok-test.was)).four
+read-word-requires c =
+    (edition.accepted _ _ (edition.tested c.args.file.now c.test.ensures c.mark.ensures c.in_ok-test.was)).four
 
 pub returns-in_err-test_count : goal.returns-in_err-test_count
 unfolding to_short_test
@@ -27,7 +28,7 @@ returns-in_err-test_count c =
     rw (
       p.1,
       p.2,
-      sym c.test.ensures ∙ c.in_ok-test.was,
+      edition.tested c.args.file.now c.test.ensures c.mark.ensures c.in_ok-test.was,
       word_tested c.args.file.now c.read-word.ensures c.test_count.ensures c.in_err-test_count.was,
     )
 
@@ -35,7 +36,7 @@ pub returns-then-file-k : goal.returns-then-file-k
 unfolding to_short_test
 returns-then-file-k c =
     rw (
-      sym c.test.ensures ∙ c.in_ok-test.was,
+      edition.tested c.args.file.now c.test.ensures c.mark.ensures c.in_ok-test.was,
       word_tested c.args.file.now c.read-word.ensures c.test_count.ensures c.in_ok-test_count.was,
       word_counts c.args.file.now c.read-word.ensures c.count_in-k.ensures,
       ne_eqb _ _ c.if-file-k.true,
@@ -49,7 +50,7 @@ unfolding to_short_test
 returns c =
     let k = word_counts c.args.file.now c.read-word.ensures c.count_in-k.ensures in
     rw (
-      sym c.test.ensures ∙ c.in_ok-test.was,
+      edition.tested c.args.file.now c.test.ensures c.mark.ensures c.in_ok-test.was,
       word_tested c.args.file.now c.read-word.ensures c.test_count.ensures c.in_ok-test_count.was,
       sym (size_is c.args.file.now),
       k,

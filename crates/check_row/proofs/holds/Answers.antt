@@ -1,69 +1,61 @@
 -- Whether a constraint holds: for each family the two words that are compared are those of the definition (`Holding`).
 -- Assumes nothing.
-use mathlib.Core.Path.{◌≡◌, sym, subst, ap₂, ◌∙◌}
-use mathlib.Core.List.{List}
-use Prim.Native.Nat.{ℕ}
+use mathlib.Core.Path.{ap₂, ◌∙◌}
 use native.Mathlib.Omega.{arith}
 use Rattle.field.specs.Field.{add}
-use Rattle.table.specs.Table.{IsTable, initial_constant}
-use Rattle.hash.proofs.States.{IsState, state_cell, initial_state}
+use Rattle.hash.proofs.States.{cell_lt}
 use Rattle.check_row.proofs.Holding.{from_one, to_last, next_row, holds_zeros, holds_new_zeros, holds_starts}
 use Rattle.check_row.proofs.Holding.{holds_goes_on, holds_ends, holds_joins, holds_claims}
 use Rattle.check_row.proofs.holds.Goals as goal
 
--- K_0 is twelve canonical words
-initial : {T k : List ℕ} → IsTable T → k ≡ initial_constant T → IsState k
-initial {T} a e = subst IsState (sym e) (initial_state T a)
-
 pub of-requires : goal.of-requires
-of-requires c = (from_one c.requires.0, to_last c.requires.0)
+of-requires c = (from_one c.requires.1, to_last c.requires.1)
 
 pub bounds-initial_constant-j : goal.bounds-initial_constant-j
 bounds-initial_constant-j c =
-    omega (arith, (initial c.args.ready.accepted c.initial_constant.ensures).size)
+    omega (arith, c.initial_constant.ensures.1)
 
 pub bounds-initial_constant-j-in-Starts : goal.bounds-initial_constant-j-in-Starts
 bounds-initial_constant-j-in-Starts c =
-    omega (arith, (initial c.args.ready.accepted c.initial_constant-in-Starts.ensures).size)
+    omega (arith, c.initial_constant-in-Starts.ensures.1)
 
 pub of-initial-requires : goal.of-initial-requires
-of-initial-requires c =
-    state_cell (initial c.args.ready.accepted c.initial_constant-in-Starts.ensures) c.in-Starts.j
+of-initial-requires c = cell_lt _ c.initial_constant-in-Starts.ensures.2 c.in-Starts.j
 
 pub cell-requires-in-Ends : goal.cell-requires-in-Ends
-cell-requires-in-Ends c = (next_row c.requires.0 c.next.ensures (omega arith) (omega arith), omega arith)
+cell-requires-in-Ends c = (next_row c.requires.1 c.next.ensures (omega arith) (omega arith), omega arith)
 
 pub cell-requires-in-Joins-2 : goal.cell-requires-in-Joins-2
-cell-requires-in-Joins-2 c = (next_row c.requires.0 c.next-in-Joins.ensures (omega arith) (omega arith), omega arith)
+cell-requires-in-Joins-2 c = (next_row c.requires.1 c.next-in-Joins.ensures (omega arith) (omega arith), omega arith)
 
 pub returns-in-Zeros : goal.returns-in-Zeros
-returns-in-Zeros c = holds_zeros _ _ _ c.requires.0 c.in-Zeros.ensures c.cell.ensures.0
+returns-in-Zeros c = holds_zeros _ _ _ c.requires.1 c.in-Zeros.ensures c.cell.ensures.0
 
 pub returns-in-NewZeros : goal.returns-in-NewZeros
 returns-in-NewZeros c =
     let p = c.requires in
-    holds_new_zeros _ _ _ p.0 p.1 p.2 c.in-NewZeros.ensures c.initial_constant.ensures
+    holds_new_zeros _ _ _ p.1 p.2 p.3 c.in-NewZeros.ensures c.initial_constant.ensures.0
 
 pub returns-in-Starts : goal.returns-in-Starts
 returns-in-Starts c =
     let p = c.requires in
-    holds_starts _ _ _ p.0 p.1 p.2 c.in-Starts.ensures c.cell-in-Starts.ensures.0
-    c.initial_constant-in-Starts.ensures (c.add-sum.ensures ∙ ap₂ add c.of-in-Starts.ensures c.of-initial.ensures)
+    holds_starts _ _ _ p.1 p.2 p.3 c.in-Starts.ensures c.cell-in-Starts.ensures.0
+    c.initial_constant-in-Starts.ensures.0 (c.add-sum.ensures ∙ ap₂ add c.of-in-Starts.ensures c.of-initial.ensures)
 
 pub returns-in-GoesOn : goal.returns-in-GoesOn
 returns-in-GoesOn c =
     let p = c.requires in
-    holds_goes_on _ _ _ p.0 p.1 p.2 c.in-GoesOn.ensures
+    holds_goes_on _ _ _ p.1 p.2 p.3 c.in-GoesOn.ensures
 
 pub returns-in-Ends : goal.returns-in-Ends
 returns-in-Ends c =
     let p = c.requires in
-    holds_ends _ _ _ p.0 p.1 p.2 c.in-Ends.ensures c.next.ensures c.cell-in-Ends.ensures.0
+    holds_ends _ _ _ p.1 p.2 p.3 c.in-Ends.ensures c.next.ensures c.cell-in-Ends.ensures.0
 
 pub returns-in-Joins : goal.returns-in-Joins
 returns-in-Joins c =
-    holds_joins _ _ _ c.requires.0 c.in-Joins.ensures c.next-in-Joins.ensures c.cell-in-Joins.ensures.0
+    holds_joins _ _ _ c.requires.1 c.in-Joins.ensures c.next-in-Joins.ensures c.cell-in-Joins.ensures.0
     c.cell-in-Joins-2.ensures.0
 
 pub returns-in-Claims : goal.returns-in-Claims
-returns-in-Claims c = holds_claims _ _ _ c.requires.0 c.in-Claims.ensures c.cell-in-Claims.ensures.0
+returns-in-Claims c = holds_claims _ _ _ c.requires.1 c.in-Claims.ensures c.cell-in-Claims.ensures.0

@@ -1,23 +1,13 @@
 -- `check_steps::back_step`: the cells are the cubes of the stored inverse times the differences, as the back scale makes
 -- up for the divisions.
 -- Assumes nothing.
-use mathlib.Core.Path.{sym, subst}
-use native.Mathlib.Omega.{arith}
-use Rattle.hash.proofs.States.{IsState, first_constant_state}
 use Rattle.check_steps.proofs.Made.{back_is, undone_made}
 use Rattle.check_steps.proofs.back_step.Goals as goal
-
-pub minus-requires : goal.minus-requires
-minus-requires c =
-    let k =
-    subst IsState (sym c.first_step_constant.ensures)
-    (first_constant_state _ c.args.back.accepted _ (omega arith)) in
-    (c.requires.1, k.size, k.canonical)
 
 pub mix-requires : goal.mix-requires
 mix-requires c = back_is _ _ c.args.back.made
 
 pub returns : goal.returns
 returns c =
-    undone_made _ _ _ _ _ _ _ c.args.round c.args.back.made c.first_step_constant.ensures c.minus.ensures.0
+    undone_made _ _ _ _ _ _ _ c.args.round c.args.back.made c.first_step_constant.ensures.0 c.minus.ensures.0
     c.mix.ensures c.montgomery_cubes.ensures

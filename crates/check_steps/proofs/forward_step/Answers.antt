@@ -10,16 +10,11 @@ use lib.Seq.{get_or-take}
 use Rattle.lists.specs.Lists.{cell}
 use Rattle.lists.proofs.Tab.{filled, fills_none, fills_more}
 use Rattle.field.specs.Field.{Canonical, add}
-use Rattle.table.specs.Table.{IsTable, second_step_constant}
 use Rattle.table.proofs.ReadyLaws.{ready_is}
-use Rattle.hash.proofs.States.{IsState, state_cell, second_constant_state}
+use Rattle.hash.proofs.States.{cell_lt}
 use Rattle.check_steps.proofs.Made.{second_made}
 use Rattle.check_steps.proofs.forward_step.Invariants.{plus_constant}
 use Rattle.check_steps.proofs.forward_step.Goals as goal
-
--- the constant is twelve canonical words
-row : {T k : List ℕ} {r : ℕ} → IsTable T → r < 10 → k ≡ second_step_constant T r → IsState k
-row {T} {k} {r} a h e = subst IsState (sym e) (second_constant_state T a r h)
 
 -- a cell of its first words is its own
 cell_lent : (k : List ℕ) (n j : ℕ) → j < length (take n k) → cell (take n k) j ≡ cell k j
@@ -31,16 +26,15 @@ mix-mixed-requires c = ready_is _ _ c.args.ready.made
 pub slice_bounds-k-items-end : goal.slice_bounds-k-items-end
 slice_bounds-k-items-end c =
     let k = c.second_step_constant-constant in
-    let size = (row c.args.ready.accepted (omega arith) k.ensures).size in
-    omega (arith, length-take c.args.count k.result.now, size)
+    omega (arith, length-take c.args.count k.result.now, k.ensures.1)
 
 pub loop-j-init : goal.loop-j-init
 loop-j-init c = fills_none refl
 
 pub of-requires-in-loop-j : goal.of-requires-in-loop-j
 of-requires-in-loop-j c =
-    let k = row c.args.ready.accepted (omega arith) c.second_step_constant-constant.ensures in
-    subst Canonical (sym (cell_lent _ c.args.count c.loop-j.j (omega arith))) (state_cell k c.loop-j.j)
+    let k = c.second_step_constant-constant.ensures in
+    subst Canonical (sym (cell_lent _ c.args.count c.loop-j.j (omega arith))) (cell_lt _ k.2 c.loop-j.j)
 
 pub loop-j-preserved : goal.loop-j-preserved
 loop-j-preserved c =
@@ -49,15 +43,14 @@ loop-j-preserved c =
     fills_more c.loop-j.invariant (omega (arith, length-take c.args.count k.result.now))
     (c.add.ensures
     ∙ ap₂ add c.of.ensures
-    (c.of-in-loop-j.ensures ∙ cell_lent k.result.now c.args.count j (omega arith) ∙ ap (λ x. cell x j) k.ensures))
+    (c.of-in-loop-j.ensures ∙ cell_lent k.result.now c.args.count j (omega arith) ∙ ap (λ x. cell x j) k.ensures.0))
 
 pub returns : goal.returns
 returns c =
     let loop = c.loop-j in
     let a = c.args in
     let k = c.second_step_constant-constant in
-    let size = (row a.ready.accepted (omega arith) k.ensures).size in
-    let e : loop.j ≡ a.count = omega (arith, length-take a.count k.result.now, size) in
+    let e : loop.j ≡ a.count = omega (arith, length-take a.count k.result.now, k.ensures.1) in
     second_made _ _ _ _ _ _ _ a.count c.requires.2 a.ready.made c.montgomery_cubes.ensures c.mix-mixed.ensures
     (loop.invariant.so_far
     ∙ ap (λ n. filled n (plus_constant a.ready.table.now a.round c.mix-mixed.result.words) (replicate 12 0)) e)

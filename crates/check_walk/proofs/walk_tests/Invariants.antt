@@ -4,17 +4,19 @@
 -- Assumes nothing.
 use mathlib.Core.Path.{◌≡◌}
 use Prim.Native.Nat.{◌+◌, ◌-◌, ◌*◌, ◌≤◌, ◌<◌}
-use Rattle.check_applies.specs.SpanHelpers.{span_of}
 use Rattle.check_walk.proofs.WalkSteps.{answer, rows as from_row, constraints}
 use Rattle.check_walk.proofs.walk_tests.Given as goal
 
 abbrev pub invariant-loop-constraint : goal.invariant-loop-constraint
 invariant-loop-constraint l =
     let T = l.steps.ready.table.now in
-    let q = l.constraint-iterator.start in
-    let end = l.constraint-iterator.end in
-    (1 ≤ q) × (q ≤ 53) × (end ≤ 53) × (end ≡ (span_of l.i).end) × (l.tests < 52 * l.i + q)
+    let q = l.constraint in
+    let end = l.constraint-end in
+    (1 ≤ q) × (q ≤ end) × (end ≤ 53) × (l.tests < 52 * l.i + q)
     × (constraints T l.trace l.claim l.c l.k l.i q (l.rows - (l.i + 1)) l.tests ≡ answer T l.trace l.claim l.c l.k)
+
+abbrev pub decreases-loop-constraint : goal.decreases-loop-constraint
+decreases-loop-constraint l = l.constraint-end - l.constraint
 
 abbrev pub invariant-walk : goal.invariant-walk
 invariant-walk l =

@@ -1,6 +1,6 @@
 -- Demand 1 of Build.
 -- Assumes nothing.
-use mathlib.Core.Path.{◌≡◌, refl, ap, subst, ◌∙◌}
+use mathlib.Core.Path.{◌≡◌, refl, sym, ap, subst, ◌∙◌}
 use mathlib.Core.Bool.{◌&&◌}
 use mathlib.Core.List.{List}
 use Prim.Native.Nat.{ℕ, ◌*◌}
@@ -13,7 +13,7 @@ use Rattle.numbers.specs.Numbers.{most_batches, is_tap_length, tap_word_batches}
 use Rattle.refusals.specs.Answers.{leaves}
 use Rattle.refusals.specs.declared.Refusal.{Refusal}
 use Rattle.refusals.specs.declared.Refusal.TheVariants.{TapLength, DestinationLength}
-use Rattle.refusals.proofs.Laws.{passed, both_accepted, value_refused, AnswerEnds}
+use Rattle.refusals.proofs.Laws.{passed, both_accepted, value_accepted, value_refused, AnswerEnds}
 use Rattle.table.specs.Table.{table_test}
 use Rattle.hash.specs.Hash as rescue
 use Rattle.trace.specs.Trace.{trace}
@@ -24,6 +24,7 @@ use Rattle.call_answers.proofs.Answers.{build_room}
 use Rattle.call_answers.proofs.Theorems as bits
 use Rattle.demands.specs.Demand1.{build, numbers, call_numbers, OneOf, Answered, BuildResult}
 use Rattle.demands.proofs.Demand1.Numbers.{one_of, table_causes_lem, taps_causes}
+use Rattle.demands.proofs.Demand1.Chain.{chain_size}
 use Rattle.demands.proofs.Demand1.Words.{digest_says, output_new, output_old, kept_old}
 use Rattle.call_answers.proofs.Endings.Build.{build_ends, build_call_ends}
 
@@ -40,6 +41,12 @@ pub build_keeps : (T w old : List ℕ) (r : Refusal) → build_answer T w (lengt
     → build_leaves T w old ≡ old
 unfolding build_answer build_leaves
 build_keeps T w old r e = kept_old _ r (value_refused (build_test T w (length old)) _ r e) _ old
+
+pub build_words : (T w : List ℕ) (size : ℕ) (d : List ℕ) → build_answer T w size ≡ Ok d → length d ≡ 4
+unfolding build_answer
+build_words T w size d e =
+    let a = value_accepted (build_test T w size) _ d e in
+    ap length (sym a.1) ∙ chain_size T w (tap_word_batches (length w)) (build_inputs T w size a.0).permitted.low
 
 build_call_inputs : (T w : List ℕ) (rows size : ℕ) → build_call_test T w rows size ≡ Ok tt
     → BuildInputs T w rows (tap_word_batches (length w))

@@ -1,6 +1,6 @@
 -- Demand 1 of Chain.
 -- Assumes nothing.
-use mathlib.Core.Path.{◌≡◌, refl, subst, ◌∙◌}
+use mathlib.Core.Path.{◌≡◌, refl, sym, ap, subst, ◌∙◌}
 use mathlib.Core.List.{List}
 use Prim.Native.Nat.{ℕ, zero, suc, ◌*◌, ◌≤◌}
 use native.Mathlib.Omega.{arith}
@@ -11,7 +11,7 @@ use Rattle.std.specs.Prelude.{Ok, Err}
 use Rattle.numbers.specs.Numbers.{most_batches, is_tap_length, tap_word_batches}
 use Rattle.refusals.specs.declared.Refusal.{Refusal}
 use Rattle.refusals.specs.declared.Refusal.TheVariants.{TapLength, DestinationLength}
-use Rattle.refusals.proofs.Laws.{passed, both_accepted, value_refused, AnswerEnds}
+use Rattle.refusals.proofs.Laws.{passed, both_accepted, value_accepted, value_refused, AnswerEnds}
 use Rattle.table.specs.Table.{table_test}
 use Rattle.hash.specs.Hash as rescue
 use Rattle.hash.proofs.Inputs.{hash_tap}
@@ -32,6 +32,22 @@ chain_numbered T w r e =
     let ns = numbers chain in
     subst (AnswerEnds (OneOf ns)) (value_refused (chain_test T w) _ r e)
     (chain_ends (OneOf ns) (table_causes_lem ns refl refl refl) T w (taps_causes ns most_batches w refl refl))
+
+-- the output of one hash or more has four words, whatever it was taken from
+output_size : (T w : List ℕ) (h : ℕ) → 1 ≤ h → length (rescue.output_at T w h) ≡ 4
+unfolding rescue.output_at
+output_size T w zero l = absurd (omega arith)
+output_size T w (suc h) l = (hash_tap T _ _).size
+
+pub chain_size : (T w : List ℕ) (k : ℕ) → 1 ≤ k → length (rescue.chain T w k) ≡ 4
+unfolding rescue.chain
+chain_size T w k some = output_size T w (3 * k) (omega arith)
+
+pub chain_words : (T w d : List ℕ) → chain_answer T w ≡ Ok d → length d ≡ 4
+unfolding chain_answer
+chain_words T w d e =
+    let a = value_accepted (chain_test T w) _ d e in
+    ap length (sym a.1) ∙ chain_size T w (tap_word_batches (length w)) (chain_inputs T w a.0).permitted.low
 
 chain_call_inputs : (T w : List ℕ) (size : ℕ) → chain_call_test T w size ≡ Ok tt
     → ChainInputs T w (tap_word_batches (length w))

@@ -1,6 +1,6 @@
 -- Demand 1 of Edit.
 -- Assumes nothing.
-use mathlib.Core.Path.{◌≡◌, refl, ap, subst, ◌∙◌}
+use mathlib.Core.Path.{◌≡◌, refl, sym, ap, subst, ◌∙◌}
 use mathlib.Core.List.{List, [], ◌∷◌}
 use Prim.Native.Nat.{ℕ}
 use lib.ListN.{length}
@@ -8,16 +8,18 @@ use Rattle.std.specs.Prelude.{Ok, Err}
 use Rattle.numbers.specs.Numbers.{trace_word_batches}
 use Rattle.refusals.specs.Answers.{leaves}
 use Rattle.refusals.specs.declared.Refusal.{Refusal}
-use Rattle.refusals.proofs.Laws.{both_accepted, value_refused, AnswerEnds}
+use Rattle.refusals.proofs.Laws.{both_accepted, value_accepted, value_refused, AnswerEnds}
 use Rattle.hash.specs.Hash as rescue
 use Rattle.trace.specs.Trace.{trace}
 use Rattle.check_trace.specs.Answers.{opening_test}
 use Rattle.check_trace.proofs.Answers.{Opened, opened}
 use Rattle.trace_edit.specs.Answers.{edit_answer, edit_leaves, edit_test, altered_taps}
+use Rattle.trace_edit.proofs.Answers.{edit_inputs}
 use Rattle.call_answers.specs.Calls.{edit_call_test, edit_call, EditCall}
 use Rattle.call_answers.proofs.Theorems as bits
 use Rattle.demands.specs.Demand1.{edit, numbers, call_numbers, OneOf, Answered, EditResult}
 use Rattle.demands.proofs.Demand1.Numbers.{one_of, table_causes_lem, trace_causes}
+use Rattle.demands.proofs.Demand1.Chain.{chain_size}
 use Rattle.demands.proofs.Demand1.Words.{digest_says, output_new, output_old, kept_old}
 use Rattle.call_answers.proofs.Endings.Edit.{edit_ends, edit_call_ends}
 
@@ -35,6 +37,14 @@ pub edit_keeps : (T t claim : List ℕ) (c n : ℕ) (new : List ℕ) (r : Refusa
     → edit_answer T t claim c n new ≡ Err r → edit_leaves T t claim c n new ≡ t
 unfolding edit_answer edit_leaves
 edit_keeps T t claim c n new r e = kept_old _ r (value_refused (edit_test T t claim c n new) _ r e) _ t
+
+pub edit_words : (T t claim : List ℕ) (c n : ℕ) (new d : List ℕ) → edit_answer T t claim c n new ≡ Ok d
+    → length d ≡ 4
+unfolding edit_answer
+edit_words T t claim c n new d e =
+    let a = value_accepted (edit_test T t claim c n new) _ d e in
+    let i = edit_inputs T t claim c n new a.0 in
+    ap length (sym a.1) ∙ chain_size T (rescue.first_taps c (altered_taps T t n new)) c i.0.opening.low
 
 edit_call_inputs : (T t claim : List ℕ) (c n : ℕ) (new : List ℕ) (size : ℕ)
     → edit_call_test T t claim c n new size ≡ Ok tt → Opened T t c (trace_word_batches (length t))

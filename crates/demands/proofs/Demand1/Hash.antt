@@ -1,13 +1,13 @@
 -- Demand 1 of Hash.
 -- Assumes nothing.
-use mathlib.Core.Path.{◌≡◌, refl, ap, subst, ◌∙◌}
+use mathlib.Core.Path.{◌≡◌, refl, sym, ap, subst, ◌∙◌}
 use mathlib.Core.List.{List, [], ◌∷◌}
 use Prim.Native.Nat.{ℕ}
 use lib.ListN.{length}
-use Rattle.std.specs.Prelude.{Err}
+use Rattle.std.specs.Prelude.{Ok, Err}
 use Rattle.refusals.specs.Answers.{Answer, with_value}
 use Rattle.refusals.specs.declared.Refusal.{Refusal}
-use Rattle.refusals.proofs.Laws.{value_refused, AnswerEnds}
+use Rattle.refusals.proofs.Laws.{value_accepted, value_refused, AnswerEnds}
 use Rattle.hash.specs.Hash as rescue
 use Rattle.hash.specs.Answers.{hash_test, hash_answer}
 use Rattle.hash.proofs.States.{final_state_state}
@@ -25,6 +25,11 @@ hash_numbered T words r e =
     let ns = numbers hash in
     subst (AnswerEnds (OneOf ns)) (value_refused (hash_test T words) _ r e)
     (hash_ends (OneOf ns) (table_causes_lem ns refl refl refl) T words (λ i h. one_of 6 ns refl))
+
+pub hash_words : (T words s : List ℕ) → hash_answer T words ≡ Ok s → length s ≡ 12
+unfolding hash_answer
+hash_words T words s e =
+    ap length (sym (value_accepted (hash_test T words) _ s e).1) ∙ (final_state_state T _).size
 
 pub hash_called : (T output output' : List ℕ) (w0 w1 w2 w3 w4 w5 w6 w7 code : ℕ)
     → HandsOver (hash_call T (w0 ∷ w1 ∷ w2 ∷ w3 ∷ w4 ∷ w5 ∷ w6 ∷ w7 ∷ []) (length output)) code output output'

@@ -1,15 +1,16 @@
 -- Demand 1 of Unhash.
 -- Assumes nothing.
-use mathlib.Core.Path.{◌≡◌, refl, ap, subst, ◌∙◌}
+use mathlib.Core.Path.{◌≡◌, refl, sym, ap, subst, ◌∙◌}
 use mathlib.Core.List.{List, [], ◌∷◌}
 use Prim.Native.Nat.{ℕ}
 use lib.ListN.{length}
-use Rattle.std.specs.Prelude.{Err}
+use Rattle.std.specs.Prelude.{Ok, Err}
 use Rattle.refusals.specs.Answers.{Answer, leaves}
 use Rattle.refusals.specs.declared.Refusal.{Refusal}
-use Rattle.refusals.proofs.Laws.{value_refused, AnswerEnds}
+use Rattle.refusals.proofs.Laws.{value_accepted, value_refused, AnswerEnds}
 use Rattle.hash_undo.specs.Unhash.{taps_before}
 use Rattle.hash_undo.specs.Answers.{unhash_test, unhash_answer}
+use Rattle.hash_undo.proofs.Theorems.{taps_size}
 use Rattle.call_answers.specs.Calls.{unhash_call_test, UnhashCall}
 use Rattle.call_answers.proofs.Theorems as bits
 use Rattle.demands.specs.Demand1.{unhash, numbers, call_numbers, OneOf, Answered, UnhashResult}
@@ -23,6 +24,10 @@ unhash_numbered T s r e =
     let ns = numbers unhash in
     subst (AnswerEnds (OneOf ns)) (value_refused (unhash_test T s) _ r e)
     (unhash_ends (OneOf ns) (table_causes_lem ns refl refl refl) T s (λ i h. one_of 6 ns refl) (λ t c. one_of 16 ns refl))
+
+pub unhash_words : (T s p : List ℕ) → unhash_answer T s ≡ Ok p → length p ≡ 8
+unfolding unhash_answer
+unhash_words T s p e = ap length (sym (value_accepted (unhash_test T s) _ p e).1) ∙ taps_size T s
 
 pub unhash_called : (T taps taps' : List ℕ) (s0 s1 s2 s3 s4 s5 s6 s7 s8 s9 s10 s11 code : ℕ)
     → let s = s0 ∷ s1 ∷ s2 ∷ s3 ∷ s4 ∷ s5 ∷ s6 ∷ s7 ∷ s8 ∷ s9 ∷ s10 ∷ s11 ∷ [] in

@@ -4,10 +4,11 @@ use mathlib.Core.Path.{◌≡◌, refl, sym, ap, subst, ◌∙◌}
 use mathlib.Core.List.{List}
 use Prim.Native.Nat.{ℕ}
 use lib.ListN.{length}
-use Rattle.std.specs.Prelude.{Err}
+use Rattle.std.specs.Prelude.{Ok, Err}
 use Rattle.refusals.specs.Answers.{leaves}
 use Rattle.refusals.specs.declared.Refusal.{Refusal}
-use Rattle.refusals.proofs.Laws.{value_refused, AnswerEnds}
+use Rattle.refusals.proofs.Laws.{value_accepted, value_refused, AnswerEnds}
+use Rattle.board_words.proofs.Round.{length_elements}
 use Rattle.board.specs.Board.{unpack_answer, unpack_test, taps_in, claim_in, unpack_leaves}
 use Rattle.call_answers.specs.Calls.{unpack_call_test, unpack_call, UnpackCall}
 use Rattle.call_answers.proofs.Theorems as bits
@@ -28,6 +29,11 @@ pub unpack_keeps : (file old : List ℕ) (r : Refusal) → unpack_answer file (l
     → unpack_leaves file old ≡ old
 unfolding unpack_answer unpack_leaves
 unpack_keeps file old r e = kept_old _ r (value_refused (unpack_test file (length old)) _ r e) _ old
+
+pub unpack_words : (file : List ℕ) (size : ℕ) (d : List ℕ) → unpack_answer file size ≡ Ok d → length d ≡ 4
+unfolding unpack_answer claim_in
+unpack_words file size d e =
+    ap length (sym (value_accepted (unpack_test file size) _ d e).1) ∙ length_elements file 1 4
 
 pub unpack_called : (file taps taps' claim claim' : List ℕ) (code : ℕ) → UnpackCall file code taps taps' claim claim'
     → Answered code (call_numbers unpack) (λ a. unpack_call_test file (length taps) (length claim) ≡ a)

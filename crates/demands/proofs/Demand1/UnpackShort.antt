@@ -4,10 +4,11 @@ use mathlib.Core.Path.{◌≡◌, refl, sym, ap, subst, ◌∙◌}
 use mathlib.Core.List.{List}
 use Prim.Native.Nat.{ℕ}
 use lib.ListN.{length}
-use Rattle.std.specs.Prelude.{Err}
+use Rattle.std.specs.Prelude.{Ok, Err}
 use Rattle.refusals.specs.Answers.{Answer, leaves}
 use Rattle.refusals.specs.declared.Refusal.{Refusal}
-use Rattle.refusals.proofs.Laws.{value_refused, AnswerEnds}
+use Rattle.refusals.proofs.Laws.{value_accepted, value_refused, AnswerEnds}
+use Rattle.board_short_read.proofs.Round.{length_shorts}
 use Rattle.board_short.specs.ShortBoard.{unpack_short_answer, unpack_short_test, short_taps_in, short_claim_in}
 use Rattle.board_short.specs.ShortBoard.{unpack_short_leaves}
 use Rattle.board_short.proofs.Round as short
@@ -30,6 +31,12 @@ pub unpack_short_keeps : (file old : List ℕ) (r : Refusal) → unpack_short_an
     → unpack_short_leaves file old ≡ old
 unfolding unpack_short_answer unpack_short_leaves
 unpack_short_keeps file old r e = kept_old _ r (value_refused (unpack_short_test file (length old)) _ r e) _ old
+
+pub unpack_short_words : (file : List ℕ) (size : ℕ) (d : List ℕ) → unpack_short_answer file size ≡ Ok d
+    → length d ≡ 4
+unfolding unpack_short_answer short_claim_in
+unpack_short_words file size d e =
+    ap length (sym (value_accepted (unpack_short_test file size) _ d e).1) ∙ length_shorts file 1 4
 
 pub unpack_short_called : (file taps taps' claim claim' : List ℕ) (code : ℕ)
     → UnpackShortCall file code taps taps' claim claim'

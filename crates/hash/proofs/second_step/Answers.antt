@@ -1,23 +1,14 @@
 -- `hash::second_step`: the cubes come divided by 2^128, for which M made ready makes up; then the round's second-step
 -- constant is added. What each call hands on is canonical.
 -- Assumes nothing.
-use mathlib.Core.Path.{sym, ap₂, ◌∙◌, subst}
-use native.Mathlib.Omega.{arith}
+use mathlib.Core.Path.{ap₂, ◌∙◌}
 use Rattle.table.proofs.ReadyLaws.{ready_is}
 use Rattle.hash.specs.Hash.{plus, second_step}
-use Rattle.hash.proofs.States.{IsState, second_constant_state}
 use Rattle.hash.proofs.CodeMix.{mixed_cubes}
 use Rattle.hash.proofs.second_step.Goals as goal
 
 pub mix-mixed-requires : goal.mix-mixed-requires
 mix-mixed-requires c = ready_is _ _ c.args.ready.made
-
-pub plus-requires : goal.plus-requires
-plus-requires c =
-    let k =
-    subst IsState (sym c.second_step_constant.ensures)
-    (second_constant_state _ c.args.ready.accepted c.args.round (omega arith)) in
-    (c.mix-mixed.result.canonical, k.size, k.canonical)
 
 pub returns : goal.returns
 unfolding second_step
@@ -26,4 +17,4 @@ returns c =
     c.plus.ensures
     ∙ ap₂ plus
     (mixed_cubes _ _ _ _ a.ready.made c.mix-mixed.ensures a.s c.montgomery_cubes.ensures)
-    c.second_step_constant.ensures
+    c.second_step_constant.ensures.0

@@ -1,7 +1,7 @@
 -- `hash_undo::unhash`: cells that pass the tests of Hash are a state, whose input is found; the answer is its two taps,
 -- or 16 where it does not end in zeros; else it is the tests' refusal.
 -- Assumes nothing.
-use mathlib.Core.Path.{◌≡◌, sym, ap₂, ◌∙◌, subst}
+use mathlib.Core.Path.{◌≡◌, sym, ap₂, ◌∙◌}
 use mathlib.Core.List.{List}
 use Prim.Native.Nat.{ℕ}
 use borrow.Author.Rules.{rules}
@@ -10,7 +10,7 @@ use Rattle.std.proofs.lemmas.Result.{err_from_is_err_and}
 use Rattle.field_words.specs.Words.{AllCanonical}
 use Rattle.table.specs.Table.{initial_constant}
 use Rattle.table.proofs.Theorems.{left_size}
-use Rattle.hash.proofs.States.{IsState, state_cell, initial_state}
+use Rattle.hash.proofs.States.{IsState, state_cell}
 use Rattle.hash.proofs.CodeStates.{canonical_state}
 use Rattle.hash.proofs.Answers.{hash_inputs}
 use Rattle.check_constraints.specs.Constraints.{minus}
@@ -53,20 +53,17 @@ pub minus-input-requires : goal.minus-input-requires
 minus-input-requires c =
     let i = hash_inputs _ _ (sym c.test_hash.ensures.0 ∙ c.in_ok-test_hash.was) in
     let twelve : length c.args.cells ≡ 12 = search rules in
-    let constant = subst IsState (sym c.initial_constant.ensures) (initial_state _ i.table) in (
-      canonical_state c.undo_rounds-state.ensures (rounds_undone_state _ 10 (given _ twelve i.canonical)),
-      constant.size,
-      constant.canonical,
-    )
+    let state = canonical_state c.undo_rounds-state.ensures (rounds_undone_state _ 10 (given _ twelve i.canonical)) in
+    (state, c.initial_constant.ensures.1, c.initial_constant.ensures.2)
 
 pub returns-then-not-ends_in_zeros : goal.returns-then-not-ends_in_zeros
 returns-then-not-ends_in_zeros c =
     unhash_none _ _ c.test_hash.ensures.0 c.in_ok-test_hash.was
-    (input-is _ _ c.minus-input.ensures.0 c.initial_constant.ensures c.undo_rounds-state.ensures)
+    (input-is _ _ c.minus-input.ensures.0 c.initial_constant.ensures.0 c.undo_rounds-state.ensures)
     (sym c.ends_in_zeros.ensures ∙ c.if-not-ends_in_zeros.true)
 
 pub returns : goal.returns
 returns c =
     unhash_found _ _ c.test_hash.ensures.0 c.in_ok-test_hash.was
-    (input-is _ _ c.minus-input.ensures.0 c.initial_constant.ensures c.undo_rounds-state.ensures)
+    (input-is _ _ c.minus-input.ensures.0 c.initial_constant.ensures.0 c.undo_rounds-state.ensures)
     (sym c.ends_in_zeros.ensures ∙ c.if-not-ends_in_zeros.false)

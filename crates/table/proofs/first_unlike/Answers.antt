@@ -31,7 +31,8 @@ pub returns-in-Some : goal.returns-in-Some
 returns-in-Some c =
     let made = product_is _ _ c.product_columns-product.ensures c.inverse.ensures in
     let k = c.in-Some.ensures in (
-      row_stops _ _ _ c.requires.2 made c.loop-row.row (omega arith) c.loop-row.invariant _ k.0 k.1,
+      row_stops _ _ _ c.requires.2 made c.loop-row.row (omega arith) c.loop-row.invariant _ k.0
+          (λ e. omega (arith, k.1)),
       omega (arith, k.1),
     )
 

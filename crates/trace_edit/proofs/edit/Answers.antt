@@ -114,7 +114,7 @@ returns c =
     c.in_ok-test_opening.was c.test_edit.ensures c.in_ok-test_edit.was in
     let e = c.rewrite.ensures in (
       value_returned refl p.passes
-          (output_shown _ _ _ _ _ p.rewrites (search rules) _ p.low p.high _ c.row.ensures _ e _ (search rules)
+          (output_shown _ _ _ _ _ p.rewrites (search rules) _ p.low p.high _ c.row.ensures _ e _
           c.cells-row.ensures.0),
       leaves_new refl _ p.passes e,
     )
